@@ -6,7 +6,7 @@ import tempfile
 
 SIZE = "1000,4000"
 
-# The words for each browser, with the folder of a profile.
+# The arguments for each browser, with a place for the folder of a profile.
 BROWSERS = {
     "chromium": ["--headless", "--no-sandbox", "--user-data-dir={}", "--virtual-time-budget=20000"],
     "firefox": ["--headless", "--no-remote", "--profile={}"],
@@ -18,7 +18,7 @@ def installed():
 
 
 def take_picture(address, picture, browser="chromium"):
-    """Draws the page at an address to a picture, whose path is whole."""
+    """Takes a picture of the page at an address. The path of the picture is absolute."""
     with tempfile.TemporaryDirectory(ignore_cleanup_errors=True) as name:
         words = [word.format(pathlib.Path(name, "profile")) for word in BROWSERS[browser]]
         pathlib.Path(name, "profile").mkdir()

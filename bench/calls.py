@@ -1,8 +1,8 @@
 #!/usr/bin/env python3
-"""Measures how many formulas per processor second are converted by calls of the library for C, from C, Python and
-Node, and by a process of the program for each; and, where its folder is given, by calls of the Rust crate from Rust. The
-second table has the instructions of one call, which do not depend on how busy the machine is. `--renew` counts only these,
-from C, and writes them to calls.txt. It builds what it needs with cc, and the crate with cargo."""
+"""Measures how many formulas per processor second are converted by calls to the library for C from C, Python and Node, by a
+process of the program for each and, if the folder of the Rust crate is given, by calls to the crate from Rust. The second
+table has the instructions of one call, which do not depend on how busy the machine is. `--renew` counts only these, from C,
+and writes them to calls.txt. It builds what it needs with cc, and the crate with cargo."""
 import argparse
 import importlib.util
 import os
@@ -17,7 +17,7 @@ sys.path += [str(HOUSE), str(HOUSE / "diff")]
 import rust_crate  # noqa: E402
 from tests.instructions import instructions  # noqa: E402
 
-# The instructions of one call from C of each formula, as last counted by `--renew`. `tests/test_instructions.py` compares the
+# The instructions of one call from C for each formula, as last counted by `--renew`. `tests/test_instructions.py` compares the
 # library with them.
 FIGURES = HOUSE / "bench/calls.txt"
 
@@ -41,7 +41,7 @@ for (const latex of process.argv.slice(2)) {
 
 
 def processor():
-    """The processor seconds that this process and its children took."""
+    """Returns the processor seconds that this process and its children took."""
     return sum(os.times()[:4])
 
 
@@ -72,25 +72,25 @@ def make_library(folder):
 
 
 def build(library, to):
-    """Builds the caller in C, `calls.c`, with the library for C of a folder."""
+    """Builds `calls.c`, the caller in C, with the library for C in a folder."""
     subprocess.run(["cc", "-O2", "-I", library, HOUSE / "bench/calls.c", library / "liblatex2mathml.a", "-o", to], check=True)
     return to
 
 
 def a_call(program, latex):
-    """The instructions of one call, of a program that repeats them."""
+    """Returns the instructions of one call, from a program that repeats it."""
     few, many = (instructions([program, "repeat", str(calls), latex]) for calls in (100, 1100))
     return (many - few) / 1000
 
 
 def figures():
-    """The instructions of one call from C of each formula, as they stand in the file."""
+    """Returns the instructions of one call from C for each formula, as the file has them."""
     lines = [line.split(maxsplit=1) for line in FIGURES.read_text(encoding="utf-8").splitlines()]
     return {latex: int(count.replace(",", "")) for count, latex in lines}
 
 
 def renew():
-    """Counts the instructions of one call from C of each formula, and writes the file."""
+    """Counts the instructions of one call from C for each formula, and writes the file."""
     with tempfile.TemporaryDirectory() as scratch:
         program = build(make_library(pathlib.Path(scratch, "c")), pathlib.Path(scratch, "calls"))
         counts = [(a_call(program, latex), latex) for latex in FORMULAS]

@@ -67,7 +67,7 @@ class Tools:
         return pathlib.Path(done.stdout.strip())
 
     def python(self):
-        """The Python of an environment in which the wheel is installed, beside what the system has."""
+        """Returns the Python of an environment in which the wheel is installed, in addition to what the system has."""
         environment = self.folder / "python"
         if not environment.exists():
             library, wheels = self.folder / "c", self.folder / "wheels"
@@ -104,7 +104,7 @@ markdown.markdownFromFile(
 
 
 def sphinx(renderer, extension):
-    """Builds a project whose one page is the source."""
+    """Builds a project whose only page is the source."""
     def command(tools, source, page):
         project = tools.folder / renderer
         project.mkdir()
@@ -141,7 +141,7 @@ ENTRIES = [
 
 
 def source_of(count):
-    """A document with this many formulas, no two of them the same."""
+    """Returns a document with this many formulas, no two of them the same."""
     return "".join(f"Formula {i} is ${FORMULAS[i % len(FORMULAS)]} + x_{{{i}}}$ here.\n\n" for i in range(count))
 
 
@@ -150,7 +150,7 @@ def is_there(need):
 
 
 def measure(command, times):
-    """The least wall-clock seconds, and the least processor seconds, that the command takes."""
+    """Returns the least wall-clock seconds and the least processor seconds that the command takes."""
     environment = {**os.environ, "NODE_PATH": str(NODE_PACKAGES)}
     runs = []
     for _ in range(times):

@@ -22,8 +22,8 @@ TABLES = {
 
 
 def measured(command, given):
-    """The status of a command, its processor seconds and its peak memory in megabytes: the least of some runs, since other work
-    only adds time. GNU time starts it, because it is small: a child of this script would be counted with the script's memory."""
+    """Returns the status of a command, its processor seconds and its peak memory in megabytes: the least of a few runs, since
+    other work only adds time. GNU time starts it, because it is small: a child of this script would be counted with its memory."""
     found = []
     for _ in range(TIMES):
         done = subprocess.run(["time", "-q", "-f", "%U %S %M", *command], input=given, stdout=subprocess.DEVNULL, stderr=subprocess.PIPE)
@@ -33,7 +33,7 @@ def measured(command, given):
 
 
 def show(name, size, command, given):
-    """One line of the table in README.md."""
+    """Prints one line of the table in README.md."""
     status, seconds, memory = measured(command, given)
     count = instructions(command, stdin=given, timeout=600, status=status)
     print(f"| {name} | {size:,} | {count / MEGABYTE:,.0f} million | {seconds:.2f} | {memory:,.0f} MB |", flush=True)

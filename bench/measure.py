@@ -31,7 +31,7 @@ class Measure:
 
 
 def run(command, path):
-    """Runs a command over a file, without keeping its output. GNU time starts it, because it is small: a child of this
+    """Runs a command over a file, without keeping its output. GNU time starts it because it is small: a child of this
     script would be counted with the script's memory."""
     with open(path, "rb") as text:
         ended = subprocess.run(["time", "-q", "-f", "%U %S %M", *command], stdin=text, stdout=subprocess.DEVNULL,
@@ -41,23 +41,23 @@ def run(command, path):
 
 
 def least(command, path, times):
-    """The least of several runs, because other work of the machine only adds time."""
+    """Returns the least of several runs, because other work on the machine only adds time."""
     measures = [run(command, path) for _ in range(times)]
     return Measure(min(one.seconds for one in measures), min(one.memory for one in measures))
 
 
 def count_instructions(command, word, text):
-    """The instructions of a run of the program, or of the crate's driver, over a workload."""
+    """Returns the instructions of a run of the program, or of the crate's driver, over a workload."""
     return instructions([*command, word], text(COUNTED).encode())
 
 
 def count_tex(command, text):
-    """The instructions of a run of `tex2mathml` over a workload."""
+    """Returns the instructions of a run of `tex2mathml` over a workload."""
     return instructions([command], text(COUNTED).encode())
 
 
 def figures():
-    """The instructions of each workload, by its name, as they stand in the file."""
+    """Returns the instructions of each workload, by its name, as the file has them."""
     lines = [line.split(maxsplit=1) for line in FIGURES.read_text(encoding="utf-8").splitlines()]
     return {name: int(count.replace(",", "")) for count, name in lines}
 
@@ -75,7 +75,7 @@ def ratio(ours, theirs):
 
 
 def show_times(name, commands, path, times):
-    """One line: seconds, megabytes a second and memory of the program, and of the crate with the ratios."""
+    """Prints one line: seconds, megabytes per second and memory of the program, and of the crate with the ratios."""
     size = path.stat().st_size / MEGABYTE
     measures = [least(command, path, times) for command in commands]
     columns = [f"{one.seconds:8.2f} s {size / max(one.seconds, 0.01):8.1f} MB/s {one.memory:8.0f} MB"
@@ -87,7 +87,7 @@ def show_times(name, commands, path, times):
 
 
 def show_instructions(word, name, text, programs):
-    """One line: instructions of the program, also a byte of the text, and of the crate with the ratio."""
+    """Prints one line: instructions of the program, in total and per byte of the text, and those of the crate with the ratio."""
     size = len(text(COUNTED).encode())
     counts = [count_instructions([one], word, text) for one in programs]
     columns = [f"{count:14,} {count / size:8.0f} a byte" for count in counts]

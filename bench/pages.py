@@ -83,7 +83,7 @@ WAYS = [
 
 
 class ListingHandler(http.server.SimpleHTTPRequestHandler):
-    """Serves a folder, and lists the scripts, style sheets and fonts that are asked for, in whatever thread."""
+    """Serves a folder, and lists the scripts, style sheets and fonts that are requested, in any thread."""
 
     asked = set()
 
@@ -94,11 +94,11 @@ class ListingHandler(http.server.SimpleHTTPRequestHandler):
         return super().send_head()
 
     def log_message(self, *words):
-        """Nothing: the lines of the script are its output."""
+        """Prints nothing: the script's output is its own lines."""
 
 
 def draw(site, picture, browser="chromium"):
-    """Draws the page of a site to a picture, and returns the bytes of what the browser asked for."""
+    """Takes a picture of the page of a site, and returns the bytes of what the browser requested."""
     ListingHandler.asked.clear()
     with http.server.ThreadingHTTPServer(("127.0.0.1", 0), functools.partial(ListingHandler, directory=site)) as server:
         threading.Thread(target=server.serve_forever, daemon=True).start()

@@ -24,7 +24,7 @@ KATEX = Path("/usr/share/nodejs/katex")
 
 @dataclasses.dataclass
 class Entry:
-    """A way to build the page: its name, the words for pandoc, and the scripts and style sheets of the page."""
+    """A way to build the page: its name, the arguments for pandoc, and the scripts and style sheets of the page."""
 
     name: str
     words: list
@@ -43,18 +43,18 @@ def entries(program):
 
 
 def chosen(formulas, count):
-    """So many of the formulas, at even distances."""
+    """Returns this many of the formulas, evenly spaced."""
     return [formulas[i * len(formulas) // count] for i in range(count)]
 
 
 def source_of(formulas):
-    """A document with a paragraph for each formula."""
+    """Returns a document with a paragraph for each formula."""
     fences = {True: "$$", False: "$"}
     return "".join(f"Formula {i}: {fences[is_block]}{latex}{fences[is_block]}\n\n" for i, (latex, is_block) in enumerate(formulas, 1))
 
 
 def seconds(command, times):
-    """The least seconds that the command takes."""
+    """Returns the least seconds that the command takes."""
     runs = []
     for _ in range(times):
         start = time.monotonic()
@@ -64,13 +64,13 @@ def seconds(command, times):
 
 
 def katex_answers(formulas):
-    """What KaTeX makes of each formula, or None where it reads none."""
+    """Returns what KaTeX makes of each formula, or None if it cannot read it."""
     done = subprocess.run(["node", HOUSE / "diff/katex.js", KATEX], input=json.dumps(formulas), stdout=subprocess.PIPE, text=True, check=True)
     return json.loads(done.stdout)
 
 
 def page_answers(page):
-    """The markup of each formula of a page, or None where it has none."""
+    """Returns the markup of each formula of a page, or None if it has none."""
     paragraphs = page.split("<p>Formula ")[1:]
     return [(re.findall(r"<math.*?</math>", it, re.S) or [None])[0] for it in paragraphs]
 
@@ -83,7 +83,7 @@ def structure_of(markup):
 
 
 def take_pictures(page, name, folder):
-    """Draws a page to a picture in each browser that is installed."""
+    """Takes a picture of a page in each browser that is installed."""
     folder.mkdir(exist_ok=True)
     for browser in browsers.installed():
         browsers.take_picture(page.resolve().as_uri(), folder.resolve() / f"{name}.{browser}.png", browser)

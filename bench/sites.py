@@ -16,8 +16,8 @@ import time
 
 HERE = pathlib.Path(__file__).resolve().parent
 
-# KaTeX for each formula between \( and \), or \[ and \], of the pages that are named on standard input. It is given what the page
-# has there, without the references of HTML, and finds formulas by the same signs. So it parses no HTML, which is less work.
+# KaTeX for each formula between \( and \), or \[ and \], of the pages that are named on standard input. It gets what the page has
+# there, without HTML's references, and finds formulas by the same delimiters. So it parses no HTML, which is less work.
 KATEX = r"""
 const fs = require('fs');
 const katex = require('katex');
@@ -43,7 +43,7 @@ console.log(JSON.stringify({ formulas, refused, bytes }));
 """
 
 
-# The same by KaTeX's own search for formulas, `auto-render`, over jsdom, which parses each page and writes it anew.
+# The same with KaTeX's own search for formulas, `auto-render`, over jsdom, which parses each page and writes it again.
 AUTO_RENDER = r"""
 const fs = require('fs');
 const { JSDOM } = require('jsdom');
@@ -68,7 +68,7 @@ console.log(JSON.stringify({ formulas, refused, bytes }));
 
 
 def pages_of(folder, count):
-    """The pages with the most formulas first to be counted, so that those without any are as few as the number allows."""
+    """Returns the pages, those with formulas first, so that as few as the number allows have none."""
     found = sorted(pathlib.Path(folder).rglob("*.html"))
     with_formulas = [it for it in found if re.search(rb"\\[(\[]", it.read_bytes())]
     others = [it for it in found if it not in set(with_formulas)]
@@ -83,7 +83,7 @@ def copied(pages, folder, to):
 
 
 def measured(words, **more):
-    """The wall seconds, the processor seconds and the output of a command."""
+    """Returns the wall-clock seconds, the processor seconds and the output of a command."""
     before, begun = resource.getrusage(resource.RUSAGE_CHILDREN), time.perf_counter()
     done = subprocess.run(words, check=True, stdout=subprocess.PIPE, **more)
     wall, after = time.perf_counter() - begun, resource.getrusage(resource.RUSAGE_CHILDREN)
@@ -98,8 +98,8 @@ MARKUP = re.compile(r"<math .*?</math>|<code class=\"latex2mathml-refused\".*?</
 
 
 def changes_outside(pages, folder, to):
-    """The pages that differ elsewhere than in their formulas: what stands between the formulas that were made is to be what stood there,
-    one after another, with nothing but a formula between."""
+    """Returns the pages that differ outside their formulas: the texts between the converted formulas must be the texts that were
+    there, in the same order, with nothing but a formula between them. Pages that had markup before are passed over."""
     differing = []
     for page in pages:
         before, after = page.read_bytes().decode(), (to / page.relative_to(folder)).read_bytes().decode()
@@ -144,7 +144,7 @@ def main():
 
 
 def measure_node(name, script, output, times, source, made):
-    """Measures a script over copies of the pages, and says what it found."""
+    """Measures a script over copies of the pages, and prints what it found."""
     runs = []
     for _ in range(times):
         shutil.rmtree(made, ignore_errors=True)

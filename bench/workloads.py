@@ -1,4 +1,4 @@
-"""The texts that are measured. The same size gives the same text."""
+"""The texts that are measured. The same size always gives the same text."""
 
 import random
 import sys
@@ -14,13 +14,13 @@ REPEATED = ["x+1", "\\alpha ", "{a_b^c}"]
 
 
 def formulas(heading=None):
-    """The formulas that people write, below a heading or all of them."""
+    """Returns the formulas that people write: those under a heading, or all of them."""
     every = cases.read("formulas/everyday.txt")
     return [case.input.decode() for case in every if heading in (None, case.heading)]
 
 
 def join(size, next_piece):
-    """Pieces of a text, by their numbers, up to about this many bytes."""
+    """Joins pieces of a text, which are made from their numbers, up to about this many bytes."""
     pieces, length = [], 0
     while length < size:
         piece = next_piece(len(pieces) + 1)
@@ -30,7 +30,7 @@ def join(size, next_piece):
 
 
 def prose(size):
-    """Prose alone."""
+    """Returns only prose."""
     choice = random.Random(SEED)
     return join(size, lambda place: words(choice) + ". ")
 
@@ -40,7 +40,7 @@ def words(choice):
 
 
 def document(size):
-    """Prose and formulas in turn. Every fifth formula is in a block."""
+    """Returns prose and formulas in turn. Every fifth formula is in a block."""
     choice = random.Random(SEED)
     every = formulas("In the benchmarks")
 
@@ -51,27 +51,27 @@ def document(size):
 
 
 def real_formulas(size):
-    """The formulas that people write, one after another, with a word before each."""
+    """Returns the formulas that people write, one after another, with a word before each."""
     every = formulas()
     return join(size, lambda place: f"{WORDS[place % len(WORDS)]} ${every[place % len(every)]}$ ")
 
 
 def repeat(formula, size):
-    """One formula that repeats another one, up to about this many bytes."""
+    """Returns one formula that repeats another one, up to about this many bytes."""
     return formula * (size // len(formula.encode()))
 
 
 def workloads():
-    """What is measured: the program's argument, a name, and a function from a size to the text."""
+    """Returns what is measured: the program's argument, a name, and a function from a size to the text."""
     documents = [("prose", prose), ("prose and formulas", document), ("real formulas", real_formulas)]
     return [("document", name, text) for name, text in documents] + [("inline", *load) for load in repeated()]
 
 
 def repeated():
-    """Formulas that repeat another one: its text as a name, and a function from a size to the formula."""
+    """Returns formulas that repeat another one: its text as a name, and a function from a size to the formula."""
     return [(formula, lambda size, formula=formula: repeat(formula, size)) for formula in REPEATED]
 
 
 def tex_workloads():
-    """What is counted of `tex2mathml`: the same formulas."""
+    """Returns what is counted for `tex2mathml`: the same formulas."""
     return [(f"tex2mathml {formula}", text) for formula, text in repeated()]

@@ -22,8 +22,8 @@ KINDS = {"o": "set", "r": "refused", "p": "refused, where the crate panics"}
 
 @dataclass
 class Trial:
-    """A text for the program with the program's argument, the text that the crate got in its place, and the crate's answer.
-    If the crate panics, the refusals are those that name a token behind a `\\middle` of the text."""
+    """A text for the program with the program's argument, the text that the crate got instead, and the crate's answer.
+    If the crate panics, the refusals are those that name a token after a `\\middle` in the text."""
     word: str
     text: str
     handed: str
@@ -34,8 +34,8 @@ class Trial:
 
     @cached_property
     def right_answers(self):
-        """The answers that the program may give: one, unless the crate panics. The markup of a formula is followed by a line
-        feed, and the text of a document by nothing."""
+        """Returns the answers that the program may give: one, unless the crate panics. A line feed follows the markup of a
+        formula, and nothing follows the text of a document."""
         if self.kind == "o":
             end = "" if self.word == "document" else "\n"
             return [program.Answer(0, self.from_crate(normal.markup(self.said)) + end, "")]
@@ -61,7 +61,7 @@ class Crate:
         self.driver = driver
 
     def trials(self, word, texts):
-        """The crate's answer to each text."""
+        """Returns the crate's answer to each text."""
         hand = normal.document_for_crate if word == "document" else normal.for_crate
         trials = [Trial(word, text, hand(text)) for text in texts]
         answers = rust_crate.answers(self.driver, [(word, trial.handed) for trial in trials])
@@ -74,7 +74,7 @@ class Crate:
         return trials
 
     def framed_otherwise(self, trial):
-        """Why a document cannot be compared because of its dollar signs, or None."""
+        """Returns why a document cannot be compared because of its dollar signs, or None."""
         if normal.has_escaped_sign(trial.text):
             return "a formula that holds \\$, where the crate ends it"
         framed = normal.formulas_of(trial.handed)
@@ -88,8 +88,8 @@ class Crate:
         return None
 
     def refusals_of_middle(self, trial):
-        """The refusals that may stand in place of a panic of the crate. It gets the text without added braces, because they
-        would hide the token behind a `\\middle`."""
+        """Returns the refusals that may replace a panic of the crate. The crate gets the text without added braces, because
+        they would hide the token after a `\\middle`."""
         formulas = [(trial.word, normal.with_stand_in(trial.text))]
         if trial.word == "document":
             formulas = [("inline", normal.with_stand_in("".join(units))) for units in normal.parts(trial.text)[2::4]]
@@ -106,12 +106,12 @@ class Program:
         self.has_documents = program.knows(self.path, "document")
 
     def each(self, trials):
-        """The answer to each text by itself."""
+        """Returns the answer to each text by itself."""
         return self.pool.map(lambda trial: program.ask(self.path, trial.word, trial.text), trials)
 
     def together(self, trials):
-        """The answers to formulas that have to be converted: many are given to the program as one document. If its
-        answer is not the expected one, its formulas are given one by one."""
+        """Yields the answers to formulas that have to be converted: many are given to the program as one document. If its
+        answer to a document is not the expected one, the formulas of the document are given one by one."""
         size = FORMULAS_IN_A_DOCUMENT
         groups = [trials[start:start + size] for start in range(0, len(trials), size)]
         documents = [Trial("document", "".join(f"${trial.text}$\n" for trial in group), "") for group in groups]
@@ -159,7 +159,7 @@ class Comparison:
               f"  the crate  {KINDS[trial.kind]}: {trial.said!r}\n  that is    {that_is}\n  here       {answer}")
 
     def shorten(self, text):
-        """The text without the pieces that the wrong answer does not need."""
+        """Returns the text without the pieces that the wrong answer does not need."""
         before = None
         while text != before:
             before, size = text, len(text) // 2
@@ -180,7 +180,7 @@ class Comparison:
         return text
 
     def ask(self, text):
-        """The answers of the crate and of the program to one text."""
+        """Returns the answers of the crate and of the program to one text."""
         (trial,) = self.crate.trials(self.word, [text])
         (answer,) = self.ours.each([trial])
         return trial, answer

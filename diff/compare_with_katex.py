@@ -19,7 +19,7 @@ KATEX = "/usr/share/nodejs/katex"
 
 
 def answers_of_program(command, formulas):
-    """The markup of each formula, or None where the program refuses it or marks a part as wrong."""
+    """Returns the markup of each formula, or None if the program refuses it or marks a part as wrong."""
     def ask(formula, is_block):
         words = shlex.split(command.replace("{display}", "block" if is_block else "inline"))
         run = subprocess.run(words, input=formula.encode(), stdout=subprocess.PIPE, stderr=subprocess.DEVNULL)
@@ -38,7 +38,7 @@ def answers_of_katex(folder, formulas):
 
 
 def answers_of_pandoc(formulas):
-    """pandoc gets one document with a paragraph for each formula. One that it does not read stays TeX, in a `span`."""
+    """Gives pandoc one document with a paragraph for each formula. A formula that it does not read stays TeX, in a `span`."""
     document = json.loads(subprocess.run(["pandoc", "-t", "json"], input="", stdout=subprocess.PIPE, text=True, check=True).stdout)
     document["blocks"] = [{"t": "Para", "c": [{"t": "Math", "c": [{"t": "DisplayMath" if is_block else "InlineMath"}, formula]}]}
                           for formula, is_block in formulas]
@@ -61,7 +61,7 @@ def share(part, whole):
 
 
 def compare(formulas, ours, theirs, name, show):
-    """Prints how many of the formulas that the other program reads ours draws, and how many of these as the other one reads them."""
+    """Prints how many of the formulas that the other program reads our program draws, and how many as the other one reads them."""
     rows = [(formula, *map(structure_of, pair)) for (formula, _), *pair in zip(formulas, ours, theirs)]
     read = [it for it in rows if it[2] is not None]
     drawn = [it for it in read if it[1] is not None]

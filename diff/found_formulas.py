@@ -1,4 +1,4 @@
-"""Formulas that people wrote: those in the documentation of Python packages, as Sphinx hands them on."""
+"""Formulas that people wrote: those in the documentation of Python packages, as Sphinx passes them on."""
 import ast
 import re
 import textwrap
@@ -11,12 +11,12 @@ OPTION = re.compile(r"^:[a-z]+:")
 
 
 def formulas(folder):
-    """Each formula of the Python files below a folder once, with whether it is a block, in the order of the files."""
+    """Returns each formula of the Python files under a folder once, and whether it is a block, in the order of the files."""
     return list(dict.fromkeys(it for file in sorted(Path(folder).rglob("*.py")) for text in texts(file) for it in formulas_of(text)))
 
 
 def texts(file):
-    """The texts of a Python file. One that this Python cannot read has none."""
+    """Returns the texts of a Python file. A file that this Python cannot read has none."""
     source = file.read_text(encoding="utf-8", errors="replace")
     if ":math:" not in source and ".. math::" not in source:
         return []
@@ -38,8 +38,8 @@ def formulas_of(text):
 
 
 def blocks(first, rest, indent):
-    """The formulas of a directive: what stands behind it and the lines below that are indented further, parted by blank lines. Sphinx
-    sets one with several lines in `split`."""
+    """Yields the formulas of a directive: what follows it and the lines below that are indented further, separated by blank lines.
+    Sphinx sets a formula with several rows in `split`."""
     lines = [first.strip()]
     for line in rest.split("\n")[1:]:
         if line.strip() and len(line) - len(line.lstrip()) <= indent:

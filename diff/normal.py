@@ -1,8 +1,8 @@
 """Converts the crate's answers to this repository's form, by what docs/DIFFERENCES.md lists and by nothing else.
 
-Only the crate's side is changed, its input and its answer, so the program's answer is compared byte by
-byte. Each difference is one function, and its comment says which one it is. Two of the list need none, since no formula
-shows them: `thick` and the quotes of `columnalign="right"` are printed of nodes that only a caller makes."""
+Only the crate's side is changed, its input and its answer, so the program's answer is compared byte by byte. Each difference
+is one function, whose comment says which one it is. Two differences of the list need no function, since no formula shows
+them: `thick` and the quotes of `columnalign="right"` are printed for nodes that only a caller makes."""
 
 import re
 from dataclasses import dataclass
@@ -10,8 +10,8 @@ from decimal import Decimal
 
 import operands
 
-# What the crate prints between its tags is one character, or holds no `<` that a name or a `/` follows. So these are
-# all tags.
+# What the crate prints between its tags is one character, or contains no `<` that is followed by a name or a `/`. So all of
+# these are tags.
 TAG = re.compile(
     r"</?(?:math|mrow|mi|mn|mo|mro|mtext|mspace|msub|msup|msubsup|mover|munder|munderover|msqrt|mroot|mfrac|mstyle"
     r"|mtable|mtr|mtd)(?: [a-z]+=[^<>]*)?>")
@@ -24,7 +24,7 @@ DERIVED_ESCAPE = re.compile(r"\\(?:u\{([0-9a-f]+)\}|(.))", re.S)
 
 @dataclass
 class Element:
-    """One element: its tags as they are printed, and its contents, elements and texts."""
+    """One element: its tags as they are printed, and its contents, which are elements and texts."""
     start: str
     end: str
     inside: list
@@ -34,7 +34,7 @@ class Element:
 
 
 def tree(markup):
-    """The one element that the markup is."""
+    """Returns the one element that the markup consists of."""
     whole = Element("", "", [])
     open_elements = [whole]
     place = 0
@@ -55,7 +55,7 @@ def tree(markup):
 
 
 def print_of(part):
-    """The print of an element or a text."""
+    """Returns the print of an element or a text."""
     if isinstance(part, str):
         return part
     return part.start + "".join(map(print_of, part.inside)) + part.end
@@ -64,13 +64,13 @@ def print_of(part):
 # Texts
 
 def with_named_brackets(text):
-    """`\\langle` and `\\rangle` hold named references there, and the characters here."""
+    """`\\langle` and `\\rangle` contain named references in the crate, and the characters here."""
     return text.replace("&lang;", "\u27e8").replace("&rang;", "\u27e9")
 
 
 def with_references(text):
-    """Texts and characters print as they are there. Here `&`, `<`, `>` and `$` print as references. The stroke through
-    what is slashed is a reference of the print's own, on both sides."""
+    """The crate prints texts and characters as they are. Here `&`, `<`, `>` and `$` print as references. The stroke through
+    what is slashed is a reference that the print itself adds, on both sides."""
     stroke = "&#x0338;"
     content, slashed = (text[:-len(stroke)], stroke) if text.endswith(stroke) else (text, "")
     references = {"&": "&amp;", "<": "&lt;", ">": "&gt;", "$": "&#x24;"}
@@ -78,19 +78,19 @@ def with_references(text):
 
 
 def plain(derived):
-    """The contents of a derived debug text in quotation marks or apostrophes."""
+    """Returns the contents of a derived debug text in quotation marks or apostrophes."""
     short = {"n": "\n", "r": "\r", "t": "\t", "0": "\0"}
     return DERIVED_ESCAPE.sub(lambda found: chr(int(found[1], 16)) if found[1] else short.get(found[2], found[2]),
                               derived[1:-1])
 
 
 def quotation(text, mark):
-    """A text in quotation marks, or a character in apostrophes, as the language's token texts have it."""
+    """Returns a text in quotation marks, or a character in apostrophes, as in the language's token texts."""
     return mark + re.sub(rf"[{mark}\\]", r"\\\g<0>", text) + mark
 
 
 def token_text(derived):
-    """Marked errors and refusals have derived debug texts there, which also escape control, unprintable and some
+    """Marked errors and refusals have derived debug texts in the crate, which also escape control, unprintable and some
     combining characters. Here only the mark itself and backslashes are escaped."""
     if derived.startswith("Space("):
         return space_token(derived)
@@ -99,18 +99,18 @@ def token_text(derived):
 
 
 def space_token(derived):
-    """A space holds a float of ems there, and a whole number of eighteenths of an em here."""
+    """A space contains a float of ems in the crate, and a whole number of eighteenths of an em here."""
     return f"Space({round(Decimal(derived[len('Space('):-1]) * 18)})"
 
 
 def lone_backslash(text):
-    """A backslash that ends the text is the command named NUL there, and the command whose name is empty here. No
-    formula that is compared holds a NUL."""
+    """A backslash that ends the text is the command named NUL in the crate, and the command whose name is empty here. No
+    formula that is compared contains a NUL."""
     return text.replace('Command("\0")', 'Command("")')
 
 
 def marked_error(text):
-    """The token text of a marked error, in its quotation marks."""
+    """Returns the token text of a marked error, in its quotation marks."""
     found = re.fullmatch(rf"\[PARSE ERROR: Undefined\(({QUOTED})\)\]", text, re.S)
     if not found:
         return text
@@ -120,21 +120,21 @@ def marked_error(text):
 # Elements
 
 def with_quoted_alignment(element):
-    """`columnalign=left` has no quotes there."""
+    """`columnalign=left` has no quotes in the crate."""
     if element.is_a("mtable"):
         element.start = re.sub(r"columnalign=(left|right)", r'columnalign="\1"', element.start)
     return element
 
 
 def with_matching_end(element):
-    """A parenthesis with a size ends in `</mro>` there, and in `</mo>` here."""
+    """A parenthesis with a size ends in `</mro>` in the crate, and in `</mo>` here."""
     if element.end == "</mro>":
         element.end = "</mo>"
     return element
 
 
 def with_rounded_width(element):
-    """The width of a space prints as its float there, and rounded to the nearest thousandth here."""
+    """The width of a space prints as its float in the crate, and rounded to the nearest thousandth here."""
     if element.is_a("mspace"):
         element.start = re.sub(r'(?<=width=")[-.0-9]+(?=em")', round_width, element.start)
     return element
@@ -146,8 +146,8 @@ def round_width(width):
 
 
 def with_operator_as_base(element):
-    """A big operator with an upper limit alone is the accent over its limit there. Here it is the base, and the limit
-    stands above it. The crate makes no other accent `false`."""
+    """A big operator with only an upper limit is the accent over its limit in the crate. Here it is the base, and the limit
+    is above it. The crate makes no other accent `false`."""
     if element.is_a("mover") and element.inside[1].start == '<mo accent="false">':
         limit, operator = element.inside
         operator.start = "<mo>"
@@ -156,7 +156,7 @@ def with_operator_as_base(element):
 
 
 def normal(part):
-    """The form of an element or a text here."""
+    """Returns the form that an element or a text has here."""
     if isinstance(part, str):
         return with_references(with_named_brackets(marked_error(part)))
     part.inside = [normal(inner) for inner in part.inside]
@@ -166,12 +166,12 @@ def normal(part):
 
 
 def markup(answer):
-    """The form here of a text in which the crate has set formulas: prose stays, and each formula is brought to it."""
+    """Returns a text in which the crate has set formulas in the form here: prose stays, and each formula is brought to the form."""
     return MATH.sub(lambda found: print_of(normal(tree(found[0]))), answer)
 
 
 def refusal(text):
-    """The form here of a refusal's text: its token texts are retold."""
+    """Returns the form that a refusal's text has here: its token texts are converted."""
     for shape in (r'(The token ")(.*?)(" is expected, but the token ")(.*)(" is found\.")',
                   r'(There must be a parenthesis after ")(.*?)(", but not found\. Insted, ")(.*)(" is found\.)'):
         found = re.fullmatch(shape, text, re.S)
@@ -188,13 +188,13 @@ TOKEN = re.compile(r"[ \t\n\r]*(?::=|\\(?:[A-Za-z]+|.|$)|[0-9]+\.?[0-9]*|.|$)", 
 
 
 def with_stand_in(formula):
-    """`\\ni` has the character of `\\notin` there, by a slip, and its own here. So the crate reads another operator in
-    its place, and `from_crate` puts the character of `\\ni` for that one's."""
+    """`\\ni` has the character of `\\notin` in the crate, by mistake, and its own here. So the crate reads another operator
+    instead, and `from_crate` replaces that operator's character with that of `\\ni`."""
     return COMMAND.sub(lambda command: STAND_IN if command[1] == "ni" else command[0], formula)
 
 
 def for_crate(formula):
-    """Scripts and primes behind an operand belong to it there, and stay outside here. Braces say so there."""
+    """Scripts and primes after an operand belong to it in the crate, and stay outside here. Braces express this in the crate."""
     return operands.add_braces(with_stand_in(formula))
 
 
@@ -207,7 +207,7 @@ def from_crate(text, handed, answer):
 
 
 def incomparable(text, handed):
-    """Why a text cannot be compared because of a listed difference, or None."""
+    """Returns why a text cannot be compared because of a listed difference, or None."""
     if "\0" in text:
         return "a NUL, which the crate reads as the end"
     if has_stand_in(text, handed) and (ITS_CHARACTER in text or STAND_IN in text):
@@ -216,15 +216,15 @@ def incomparable(text, handed):
 
 
 def sized_behind_middle(formula):
-    """The crate panics if what follows `\\middle` is not a lone operator. Here it is refused, and what was found is the
-    token directly behind. So the crate gets that token of each `\\middle` behind a size, to make it name the token."""
+    """The crate panics if what follows `\\middle` is not a lone operator. Here it is refused, and the token found is the one
+    directly after it. So the crate gets that token of each `\\middle` after a size, which makes it name the token."""
     return ["\\bigl" + TOKEN.match(formula, command.end())[0]
             for command in COMMAND.finditer(formula) if command[1] == "middle"]
 
 
 def refusal_of_middle(kind, said):
-    """The refusal's text for a token, from the crate's answer to that token behind a size. If it got the size, it is a
-    parenthesis. Otherwise the refusal names it."""
+    """Returns the refusal's text for a token, from the crate's answer to that token after a size. If the token got the size,
+    it is a parenthesis. Otherwise the refusal names it."""
     if kind == "o":
         token = re.search(r'minsize="1\.2em">(.*)</mro>', said, re.S)
         derived = 'Paren("' + token[1] + '")'
@@ -236,10 +236,10 @@ def refusal_of_middle(kind, said):
 # Documents
 
 def formulas_of(document):
-    """The formulas that a document's dollar signs enclose, as pairs of a word and a text, in order, and the word of the
-    one that is left open at its end, or "". None if formulas touch, if one holds a dollar sign, or if
-    three stand in a row: the crate pairs every `$$` first, also overlapping ones, and then the single ones in the
-    result. Here one cut is made from left to right."""
+    """Returns the formulas that a document's dollar signs enclose, as pairs of a word and a text, in order, and the word of the
+    one that is left open at its end, or "". Returns None if formulas touch, if one contains a dollar sign, or if there are three
+    in a row: the crate pairs every `$$` first, even overlapping ones, and then the single ones in the result. Here the document
+    is cut once, from left to right."""
     found, opened, start = [], "", 0
     for run in re.finditer(r"\$+", document):
         word = {1: "inline", 2: "block"}.get(len(run[0]))
@@ -258,7 +258,7 @@ ESCAPED_SIGN = "\\$"
 
 
 def parts(document):
-    """Texts, as lists of units, and runs of dollar signs in turn. A backslash takes the next character with it here."""
+    """Returns texts, as lists of units, and runs of dollar signs in turn. Here a backslash belongs with the next character."""
     found = [[]]
     for unit in UNIT.findall(document):
         if unit.startswith("$"):
@@ -269,8 +269,8 @@ def parts(document):
 
 
 def document_for_crate(document):
-    """A document in which the crate reads each formula as it reads one alone. A backslash takes nothing with it there,
-    so the crate gets the reference that `\\$` of prose becomes here."""
+    """Returns a document in which the crate reads each formula as it reads one alone. In the crate a backslash does not belong
+    with the next character, so the crate gets the reference that `\\$` in prose becomes here."""
     handed = ""
     for place, units in enumerate(parts(document)):
         if place % 4 == 0:
@@ -281,20 +281,20 @@ def document_for_crate(document):
 
 
 def is_body(formula):
-    """Whether dollar signs can enclose the formula here: none of its units is one, and its last backslash is no unit."""
+    """Whether dollar signs can enclose the formula here: none of its units is one, and its last unit is not a lone backslash."""
     texts = parts(formula)
     return len(texts) == 1 and texts[0] != [] and texts[0][-1] != "\\"
 
 
 def has_escaped_sign(document):
-    """Whether a formula holds `\\$`. There its dollar sign ends the formula."""
+    """Whether a formula contains `\\$`. In the crate its dollar sign ends the formula."""
     return any(ESCAPED_SIGN in units for units in parts(document)[2::4])
 
 
 def has_one_first_fault(formulas, refused, opened):
-    """Whether the same fault of a document comes first there and here. Here the dollar signs are counted before any
-    formula is looked at, and formulas are taken in their order. There the double ones are counted, then each display
-    is looked at, then the single ones are counted, and then the inline formulas are looked at."""
+    """Whether the same fault of a document comes first in the crate and here. Here the dollar signs are counted before any
+    formula is looked at, and formulas are taken in order. In the crate the double ones are counted, then each display is
+    looked at, then the single ones are counted, and then the inline formulas are looked at."""
     here = [("count", opened)] if opened else []
     here += [(word, place) for place, (word, _) in enumerate(formulas) if refused[place]]
     turns = [("count", "block"), "block", ("count", "inline"), "inline"]

@@ -1,11 +1,11 @@
-"""Formulas with the braces that make the crate read the operands that are read here.
+"""Adds to formulas the braces that make the crate read the operands that are read here.
 
 Operands of roots, fractions, binomials, accents, over and under sets and styles are cores here, so scripts and primes
-behind them stay outside. In the crate they belong to the operand. Where one follows the last operand, the crate is
+after them stay outside. In the crate they belong to the operand. Where one follows the last operand, the crate is
 given the command with its operands in braces. Where one follows the first of two, it is the second operand here
 and is put in braces. Braces around one node are that node on both sides, so nothing else changes.
 
-Where such braces belong is read from the formula alone, by the rules of docs/LANGUAGE.md."""
+The places of these braces follow from the formula alone, by the rules of docs/LANGUAGE.md."""
 
 import re
 import sys
@@ -17,7 +17,7 @@ from tests import cases
 
 SLICE = re.compile(r":=|\\(?:[A-Za-z]+|.|$)|[0-9]+\.?[0-9]*|.", re.S)
 WHITE_SPACE = re.compile(r"[ \t\n\r]*")
-# Kinds of tokens of one character, and those that are letters of no other kind.
+# The characters that are tokens of a kind of their own, and all that are not letters.
 ITSELF = "{}_^'[]"
 NO_LETTER = "=;,.+-*/!<>()|:&\0" + ITSELF + "0123456789"
 
@@ -25,13 +25,13 @@ ONE_OPERAND = ("Over", "Under", "Style")
 TWO_OPERANDS = ("Frac", "Binom", "Overset", "Underset")
 TAKES_DIGIT = ("Sqrt", "Frac", "Binom", "Style")
 MARKS = ("_", "^", "'")
-# What each command is, by the kind of its token.
+# The kind of each command's token.
 KINDS = {entry.name: entry.token.partition("(")[0] for entry in cases.commands()}
 
 
 @dataclass
 class Token:
-    """A token by its kind, where that decides how it is read on, and its place in the formula."""
+    """A token: its kind, if that decides how reading continues, and its place in the formula."""
     kind: str
     start: int
     end: int
@@ -60,7 +60,7 @@ def tokens_of(formula):
 
 class Reader:
     """Reads tokens by the rules, and notes where braces belong. A method reads a part from one token on, and returns the
-    number of the token behind it. It ignores refusals: what stands behind one decides nothing on either side."""
+    number of the token after it. It ignores refusals, since what follows one decides nothing on either side."""
 
     def __init__(self, formula):
         self.tokens = tokens_of(formula)
@@ -70,7 +70,7 @@ class Reader:
         return self.tokens[place].kind if place < len(self.tokens) else None
 
     def behind(self, place):
-        """Behind one token, or at the end."""
+        """Returns the place after one token, or the end."""
         return min(place + 1, len(self.tokens))
 
     def put_in_braces(self, start, end):
@@ -138,7 +138,7 @@ class Reader:
         return self.limit(self.single(place + 1), "^" if first == "_" else "_")
 
     def operands(self, command, place, count):
-        """The operands of a command. Where a sign or a prime follows one of them, braces part the two."""
+        """Reads the operands of a command. If a sign or a prime follows one of them, braces separate the two."""
         end = self.core(place)
         if count == 2:
             first, end = end, self.core(end)
@@ -150,7 +150,7 @@ class Reader:
 
 
 def add_braces(formula):
-    """The formula with these braces.
+    """Returns the formula with these braces.
 
     >>> for formula in [r"\\hat x_1", r"\\sqrt\\sqrt x^2", r"\\frac1 2^3", r"\\frac a^2 b", r"\\frac a'^2", r"\\bm{x_1}'",
     ...                 r"\\hat2", r"\\hat\\sum_a^b'", r"\\slashed{\\hat x_1}", r"\\text\\hat x_1", r"\\sqrt[\\bm x']y^2"]:

@@ -15,7 +15,7 @@ BINARY = ROOT / "crates" / "latex2mathml_app" / "out" / "latex2mathml_app"
 TEX_LAUNCHER = ROOT / "tex2mathml"
 TEX_BINARY = ROOT / "crates" / "latex2mathml_tex_app" / "out" / "latex2mathml_tex_app"
 WRONG_WORDS = 2
-# Kinds of tokens that stand for themselves.
+# Kinds of tokens that represent themselves.
 PLAIN = ("Letter", "Operator", "Paren", "Function", "Space", "NewLine")
 
 
@@ -28,19 +28,19 @@ class Answer:
 
 
 def ask(program, word, text):
-    """One run of the program on one text."""
+    """Runs the program once on one text."""
     run = subprocess.run([program, word], input=text.encode(), stdout=subprocess.PIPE, stderr=subprocess.PIPE)
     return Answer(run.returncode, run.stdout.decode(), run.stderr.decode())
 
 
 def path():
-    """The built program. The launcher builds it first if it is missing or older than its sources."""
+    """Returns the built program. The launcher builds it first if it is missing or older than its sources."""
     subprocess.run([LAUNCHER, "inline"], input=b"", stdout=subprocess.DEVNULL, check=True)
     return BINARY
 
 
 def tex_path():
-    """The built `tex2mathml`, in the same way."""
+    """Returns the built `tex2mathml`, in the same way."""
     subprocess.run([TEX_LAUNCHER], input=b"", stdout=subprocess.DEVNULL, check=True)
     return TEX_BINARY
 
@@ -51,13 +51,13 @@ def knows(program, word):
 
 
 def commands():
-    """The names of the command table: first those that act on what follows, then the others."""
+    """Returns the names of the command table: first those that act on what follows, then the others."""
     acting = [entry.name for entry in cases.commands() if entry.token.partition("(")[0] not in PLAIN]
     return acting, [entry.name for entry in cases.commands() if entry.name not in acting]
 
 
 def is_unread(program, command):
-    """Whether the program knows the command and marks it, since it does not read yet what follows. `\\right` and `\\end`
-    are always marked where they stand alone."""
+    """Whether the program knows the command but marks it, since it does not yet read what follows. `\\right` and `\\end`
+    are always marked if they are alone."""
     marked = re.search(r'\[PARSE ERROR: Undefined\("(\w+)', ask(program, "inline", "\\" + command).output)
     return marked is not None and marked[1] not in ("EOF", "Right", "End", "Command")

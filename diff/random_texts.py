@@ -17,14 +17,14 @@ UNKNOWN = ["foo", "alph", "alphaa", "Sin", "fraction", "bigotimes", "hline", "ma
            '"', "'", "~", "(", "\n", "\t", "\x01", "\u200b"]
 SIGNS = ["_", "^", "'", "_", "^", "{", "}", "{", "}", "&", "\\\\"]
 ENVIRONMENTS = ["matrix", "pmatrix", "bmatrix", "vmatrix", "align", "matrix", "pmatrix", "align*", "cases", ""]
-# Commands that act on what follows and have few or none beside them of their kind. They are taken as often as all others.
+# Commands that act on what follows, with few or no others of their kind. They are chosen as often as all others.
 OF_FEW = ["sqrt", "frac", "binom", "dbinom", "overset", "underset", "overbrace", "underbrace", "underline", "text",
           "operatorname", "slashed", "int", "sum", "lim", "middle", "bigl", "bm"]
 FENCES = ["(", ")", "[", "]", "|", ".", ":=", "\\{", "\\}", "\\langle", "\\rangle", "\\lfloor", "\\|", "<", "x", ""]
 RAW = "\\\\\\\\{}{}[]()_^_^''&$.:=<>\"01 2 abinpté∞𝑥"
 PROSE = ["a", "word", "of", "prose", "<p>", "</p>", "&amp;", "&dollar;3", "é", "あ", "😀", "\\", "\\alpha", "x_1", "\n",
          "<math>", "\u0301", "\"", "\x01", "\\$5", "\\é\\$"]
-# What stands between prose and a formula behind it.
+# What comes between prose and a formula after it.
 ENDS_OF_PROSE = [" ", " ", " ", "", "\\\\", "\\$", "\\\\\\$", "\\é"]
 
 
@@ -39,8 +39,8 @@ class Formulas:
         self.is_read = is_read
 
     def formula(self, kinds=(5, 3, 2)):
-        """A formula of one to thirty pieces, whose commands are all read: one whose groups close, pieces as they come,
-        or characters as they come, as often as the kinds say."""
+        """Returns a formula of one to thirty pieces, whose commands are all read: one whose groups close, random pieces, or
+        random characters, as often as `kinds` says."""
         while True:
             make = self.random.choices([self.nodes, self.pieces, self.characters], kinds)[0]
             formula = make(self.random.randint(1, 30))
@@ -59,11 +59,11 @@ class Formulas:
         return "".join(self.random.choices(RAW, k=count))
 
     def pieces(self, count):
-        """Pieces side by side, in random order."""
+        """Returns pieces one after another, in random order."""
         return self.join([self.piece() for _ in range(count)])
 
     def join(self, parts):
-        """The parts, mostly with white space where a name would run on into a letter, and sometimes elsewhere."""
+        """Joins the parts, mostly with white space where a name would run on into a letter, and sometimes elsewhere."""
         text = ""
         for part in parts:
             runs_on = re.search(r"\\[A-Za-z]+$", text) and part[:1].isascii() and part[:1].isalpha()
@@ -81,7 +81,7 @@ class Formulas:
         return self.random.choice(SIGNS)
 
     def atom(self):
-        """What stands as a core without parts."""
+        """Returns a core without parts."""
         choose = self.random.choice
         kind = self.random.choices(range(7), [6, 4, 3, 2, 5, 1, 1])[0]
         if kind == 0:
@@ -109,7 +109,7 @@ class Formulas:
             lambda: "\\begin{" + choose(ENVIRONMENTS) + "}", lambda: "\\end{" + choose(ENVIRONMENTS) + "}"])()
 
     def nodes(self, count):
-        """Nodes side by side, whose groups close."""
+        """Returns nodes one after another, whose groups close."""
         parts = []
         while count > 0:
             share = self.random.randint(1, count)
@@ -118,7 +118,7 @@ class Formulas:
         return self.join(parts)
 
     def node(self, count):
-        """A core of some of the pieces, and scripts or primes of the others."""
+        """Returns a core of some of the pieces, and scripts or primes of the others."""
         if count < 3:
             return self.atom()
         share = self.random.randint(0, count - 2)
@@ -142,13 +142,13 @@ class Formulas:
         return "{" + self.nodes(count) + "}"
 
     def operand(self, count):
-        """Mostly a group, otherwise a letter, a digit, or several of them."""
+        """Returns a group, or, mostly for one piece, an atom."""
         if count > 1 or self.random.random() < 0.3:
             return self.group(count)
         return self.atom()
 
     def command(self, count):
-        """A command that acts on what follows, with operands of most kinds behind it, suitable or not."""
+        """Returns a command that acts on what follows, followed by operands of most kinds, suitable or not."""
         name = self.acting_command()
         share = self.random.randint(0, count)
         if self.random.random() < 0.2:
@@ -192,7 +192,7 @@ class Documents:
         self.formulas = formulas
 
     def document(self):
-        """Up to eight pieces of prose and formulas. Mostly every dollar sign encloses a formula."""
+        """Returns up to eight pieces of prose and formulas. Mostly, every dollar sign encloses a formula."""
         text = "".join(self.piece() for _ in range(self.random.randint(0, 8)))
         while self.random.random() < 0.1:
             text = self.formulas.with_character(text, "$")
@@ -208,6 +208,6 @@ class Documents:
         return sign + formula + sign + self.random.choice([" ", ".", "\n", "é", " ", ".", ""])
 
     def formula(self):
-        """Mostly one whose groups close, and without a dollar sign, also in `\\$`."""
+        """Returns a formula, mostly one whose groups close and without a dollar sign, even in `\\$`."""
         formula = self.formulas.formula((18, 1, 1))
         return formula if self.random.random() < 0.02 else re.sub(r"\\?\$", "", formula)

@@ -17,9 +17,9 @@ latex2mathml = {{ path = "{crate}" }}
 """
 
 # With an argument of the program, all of standard input is one text, as for the program. With `many`, standard input is a
-# list of texts. Each has the first letter of its argument before it, and behind it a byte that never occurs in UTF-8. The
+# list of texts. Each is preceded by the first letter of its argument, and followed by a byte that never occurs in UTF-8. The
 # answers have the same form. With `calls`, each further argument is a formula, and a line says how often it is converted in a
-# processor second. With `repeat`, a number and a formula, it converts the formula so often.
+# processor second. With `repeat`, a number and a formula, it converts the formula that many times.
 MAIN = r"""
 use latex2mathml::{latex_to_mathml, replace, DisplayStyle, LatexError};
 use std::hint::black_box;
@@ -116,7 +116,7 @@ def build(crate, folder):
 
 
 def answers(driver, asked):
-    """The crate's answers to pairs of a word and a text, in order: pairs of a kind and a text. The kind is "o" for
+    """Returns the crate's answers to pairs of a word and a text, in order: pairs of a kind and a text. The kind is "o" for
     markup, "r" for a refusal, and "p" for a panic, which has no text."""
     records = b"".join(word[:1].encode() + text.encode() + b"\xff" for word, text in asked)
     output = subprocess.run([driver, "many"], input=records, stdout=subprocess.PIPE, check=True).stdout

@@ -1,12 +1,12 @@
-"""The structure of a formula: what of its MathML says how the formula is read, and not how it is drawn.
+"""The structure of a formula: what its MathML says about how the formula is read, and not about how it is drawn.
 
-Two programs that read a formula alike may still write other elements for it. These are brought to one form:
+Two programs that read a formula in the same way may still write different elements for it. These are brought to one form:
 
-- space, invisible operators, styles and grouping are nothing;
-- signs and letters side by side are one text, whatever elements they stand in, and each letter is the plain one of its alphabet;
+- space, invisible operators, styles and grouping are ignored;
+- adjacent signs and letters are one text, whatever elements they are in, and each letter is the plain one of its alphabet;
 - limits count as scripts, and a script on a script counts as both at once;
-- of a number, or of what a closing bracket ends, the last sign alone has the scripts, as in TeX;
-- a sign that has several characters, as the accents have, is one of them.
+- in a number, or in what ends with a closing bracket, only the last sign has the scripts, as in TeX;
+- where a sign has several characters, as accents do, it is always the same one of them.
 """
 import re
 import unicodedata
@@ -15,7 +15,7 @@ import xml.etree.ElementTree as xml
 TRANSPARENT = {"math", "semantics", "mrow", "mstyle", "mpadded"}
 NOTHING = {"mspace", "annotation", "mphantom", "maligngroup", "malignmark"}
 TEXTS = {"mi", "mo", "mn", "mtext", "ms"}
-# where the subscript and the superscript stand among the children
+# where the subscript and the superscript are among the children
 SCRIPTS = {"msub": (1, None), "munder": (1, None), "msup": (None, 1), "mover": (None, 1), "msubsup": (1, 2), "munderover": (1, 2)}
 CLOSING = set(")]}\u27e9")
 NUMBER = re.compile(r"\d*\.?\d+")
@@ -31,12 +31,12 @@ ALIKE = str.maketrans({
 
 
 def structure(markup):
-    """The structure of a `math` element: a tuple of texts and of (name, child, ..), where each child is such a tuple."""
+    """Returns the structure of a `math` element: a tuple of texts and of (name, child, ..), where each child is such a tuple."""
     return row([xml.fromstring(markup)])
 
 
 def row(elements):
-    """What some elements side by side come to."""
+    """Returns the structure of a sequence of elements."""
     made = []
     for element in elements:
         for part in parts(element):
@@ -85,7 +85,7 @@ def scripted(element, lower, upper):
 
 
 def parted(base):
-    """The base without its last sign, and that sign, where the base is a number or ends with a closing bracket."""
+    """Returns the base without its last sign, and that sign, if the base is a number or ends with a closing bracket."""
     if not base or not isinstance(base[-1], str) or not (base[-1][-1:] in CLOSING or len(base) == 1 and NUMBER.fullmatch(base[0])):
         return (), base
     return (*base[:-1], *filter(None, [base[-1][:-1]])), (base[-1][-1],)
@@ -97,7 +97,7 @@ def table(element):
 
 
 def without_end(items):
-    """Without the empty ones at the end: a row's cells, or a table's rows."""
+    """Returns the items without the empty ones at the end: a row's cells, or a table's rows."""
     while items and not any(items[-1]):
         items.pop()
     return tuple(items)

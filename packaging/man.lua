@@ -1,4 +1,4 @@
--- A man page has no links and no pictures: only their words.
+-- A man page has no links, only their words, and no pictures.
 function Link(link)
     return link.content
 end

@@ -1,12 +1,12 @@
-// For pages with the markup of latex_to_mathml: that of tex_to_mathml needs no script. It puts right what browsers that draw
-// MathML Core leave undone, once the page is read. For formulas that come later, call latex2mathml.mend(element).
-// A page may load it several times, as where each of its parts links it.
+// For pages with the markup of latex_to_mathml: that of tex_to_mathml needs no script. Once the page is read, it corrects what
+// browsers that draw MathML Core leave undone. For formulas that are added later, call latex2mathml.mend(element).
+// A page may load it several times, as when each of its parts links it.
 var latex2mathml = latex2mathml ?? (() => {
     'use strict';
     const LATIN = 'ABCDEFGHIJKLMNOPQRSTUVWXYZabcdefghijklmnopqrstuvwxyz';
     const GREEK = 'ΑΒΓΔΕΖΗΘΙΚΛΜΝΞΟΠΡϴΣΤΥΦΧΨΩ∇αβγδεζηθικλμνξοπρςστυφχψω∂ϵϑϰϕϱϖ';
     const DIGITS = '0123456789';
-    // Where Unicode has the alphabets of each variant, in their order.
+    // Where Unicode has the alphabets of each variant, in order.
     const STARTS = {
         'bold': [[LATIN, 0x1D400], [GREEK, 0x1D6A8], [DIGITS, 0x1D7CE], ['Ϝϝ', 0x1D7CA]],
         'italic': [[LATIN, 0x1D434], [GREEK, 0x1D6E2], ['ıȷ', 0x1D6A4]],
@@ -22,20 +22,20 @@ var latex2mathml = latex2mathml ?? (() => {
         'sans-serif-bold-italic': [[LATIN, 0x1D63C], [GREEK, 0x1D790]],
         'monospace': [[LATIN, 0x1D670], [DIGITS, 0x1D7F6]],
     };
-    // Letters whose places there are empty, since Unicode had them before.
+    // Letters whose places there are empty, since Unicode already had them.
     const ELSEWHERE = {
         'italic': {h: 'ℎ'},
         'script': {B: 'ℬ', E: 'ℰ', F: 'ℱ', H: 'ℋ', I: 'ℐ', L: 'ℒ', M: 'ℳ', R: 'ℛ', e: 'ℯ', g: 'ℊ', o: 'ℴ'},
         'fraktur': {C: 'ℭ', H: 'ℌ', I: 'ℑ', R: 'ℜ', Z: 'ℨ'},
         'double-struck': {C: 'ℂ', H: 'ℍ', N: 'ℕ', P: 'ℙ', Q: 'ℚ', R: 'ℝ', Z: 'ℤ'},
     };
-    // Browsers stretch these to the tallest thing beside them where the markup does not say otherwise.
+    // Browsers stretch these to the tallest thing next to them unless the markup says otherwise.
     const UPRIGHT = [...'()[]{}|‖∣∥⟨⟩⌈⌉⌊⌋⦗⦘⟦⟧↑↓↕⇑⇓⇕↿↾⇃⇂⇈⇊↰↱'];
     // Signs as TeX draws them, and accents over one letter, which browsers draw as wide as several.
     const DRAWN = {'-': '−', '*': '∗', "'": '′'};
     const NARROW = {'^': 'ˆ', '~': '˜'};
 
-    // TeX's classes of what stands in a row. A MARK is a relation between two operands, and ordinary elsewhere.
+    // TeX's classes of the members of a row. A MARK is a relation between two operands, and ordinary elsewhere.
     const [ORDINARY, OPERATOR, BINARY, RELATION, OPENING, CLOSING, PUNCTUATION, INNER, MIDDLE, MARK] = Array(10).keys();
     const SIGNS = [
         [ORDINARY, /^[./|'′‖¬∀∃∄∂𝜕∇⊤▽⋮]/u],
@@ -53,7 +53,7 @@ var latex2mathml = latex2mathml ?? (() => {
     const ENDS = [ORDINARY, CLOSING, INNER];
     const BEGINS = [ORDINARY, OPERATOR, BINARY, OPENING, INNER, MARK];
     // TeX's spaces between two neighbours, a row for each class of the left one: none, thin, thin, medium and thick.
-    // In scripts only the second of the thin ones is left. A hyphen is where no binary sign can be, for want of an operand.
+    // In scripts only the second of the thin ones is left. A hyphen is where no binary sign can be, since it lacks an operand.
     const SPACES = ['02340001', '22-40001', '33--3--3', '44-04004', '00-00000', '02340001', '11-11111', '12341011'];
     const WIDTHS = ['0', '0.167em', '0.167em', '0.222em', '0.278em'];
 
@@ -61,14 +61,14 @@ var latex2mathml = latex2mathml ?? (() => {
     const BASED = ':is(msub, msup, msubsup, munder, mover, munderover):not(:has(> mo[accent])), mrow:has(> mo:only-child)';
     // Firefox sets the depth of a limit only when it lays the formula out, so its place counts too.
     const SCRIPT = ':is(msub, msup, msubsup, munder, mover, munderover, mroot) > :not(:first-child)';
-    // The second kind of fence is that of KaTeX, which says no form.
+    // The second kind of fence is that of KaTeX, which gives no form.
     const FENCE = ':is(mo[form][stretchy="true"], mo[fence="true"])';
     const FENCED = `mrow:has(> ${FENCE}:first-child):not(:has(> mfrac[linethickness="0"]))`;
-    // The markup of align. Before what is behind its & TeX puts an empty group.
+    // The markup of align. TeX inserts an empty group before what follows its &.
     const ALIGN = 'mtable[columnalign$="left"]:not([frame], [columnspacing])';
     const BEHIND = ALIGN + ' > mtr > mtd:nth-child(even)';
 
-    // The mathematical character of a letter, or the letter itself where Unicode has none.
+    // Returns the mathematical character of a letter, or the letter itself if Unicode has none.
     function character(letter, variant) {
         const [letters, start] = (STARTS[variant] ?? []).find(([letters]) => letters.includes(letter)) ?? [];
         if (!letters) return letter;
@@ -83,13 +83,13 @@ var latex2mathml = latex2mathml ?? (() => {
         token.removeAttribute('mathvariant');
     }
 
-    // A bracket that has attributes is one whose program said how it is drawn.
+    // If a bracket has attributes, its program said how it is drawn.
     function mendSign(sign) {
         if (UPRIGHT.includes(sign.textContent) && !sign.hasAttributes()) sign.setAttribute('stretchy', 'false');
         if (sign.textContent in DRAWN) sign.textContent = DRAWN[sign.textContent];
     }
 
-    // An accent is said of the sign; browsers ask the element around it. A line is drawn as long as what it covers.
+    // The sign is marked as an accent; browsers look at the element around it. A line is drawn as long as what it covers.
     function mendAccent(sign) {
         const around = sign.parentElement;
         around.setAttribute(around.localName === 'mover' ? 'accent' : 'accentunder', 'true');
@@ -100,7 +100,7 @@ var latex2mathml = latex2mathml ?? (() => {
         }
     }
 
-    // What gives an element its class: its base, where it has scripts or limits, and the sign in it, where it has a size.
+    // Returns what gives an element its class: its base if it has scripts or limits, and the sign in it if it has a size.
     function baseOf(element) {
         while (element.matches(BASED) && element.firstElementChild) element = element.firstElementChild;
         return element;
@@ -113,7 +113,7 @@ var latex2mathml = latex2mathml ?? (() => {
         return fence.matches('[form="postfix"], :last-child') ? CLOSING : MIDDLE;
     }
 
-    // The class of a base wherever it stands; none where this script does not know it.
+    // Returns the class of a base wherever it is, or none if this script does not know it.
     function classOf(base) {
         const text = textOf(base);
         if (base.matches(FENCE)) return classOfFence(base);
@@ -123,8 +123,8 @@ var latex2mathml = latex2mathml ?? (() => {
         return classes.find(([, signs]) => signs.test(text))?.[0];
     }
 
-    // The classes of a row's members where they stand: a binary sign that is not between two operands is ordinary, and so
-    // is a sign that may be a relation; bars that come in pairs are those of norms.
+    // Returns the classes of a row's members where they are: a binary sign that is not between two operands is ordinary, and
+    // so is a sign that may be a relation; bars that come in pairs are those of norms.
     function classesOf(bases, before) {
         const hasNorms = bases.filter(base => textOf(base) === '∥').length % 2 === 0;
         const classes = bases.map(base => (hasNorms && textOf(base) === '∥' ? ORDINARY : classOf(base) ?? ORDINARY));
@@ -155,13 +155,13 @@ var latex2mathml = latex2mathml ?? (() => {
         behind.before(space);
     }
 
-    // Firefox sets a thin space between an upright and a slanted letter that stand side by side.
+    // Firefox sets a thin space between an upright and a slanted letter next to each other.
     function isSetApart(left, right) {
         const isUpright = letter => letter.matches('[mathvariant="normal"]') || [...letter.textContent].length > 1;
         return left?.localName === 'mi' && right.localName === 'mi' && isUpright(left) !== isUpright(right);
     }
 
-    // A sign has the spaces between it and its neighbours; where neither neighbour is a sign, an element has it.
+    // A sign has the spaces between it and its neighbours; where neither neighbour is a sign, an element has the space.
     function mendRow(row, isScript) {
         const members = [...row.children].filter(child => !child.matches('mspace') && !INVISIBLE.test(textOf(child)));
         const bases = members.map(baseOf);
@@ -178,7 +178,7 @@ var latex2mathml = latex2mathml ?? (() => {
         }
     }
 
-    // Those of some elements that are a script or in one. An element comes before what it contains.
+    // Returns those of the elements that are a script or in one. An element comes before what it contains.
     function scriptsAmong(elements) {
         const scripts = new Set();
         for (const element of elements) {
@@ -188,12 +188,12 @@ var latex2mathml = latex2mathml ?? (() => {
     }
 
     function mendRows(rows, scripts) {
-        // All styles are read before anything is changed, so that they are computed once.
+        // All styles are read before anything is changed, so that they are computed only once.
         const isScript = rows.map(row => getComputedStyle(row).mathDepth > 0 || scripts.has(row));
         rows.forEach((row, i) => mendRow(row, isScript[i]));
     }
 
-    // What is under an element; the whole page where none is named.
+    // Corrects what is in an element, or the whole page if none is given.
     function mend(root = document) {
         const all = selector => [...root.querySelectorAll(selector)];
         all(':is(mi, mn, mo)[mathvariant]').forEach(mendLetters);
@@ -201,7 +201,7 @@ var latex2mathml = latex2mathml ?? (() => {
         all(':is(mover, munder) > mo[accent="true"]:last-child').forEach(mendAccent);
         mendRows([...new Set(all(ROWS + ' > *').map(member => member.parentElement))], scriptsAmong(all('math *')));
         all('mo').filter(sign => classOf(sign) !== undefined).forEach(sign => setSpaces(sign, WIDTHS[0], WIDTHS[0]));
-        // The style sheet aligns these too; Firefox obeys the markup, and looks at it again where that of the table changes.
+        // The style sheet aligns these too; Firefox obeys the markup, and looks at it again when that of the table changes.
         all(ALIGN + ' > mtr > mtd:nth-child(odd)').forEach(cell => cell.setAttribute('columnalign', 'right'));
         all(ALIGN).forEach(table => table.setAttribute('columnalign', 'right left'));
         all('mspace[width^="-"]').forEach(space => { space.style.marginInlineStart = space.getAttribute('width'); });

@@ -59,7 +59,7 @@ def spent():
 
 
 def look_at_layout(screen):
-    """`rt ci` refuses a crate that is not in the layout of `rt fmt`, but only once it comes to it: this takes seconds."""
+    """`rt ci` refuses a crate that is not in the layout of `rt fmt`, but only when it reaches that crate. This takes seconds."""
     failed = 0
     with scratch() as folder:
         for name in ("crates.txt", "HANDLES"):
@@ -76,7 +76,7 @@ def look_at_layout(screen):
 
 
 def prove(screen, begun):
-    """Runs `rt ci` here. Each line with which it says how far it is stays, and all that it prints is kept in a file."""
+    """Runs `rt ci` here. Each line that reports its progress stays, and everything that it prints is kept in a file."""
     watch, log = Stopwatch(), OUT / "rt-ci.log"
     last = None
     screen.say(f"    all that it prints is kept in {log}")
@@ -92,7 +92,7 @@ def prove(screen, begun):
     if status or failed or not last:
         screen.say(end_of(log))
         return passed, failed or 1
-    # a source that was edited meanwhile is then newer than what was built
+    # a source that was edited in the meantime is then newer than what was built
     for made in (ROOT / "crates").glob("*/out/*"):
         if made.is_file() and made.stat().st_mtime >= begun:
             os.utime(made, (begun, begun))
@@ -100,8 +100,8 @@ def prove(screen, begun):
 
 
 def build_c_library(screen, begun):
-    """Builds the static library over the libraries that `rt ci` proved and left in `out/rlib`. It keeps nothing of a static library,
-    and `rt lib` would prove the libraries below it once more."""
+    """Builds the static library over the libraries that `rt ci` proved and left in `out/rlib`. `rt ci` keeps nothing of a static
+    library, and `rt lib` would prove the libraries below it again."""
     archive = ROOT / f"crates/{C_LIBRARY}/out/lib{C_LIBRARY}.a"
     archive.parent.mkdir(exist_ok=True)
     log = OUT / "library-for-c.log"
@@ -131,7 +131,7 @@ def rattle_words(archive):
 
 
 def run_to_its_end(words):
-    """Runs a command and returns its status. No process that it began outlives it, however this one ends."""
+    """Runs a command and returns its status. No process that it started outlives it, however this one ends."""
     with subprocess.Popen(words, cwd=ROOT, start_new_session=True) as running:
         try:
             return running.wait()
@@ -141,12 +141,12 @@ def run_to_its_end(words):
 
 
 def try_cases(words):
-    """A step that has pytest run these cases, or all."""
+    """A step that has pytest run these cases, or all cases."""
     def run(screen):
         with scratch() as folder:
             counts = folder / "counts"
             os.environ[COUNTS] = str(counts)
-            # also a single case has a process of its own, which may end before it
+            # a single case also has a process of its own, which may end before it
             at_once = 1 if any("::" in word for word in words) else processors()
             status = run_to_its_end([sys.executable, "-B", "-m", "pytest", "-n", str(at_once), *words])
             found = json.loads(counts.read_text()) if counts.exists() else {}
@@ -155,7 +155,7 @@ def try_cases(words):
             screen.say(f"    FAILED: no case of {module} was tried")
         passed, failed, skipped = (found.get(name, 0) for name in ("passed", "failed", "skipped"))
         if os.environ.get(SKIP_NOTHING) == "1":
-            # where nothing may be skipped, what was has failed
+            # where nothing may be skipped, what was skipped has failed
             failed += skipped
         return passed, failed + len(without) or int(status != 0)
     return run
@@ -188,7 +188,7 @@ def main(words):
     total = Total(screen)
     with scratch() as folder:
         os.environ[RUN] = str(folder)
-        # where a build that a case needs shows its progress, though pytest keeps what cases print
+        # where a build that a case needs shows its progress, although pytest captures what cases print
         os.environ[SCREEN] = f"/proc/{os.getpid()}/fd/{os.dup(2)}"
         if proves:
             begun = time.time()

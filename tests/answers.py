@@ -25,7 +25,7 @@ class Code(enum.IntEnum):
 
 
 def by_program(word, given):
-    """What the program makes of the input, and whether it says so as it does of every input."""
+    """The result of the program for the input; its status and streams, if it is not reported as it should be."""
     done = run([program(), word], stdin=given)
     if done.returncode == 0 and not done.stderr:
         markup = done.stdout if word == "document" else done.stdout.removesuffix(b"\n")
@@ -100,7 +100,7 @@ class AnswerCase(Case):
     """A case: an input and the expected result."""
 
     def comes_to(self, place, word, given, code, wanted):
-        """Checks that the input comes to this, by the program's word, in each way."""
+        """Checks that the result for the input is this, with the program's word, in each way."""
         for name, way in WAYS:
             found, came = way(word, given)
             if (found, came) != (code, wanted):

@@ -14,7 +14,7 @@ user_pref("toolkit.telemetry.reportingpolicy.firstRun", false);
 
 
 def chromium(profile, address):
-    # A container may let no user make a sandbox, and may have little room in /dev/shm. The pages are our own.
+    # A container may forbid users to make a sandbox, and may have little room in /dev/shm. The pages are our own.
     flags = ["--no-sandbox", "--disable-dev-shm-usage", "--disable-gpu"]
     return ["chromium", "--headless", *flags, f"--user-data-dir={profile}", address]
 
@@ -26,7 +26,7 @@ def firefox(profile, address, settings=""):
 
 @contextlib.contextmanager
 def open_browser(words, home):
-    """A browser for the time of a `with`."""
+    """A browser for the duration of a `with`."""
     environment = {**os.environ, "HOME": os.fspath(home)}
     with open(home / "said", "wb") as said:
         browser = subprocess.Popen(words, stdin=subprocess.DEVNULL, stdout=said, stderr=said, env=environment)

@@ -1,5 +1,5 @@
-/* What the cases of the library for C share: judging, requests for memory that are refused, and calls with room that ends at a page
- * that may not be touched. To be linked with --wrap for malloc, realloc and free. */
+/* What the cases of the library for C share: judging, requests for memory that are refused, and calls whose room ends at a page
+ * that may not be touched. Link it with --wrap for malloc, realloc and free. */
 #ifndef C_CALLS_H
 #define C_CALLS_H
 
@@ -17,7 +17,7 @@ static void judge(bool met, const char *name) {
     printf("%s: %s\n", met ? "passed" : "FAILED", name);
 }
 
-/* Requests for memory: how many this thread made and for how many bytes in all, and from which to which they are refused. */
+/* Requests for memory: how many this thread has made, for how many bytes in all, and the first and the last that is refused. */
 
 void *__real_malloc(size_t size);
 void *__real_realloc(void *block, size_t size);
@@ -56,12 +56,12 @@ static void refuse(long first, long last) {
     last_refused = last;
 }
 
-/* Calls, with room that ends at a page that may not be touched. */
+/* Calls whose room ends at a page that may not be touched. */
 
 enum { SPAN = 1 << 20, PAGE = 4096, UNTOUCHED = 0x5A };
 enum conversion { INLINE, BLOCK, DOCUMENT, TEX_INLINE, TEX_BLOCK };
 
-/* What a call is given. The calls of TeX have definitions and flags too. */
+/* The arguments of a call. The calls for TeX also have definitions and flags. */
 struct given {
     enum conversion conversion;
     const char *input;
@@ -82,7 +82,7 @@ static char *room_end(void) {
     return end;
 }
 
-/* The place is 0 after a call that tells none. */
+/* The place is 0 after a call that reports none. */
 static uint32_t call(struct given given, char *out, size_t room, size_t *needed, size_t *place) {
     if (given.conversion == TEX_INLINE || given.conversion == TEX_BLOCK)
         return latex2mathml_tex(given.definitions ? given.definitions : "", given.definitions_length, given.input, given.length,
@@ -93,7 +93,7 @@ static uint32_t call(struct given given, char *out, size_t room, size_t *needed,
     return latex2mathml_formula(given.input, given.length, given.conversion == BLOCK, out, room, needed);
 }
 
-/* What came of a call with so much room, whose last byte stands before the page. */
+/* What a call answered, and its room, whose last byte is just before the page. */
 struct answer {
     uint32_t code;
     size_t needed, place;
@@ -114,14 +114,14 @@ static bool is_untouched(const char *from, const char *end) {
     return true;
 }
 
-/* What is due, whatever room there is, as long as it is enough. */
+/* What is due for any room that is large enough. */
 struct due {
     uint32_t code;
     const char *text;
     size_t needed, place;
 };
 
-/* Whether the room holds the text that is due, and is untouched before it and behind it. */
+/* Whether the room contains the text that is due, and is untouched before and after it. */
 static bool is_due(struct answer answer, struct due due) {
     return answer.code == due.code && answer.needed == due.needed && answer.place == due.place &&
            !memcmp(answer.room, due.text, due.needed) && is_untouched(answer.room - 64, answer.room) &&

@@ -1,7 +1,7 @@
-/* Cases of the library for C, by the word that names them: answers, memory, deep, random, threads, or rules and tex_rules, which read
- * formulas from standard input, a line each. Each case has a line, 'passed: NAME' or 'FAILED: NAME', and behind the last
- * stands 'all were judged'. Any other word is refused with the status 2. To be compiled with STACK as the bytes of the stack that
- * are enough for a call. */
+/* Cases of the library for C, chosen by the words that name them: answers, memory, deep, random, threads, or rules and tex_rules,
+ * which read formulas from standard input, one per line. Each case prints a line, 'passed: NAME' or 'FAILED: NAME', and the last
+ * line is 'all were judged'. Any other word is refused with the status 2. Compile it with STACK defined as the number of bytes of
+ * the stack that are enough for a call. */
 #include "c_calls.h"
 
 #include <pthread.h>
@@ -115,9 +115,9 @@ static void answers(void) {
     judge(is_due(answer_of(same, due.needed), due), "definitions that are the formula too");
 }
 
-/* Each request for memory refused in turn, alone and with all behind it. */
+/* Each request for memory refused in turn, alone and with all later ones. */
 
-/* Whether the call gives want of memory, or the answer of ample memory, for each refused request, and keeps no block. */
+/* Whether the call, for each refused request, reports that memory ran out or answers as with ample memory, and keeps no block. */
 static bool survives(struct given given, struct due due, bool and_all_behind, long *were_refused) {
     for (long n = 1;; n++) {
         long held = blocks;
@@ -141,10 +141,10 @@ static void judge_with_refusals(struct given given, struct due due, const char *
     judge(survives(given, due, true, were_refused), name);
 }
 
-/* How many bytes such a call asks for, at most and in all: room for a short answer, and for the parts of a short formula. */
+/* The most bytes that such a call asks for in all: room for a short answer, and for the parts of a short formula. */
 enum { MOST_ASKED = 4096 };
 
-/* How many bytes such a call asks for, whose text needs less room than there is. */
+/* How many bytes such a call asks for if its text needs less room than there is. */
 static size_t asked_for(struct given given) {
     refuse(0, -1);
     answer_of(given, MOST_ASKED);
@@ -161,12 +161,12 @@ static void memory(void) {
         judge(asked <= MOST_ASKED, known[i].name);
     }
     judge(were_refused > 100, "requests were refused");
-    /* room for the answer of a formula is asked for at once, and that of a document grows with it */
+    /* the room for the answer of a formula is requested at once, and that of a document grows with the answer */
     struct given formula = GIVEN(INLINE, "\\frac12"), document = GIVEN(DOCUMENT, "$\\frac12$");
     judge(asked_for(document) <= asked_for(formula), "a document is converted once");
 }
 
-/* Each formula of standard input, with each request for memory refused in turn. */
+/* Judges each formula of standard input, with each request for memory refused in turn. */
 static void judge_rules(enum conversion conversion) {
     static char line[4096], text[SPAN];
     long were_refused = 0;
@@ -220,7 +220,7 @@ static const struct nest tex_nests[] = {
     {"TeX words", "\\text{$", "x", "$}", LATEX2MATHML_DONE, "", "<mi>x</mi>", ""},
 };
 
-/* The middle between so many of both ends, with a zero byte behind it, which the caller frees. */
+/* The middle between `times` copies of each end, followed by a zero byte. The caller frees it. */
 static char *repeat(size_t times, const char *before, const char *middle, const char *after, size_t *length) {
     size_t b = strlen(before), m = strlen(middle), a = strlen(after);
     char *text = malloc(times * (b + a) + m + 1);
@@ -237,7 +237,7 @@ static char *repeat(size_t times, const char *before, const char *middle, const 
     return text;
 }
 
-/* The reason why a nested formula is refused. In TeX the innermost brace is told: each begins what is before the middle. */
+/* The reason why a nested formula is refused. In TeX it names the place of the innermost brace: each `before` begins with one. */
 static char *reason_of(const struct nest *nest, bool is_tex, size_t levels, struct due *due) {
     char reason[64] = OPEN_BRACE;
     if (is_tex) {
@@ -247,7 +247,7 @@ static char *reason_of(const struct nest *nest, bool is_tex, size_t levels, stru
     return repeat(1, "", reason, "", &due->needed);
 }
 
-/* What the nested formula comes to, whose text the caller frees. */
+/* What is due for the nested formula. The caller frees its text. */
 static struct due due_of(const struct nest *nest, bool is_tex, size_t levels) {
     struct due due = {nest->code, NULL, 0, 0};
     if (nest->code == LATEX2MATHML_DONE) {
@@ -269,7 +269,7 @@ struct deep_case {
     struct due due;
 };
 
-/* Not null where two calls, one with no room and one with what that asked for, give the answer. */
+/* Not null if two calls give the answer: one with no room, and one with the room that the first asked for. */
 static void *is_answered(void *pointer) {
     static char met;
     const struct deep_case *deep = pointer;
@@ -294,7 +294,7 @@ static void judge_on_small_stack(struct deep_case deep, const char *name) {
     judge(met != NULL, name);
 }
 
-/* The nested formula between two fences, which are dollar signs in a document. */
+/* Judges the nested formula between two fences, which are dollar signs in a document. */
 static void judge_nest(const struct nest *nest, enum conversion conversion, const char *fence, size_t levels, const char *where) {
     struct deep_case deep = {{conversion, NULL, 0, NULL, 0, 0}, due_of(nest, conversion == TEX_INLINE, levels)};
     char name[64], *formula = repeat(levels, nest->before, nest->middle, nest->after, &deep.given.length);
@@ -324,7 +324,7 @@ static void deep(void) {
     free(due);
 }
 
-/* Random inputs. The same numbers come in each run. */
+/* Random inputs. Each run has the same numbers. */
 
 static uint64_t state = 88172645463325252u;
 
@@ -367,7 +367,7 @@ static bool may_come(struct given given, uint32_t code) {
     return code <= LATEX2MATHML_NOT_UTF8 || (is_tex && code == LATEX2MATHML_DEFINITION_REFUSED);
 }
 
-/* Whether calls with no room, one byte too little, and just enough agree, and write where they may. */
+/* Whether calls with no room, one byte too few and just enough agree, and write only where they may. */
 static bool is_consistent(struct given given, uint32_t *code) {
     size_t needed = answer_of(given, 0).needed;
     struct answer answer = answer_of(given, needed);
@@ -391,7 +391,7 @@ static void random_inputs(void) {
     for (int i = 0; i < RANDOM_INPUTS; i++) {
         char text[512], before[512];
         size_t length = random_input(text, sizeof text);
-        char *copy = malloc(length ? length : 1); /* of its own, so that the sanitizer knows where it ends */
+        char *copy = malloc(length ? length : 1); /* a block of its own, so that the sanitizer knows where it ends */
         uint32_t code = 0;
         memcpy(copy, text, length);
         memcpy(before, text, length);

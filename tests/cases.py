@@ -56,7 +56,7 @@ class Line:
         return f"{os.path.relpath(self.path, ROOT)}:{self.number}"
 
     def expand(self, text=None):
-        """What the line, or a part of it, stands for: bytes, with each escape replaced."""
+        """The meaning of the line, or of a part of it: bytes, with each escape replaced."""
         try:
             return expand(self.text if text is None else text)
         except ValueError as wrong:
@@ -65,7 +65,7 @@ class Line:
 
 @dataclass(frozen=True)
 class Case:
-    """The lines of an input and of the expected result, and the heading above them. A result that has no line is the input."""
+    """The lines of an input and of the expected result, and the heading above them. A result without a line is the input."""
     heading: str
     lines: tuple
 
@@ -91,7 +91,7 @@ class Case:
         return with_tags(self.answer)
 
     def with_space(self, number, space):
-        """The formula of white_space.txt with this space at the place of this number, and at no other."""
+        """The formula of white_space.txt with this space at the place with this number, and at no other."""
         parts = self.first.text.split(PLACE)
         return self.first.expand("".join(parts[:number])) + space + self.first.expand("".join(parts[number:]))
 
@@ -147,7 +147,7 @@ def with_tags(text):
 
 
 def of_size(text):
-    """A function of a size: it repeats what `N` repeats in the text until that has about this many bytes."""
+    """A function of a size: it repeats what `N` repeats in the text until the text has about this many bytes."""
     each = len(expand(text, 2)) - len(expand(text, 1))
     return lambda size: expand(text, size // each)
 
@@ -177,7 +177,7 @@ def lines_of(path):
 
 
 def blocks(name):
-    """The blocks of lines that blank lines part: pairs of the heading above a block, and its lines."""
+    """The blocks of lines that blank lines separate: pairs of the heading above a block, and its lines."""
     for has_text, pairs in itertools.groupby(lines_of(CASES / name), key=lambda pair: bool(pair[1].text)):
         if has_text:
             headings, lines = zip(*pairs)
@@ -187,7 +187,7 @@ def blocks(name):
 def read(name, counts=(2,)):
     """The cases of a file of two lines each, such as `formulas/numbers.txt`, or of one of these counts of lines.
 
-    Raises `WrongCase` where the file is not written so, or holds an input twice.
+    Raises `WrongCase` if the file is not written in this form, or contains an input twice.
     """
     inputs = {}
     for heading, lines in blocks(name):
@@ -206,7 +206,7 @@ def key_of(heading):
 
 
 def by_heading(name):
-    """The cases of a file as rows for `each_row`: of each heading a list of its cases."""
+    """The cases of a file as rows for `each_row`: for each heading a list of its cases."""
     rows = collections.defaultdict(list)
     for case in read(name, (1, 2) if name.startswith("site/") else (2,)):
         rows[key_of(case.heading)].append(case)
@@ -214,7 +214,7 @@ def by_heading(name):
 
 
 def listed(path):
-    """The texts that a file lists under headings, one a line."""
+    """The texts that a file lists under headings, one per line."""
     return {line.expand().decode() for _, line in lines_of(path) if line.text}
 
 
@@ -258,9 +258,9 @@ def every_rule():
 
 
 def test_name(word):
-    """The name that Python has for a file of cases, or for the case that has a line of one: its input or its answer.
+    """The name that Python has for a file of cases, or for the case that a line of one belongs to: its input or its answer.
 
-    Raises `WrongCase` where there is no such file, or no case has the line.
+    Raises `WrongCase` if there is no such file, or no case has the line.
 
     >>> test_name("cases/formulas/letters.txt")
     'tests.test_cases.formulas_letters'

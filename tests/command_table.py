@@ -21,7 +21,7 @@ def quotation(text):
     return '"' + re.sub(r'(["\\])', r"\\\1", text) + '"'
 
 
-# The page. A kind of token stands before its commands, as in "- `Operator(c)`: .. `\pm` ±, `\mp` ∓".
+# The page. A kind of token precedes its commands, as in "- `Operator(c)`: .. `\pm` ±, `\mp` ∓".
 # The letter of its argument says what the argument is.
 KIND = re.compile(r"^- (?:`(?P<kind>\w+)(?:\((?P<argument>\w)(?P<more>, \w+)?\))?`[^:`]*|Tokens that hold nothing):", re.MULTILINE)
 NAME = r"`\\(?P<name>[A-Za-z]+|[^A-Za-z])`"
@@ -60,7 +60,7 @@ def token_text(kind, value):
     return f"{kind['kind']}({SHAPES[kind['argument']](value)}{kind['more'] or ''})"
 
 
-# The definitions. Behind a code point stands the character.
+# The definitions. A code point is followed by the character.
 ENTRY = re.compile(r'    \(codes "(?P<name>(?:\\.|[^"\\])+)", (?P<kind>\w+)(?P<arguments>[^∷]*)\) ∷(?:  -- (?P<remark>.+))?')
 ARGUMENT = re.compile(r'0x(?P<point>[0-9A-F]+)|\(encode_utf8 0x(?P<encoded>[0-9A-F]+)\)|\(codes "(?P<text>[^"]*)"\)'
                       r"|\(pos (?P<pos>\d+)\)|\(negsuc (?P<negsuc>\d+)\)|\(Some (?P<some>\w+)\)|(?P<variant>\w+)")
@@ -85,7 +85,7 @@ def in_the_definitions():
 
 
 def wrong_remark(entry):
-    """What is wrong with the character behind an entry's code point, or None."""
+    """What is wrong with the character after an entry's code point, or None."""
     points = re.findall(r"0x([0-9A-F]+)", entry["arguments"])
     wanted = "".join(chr(int(point, 16)) for point in points) or None
     return None if entry["remark"] == wanted else f"the character behind the line is {entry['remark']}, where {wanted} is due"

@@ -1,4 +1,4 @@
-"""What the tests need of pytest beyond its own words: each `subTest` counts as a case, long modules begin first, and a process
+"""What the tests need from pytest beyond its own options: each `subTest` counts as a case, long modules begin first, and a process
 that ends before its cases fails one of them alone."""
 import json
 import os
@@ -24,7 +24,7 @@ def pytest_configure(config):
 
 
 def report_part(item, case, part, error):
-    """Reports a `subTest`, also one that passed, which the plugin leaves out, and what it is called, also where that is no text."""
+    """Reports a `subTest`, even one that passed, which the plugin leaves out, and its name, even if that is not a text."""
     found = error and ExceptionInfo(error, _ispytest=True)
     call = pytest_subtests.make_call_info(found, start=0, stop=0, duration=0, when="call")
     report = pytest_subtests.SubTestReport._from_test_report(item.ihook.pytest_runtest_makereport(item=item, call=call))
@@ -33,7 +33,7 @@ def report_part(item, case, part, error):
 
 
 class Classes(LoadScopeScheduling):
-    """Each class stays in one process. If that ends too soon, another one tries what is left of the class. xdist would try the
+    """Each class stays in one process. If that ends too soon, another one runs what is left of the class. xdist would run the
     case that ended it again and again."""
 
     def remove_node(self, node):
@@ -53,7 +53,7 @@ def pytest_xdist_make_scheduler(config, log):
 
 
 def pytest_testnodedown(node, error):
-    """A process that ends too soon fails the run, also where no case was under way."""
+    """A process that ends too soon fails the run, even if no case was under way."""
     if error:
         node.config.stash[ENDED_TOO_SOON] = True
 
@@ -63,7 +63,7 @@ def pytest_collection_modifyitems(items):
 
 
 def pytest_sessionfinish(session):
-    """Writes what passed, failed and was skipped, and the modules that this was in, to the file that `./test` names."""
+    """Writes what passed, failed and was skipped, and the modules in which it did, to the file that `./test` names."""
     if ENDED_TOO_SOON in session.config.stash:
         session.exitstatus = pytest.ExitCode.TESTS_FAILED
     terminal = session.config.pluginmanager.get_plugin("terminalreporter")
@@ -71,7 +71,7 @@ def pytest_sessionfinish(session):
         counts, modules = dict.fromkeys(KINDS.values(), 0), set()
         for kind, counted in KINDS.items():
             reports = terminal.stats.get(kind, [])
-            # each process says of a module that it cannot be read
+            # each process reports that a module cannot be read
             counts[counted] += len({it.nodeid if isinstance(it, pytest.CollectReport) else id(it) for it in reports})
             modules.update(it.nodeid.partition("::")[0] for it in reports)
         pathlib.Path(os.environ[COUNTS]).write_text(json.dumps({**counts, "modules": sorted(modules)}))

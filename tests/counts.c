@@ -1,12 +1,12 @@
-/* Loaded before the C library, by LD_PRELOAD, this counts what a program asks of the C library. Where the program ends by
-   `exit` or returns from `main`, the file that COUNTS names gets a line for each count, as `read 2`:
+/* Loaded before the C library by LD_PRELOAD, this library counts what a program asks of the C library. If the program ends by
+   `exit` or returns from `main`, the file that COUNTS names gets a line for each count, such as `read 2`:
 
-     requests   requests for memory: new blocks, and blocks that change their size
-     held       blocks that are not freed
+     requests   requests for memory: for new blocks, and for other sizes of blocks
+     held       blocks that were not freed
      peak       the most bytes that were held at once
-     read       readings
-     write      writings, but to standard error
-     errors     writings to standard error
+     read       reads
+     write      writes, except to standard error
+     errors     writes to standard error
      sync       waits for the disk
      open       files and directories that were opened
      close      those that were closed */
@@ -26,7 +26,7 @@
 /* the function of this name that the program would call without this library */
 #define NEXT(name) ((__typeof__(&name))dlsym(RTLD_NEXT, #name))
 
-/* the C library's own, under names of which `dlsym` needs no memory to tell them */
+/* the C library's own functions, which need no `dlsym`: it may request memory itself */
 extern void *__libc_malloc(size_t);
 extern void *__libc_calloc(size_t, size_t);
 extern void *__libc_realloc(void *, size_t);

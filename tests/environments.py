@@ -46,8 +46,8 @@ def proved(module=""):
 
 @functools.cache
 def environment(*modules):
-    """The Python of a fresh virtual environment in which the wheel was installed, with what the system has, if modules of it are
-    named, and with nothing else otherwise."""
+    """The Python of a fresh virtual environment in which the wheel was installed: with what the system has, if modules of it are
+    named, and otherwise with nothing else."""
     name = f"environment-{'-'.join(modules)}"
     folder = run_folder() / name
     package = wheel()
@@ -69,7 +69,7 @@ def run_python(python, *words, **more):
 
 
 def ask(python, script, *questions, **more):
-    """What the function `answer` of a script answers to each question: a list of its arguments, or its only one."""
+    """The answers of the function `answer` of a script to each question: a list of its arguments, or its only one."""
     questions = json.dumps([it if isinstance(it, list) else [it] for it in questions])
     whole = f"{script}\nimport json, sys\nprint(json.dumps([answer(*it) for it in json.load(sys.stdin)]))"
     done = run_python(python, "-c", whole, stdin=questions.encode(), **more)

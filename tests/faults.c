@@ -1,15 +1,15 @@
-/* Loaded before the C library, by LD_PRELOAD, this makes calls of a program fail that hardly fail by themselves.
-   The environment says which, and what is empty there says nothing:
+/* Loaded before the C library by LD_PRELOAD, this library makes calls of a program fail that hardly ever fail by themselves.
+   The environment says which, and an empty variable says nothing:
 
-     FAULT=CALL:FIRST:LAST:ERROR  of the calls of one kind, the FIRSTth to the LASTth fail with this error number, and
-                                  with the number 0 they answer 0. A kind is memory (a request for it), open, read, write
-                                  (but to standard error), list (the entries of a directory) or look (at what a path is)
-     FAULT_MARKED=1               calls count only behind a request for 7919 bytes, and up to one for 7927
-     FAULT_STEP=N                 reading and writing moves at most N bytes a call
-     FAULT_ERRORS=N               standard error takes N bytes, one a call, and fails then
+     FAULT=CALL:FIRST:LAST:ERROR  of the calls of one kind, the FIRSTth to the LASTth fail with this error number; with the
+                                  number 0, reads, writes and lists answer 0. A kind is memory (a request for it), open,
+                                  read, write (except to standard error), list (the entries of a directory) or look (at what a path is)
+     FAULT_MARKED=1               calls count only after a request for 7919 bytes, and up to one for 7927
+     FAULT_STEP=N                 each read or write moves at most N bytes, except writes to standard error
+     FAULT_ERRORS=N               standard error takes N bytes, one per call, and then fails
      FAULT_PATH=PATH FAULT_RUN=COMMAND FAULT_TIME=N
-                                  the shell runs the command before the Nth opening of the path, or of what lies below it
-     FAULT_REPORT=FILE            gets a line for each call that failed, and for the command */
+                                  the shell runs the command before a path that begins so is opened the Nth time
+     FAULT_REPORT=FILE            the file gets a line for each call that failed, and for the command */
 
 #define _GNU_SOURCE
 #include <dlfcn.h>
@@ -34,12 +34,12 @@ static char kind[16];
 static long first, last, calls;
 static int error, is_marked, counts;
 static size_t step;
-/* how many bytes standard error still takes, or less than 0 where it takes all */
+/* how many bytes standard error still takes, or less than 0 if it takes all */
 static long errors_left = -1;
 static const char *path_due, *command, *report_file;
 static long time_due, times;
 
-/* what the environment says, or NULL */
+/* the value of a variable of the environment, or NULL */
 static const char *setting(const char *name) {
     const char *value = getenv(name);
     return value && *value ? value : NULL;
@@ -96,7 +96,7 @@ void *malloc(size_t size) { return is_refused(size) ? NULL : NEXT(malloc)(size);
 
 void *realloc(void *old, size_t size) { return is_refused(size) ? NULL : NEXT(realloc)(old, size); }
 
-/* runs the command where this is the opening that it waits for */
+/* runs the command if this is the opening that it waits for */
 static void prepare_opening(const char *path) {
     if (!command || !path_due || strncmp(path, path_due, strlen(path_due)) != 0 || ++times != time_due) return;
     const char *now = command;

@@ -30,7 +30,7 @@ def library(name):
 
 
 def preload(*names):
-    """The variables with which a program loads these libraries. They are looked for by their names alone, because a space in a path
+    """The variables with which a program loads these libraries. They are looked up only by their names, because a space in a path
     would end it."""
     libraries = [library(name) for name in names]
     folders = [*(str(it.parent) for it in libraries), os.environ.get("LD_LIBRARY_PATH")]
@@ -70,7 +70,7 @@ class Fault:
 
 @dataclasses.dataclass(frozen=True)
 class Command:
-    """A command of the shell that is run before the Nth opening of a path, or of what lies below it."""
+    """A shell command that is run before the Nth opening of a path, or of something below it."""
     path: str
     time: int
     text: str
@@ -79,8 +79,8 @@ class Command:
 def run_with(words, *, fault=None, marked=False, step=None, errors=None, command=None, counts=None, stdin=b"", timeout=60, **more):
     """Runs a command with calls that fail, and returns its `CompletedProcess` and the calls that failed, by their kinds.
 
-    Reading and writing moves at most `step` bytes a call. Standard error takes `errors` bytes, one a call, and fails then. Where
-    `marked`, calls count between the marks of `faults.c` alone. `counts` is the file that `counts.c` writes, where it is to count.
+    Reading and writing move at most `step` bytes per call. Standard error takes `errors` bytes, one per call, and then fails. If
+    `marked`, calls count only between the marks of `faults.c`. `counts` is the file that `counts.c` writes, if it is to count.
     """
     with support.scratch() as folder:
         report = folder / "report"
@@ -101,9 +101,9 @@ class OneByteAtATime(support.Case):
     """Programs whose calls move one byte each."""
 
     def fails_at_each(self, kind, number, calls, words, given, answer, due, left=None):
-        """Each of so many calls of a kind fails in turn with this error number, and one more that is not made. The
-        answer is due if none fails, and otherwise what `due` says of the failing call: the status and the streams.
-        `left` says how much is not read then."""
+        """Each of this many calls of a kind fails in turn with this error number, and one more that is not made. The
+        answer is expected if none fails, and otherwise what `due` gives for the failing call: the status and the streams.
+        `left` gives how much is then unread."""
         for call in range(1, calls + 2):
             with self.subTest(words=words[1:], given=given, error=number, call=call), open_input(given) as source:
                 done, failed = run_with(words, stdin=source, fault=Fault(kind, call, call, number), step=1)
@@ -123,6 +123,6 @@ def counts_of(words, *, stdin=b"", timeout=60, **more):
 
 
 def counts_in(path):
-    """What `counts.c` wrote to the file: nothing where the program did not end by itself."""
+    """What `counts.c` wrote to the file: nothing if the program did not end by itself."""
     lines = path.read_text().splitlines() if path.exists() else []
     return {name: int(number) for name, number in map(str.split, lines)}

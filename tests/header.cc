@@ -1,4 +1,4 @@
-// The header in C++, included twice: its names are C's, and its macro is one value wherever it stands.
+// The header in C++, included twice: its names are those of C, and its macro is one value wherever it is used.
 #include "latex2mathml.h"
 #include "latex2mathml.h"
 

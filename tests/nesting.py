@@ -6,7 +6,7 @@ from tests.cases import PLACE, blocks, expand, key_of
 
 @dataclass(frozen=True)
 class Kind:
-    """A kind of node and a place in it, as the files say."""
+    """A kind of node and a place in it, as the files give them."""
     formula: str
     markup: str
     refused: str = ""
@@ -15,14 +15,14 @@ class Kind:
     nodes: str = "1"
 
     def levels(self, nodes):
-        """How many of these are nested in a formula with this depth in nodes."""
+        """The number of these that are nested in a formula with this depth in nodes."""
         return nodes // int(self.nodes)
 
     def nest(self, levels, innermost=" x"):
         return repeat(self.formula, levels, innermost)
 
     def cut(self, levels):
-        """The formula that ends in its innermost place, or behind the last member."""
+        """The formula that ends in its innermost place, or after the last member."""
         if PLACE in self.formula:
             return self.formula.partition(PLACE)[0] * levels
         return repeat(self.formula[:self.formula.rindex('"]') + 2], levels)
@@ -36,7 +36,7 @@ class Kind:
 
 
 def repeat(text, times, innermost=""):
-    """The text before a place and behind it, repeated around what is innermost; or as many members."""
+    """The text before a place and after it, repeated around the innermost part; or that many members."""
     if PLACE in text:
         before, behind = text.split(PLACE)
         return before * times + innermost + behind * times

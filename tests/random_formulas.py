@@ -8,7 +8,7 @@ CHARACTERS = list("abcxyzABC0123456789.+-*/=,;:!?|()[]{}<>&\"'~@%$^_# \t\n") + l
 
 
 def joined(parts, most):
-    """Up to so many of these parts, side by side."""
+    """Up to this many of these parts, one after another."""
     return st.lists(parts, max_size=most).map("".join)
 
 
@@ -17,7 +17,7 @@ def around(before, inner, after="}"):
 
 
 def longer(inner):
-    """What is built of formulas: groups, scripts, operands, fences, environments."""
+    """What is built from formulas: groups, scripts, operands, fences, environments."""
     formula = joined(inner, 3)
     group = around("{", formula)
     begun = ["\\sqrt", "\\sqrt[3]", "\\lim_", "\\hat", "\\overbrace", "\\underbrace", "\\slashed", "\\mathbf", "\\mathbb"]

@@ -1,4 +1,4 @@
-"""The command `latex2mathml-site`, run as people run it, for the tests of it."""
+"""The command `latex2mathml-site`, run as people run it, for its tests."""
 import os
 
 from tests.environments import environment, proved, run_python
@@ -13,7 +13,7 @@ def tex(*formulas):
 
 
 def keep_caches_here():
-    """The command keeps what it remembers in the folder of the run, and not in that of the user."""
+    """The command keeps what it remembers in the folder of the run, not in the user's."""
     os.environ["XDG_CACHE_HOME"] = str(run_folder() / "caches")
 
 

@@ -1,4 +1,4 @@
-/* Stands for the library for C. It answers everything by the same text, ANSWER, and asks for NEEDED bytes. */
+/* Takes the place of the library for C. It answers everything with the same text, ANSWER, and asks for NEEDED bytes. */
 #include "latex2mathml.h"
 #include <string.h>
 
@@ -13,7 +13,7 @@ static uint32_t answer(char *out, size_t out_len, size_t *needed) {
     *needed = NEEDED;
     if (out_len < *needed)
         return LATEX2MATHML_TOO_SMALL;
-    /* a function of the C library, as the library itself calls it: without one, no wheel would be made */
+    /* calls the C library, as the library itself does: without such a call, no wheel would be made */
     memcpy(out, ANSWER, sizeof ANSWER - 1);
     return LATEX2MATHML_DONE;
 }

@@ -81,7 +81,7 @@ def dist():
 
 
 def made_once(name, *words, **more):
-    """The folder of this name that all processes of a run share, which the first of them makes by a command: it is its last argument."""
+    """The folder of this name that all processes of a run share. The first of them makes it by a command, as its last argument."""
     folder, making = (run_folder() / it for it in (name, f"{name} in the making"))
     with once(name):
         if not folder.exists():
@@ -137,8 +137,8 @@ def processors():
 def run(words, *, stdin=b"", timeout=60, **more):
     """Runs a command to its end and returns its `CompletedProcess`, whose streams are bytes.
 
-    `words` is the whole command line. `stdin` is what it reads: bytes, or anything that `subprocess` takes. What else is
-    given goes to `subprocess.run`. A command that takes longer than `timeout` seconds is ended, and the case fails.
+    `words` is the whole command line. `stdin` is what it reads: bytes, or anything that `subprocess` takes. All other
+    arguments go to `subprocess.run`. A command that takes longer than `timeout` seconds is ended, and the case fails.
     """
     given = {"input": stdin} if isinstance(stdin, bytes) else {"stdin": stdin}
     for stream in ("stdout", "stderr"):
@@ -154,13 +154,13 @@ def limit(**most):
 
 
 def hear_signals():
-    """A `preexec_fn`: what a shell runs in the background ignores an interruption, and so would all that it begins."""
+    """A `preexec_fn`: what a shell runs in the background ignores an interruption, and so would everything that it starts."""
     for number in (signal.SIGINT, signal.SIGTERM, signal.SIGHUP):
         signal.signal(number, signal.SIG_DFL)
 
 
 def as_nobody(folder):
-    """What `run` is told so that there are files that a command may not open. If this user may open everything, as root
+    """The arguments for `run` with which there are files that a command may not open. If this user may open everything, as root
     may, another user runs it, to whom the folder is given."""
     if os.geteuid():
         return {}
@@ -170,7 +170,7 @@ def as_nobody(folder):
 
 
 def read_terminal(terminal):
-    """All that a terminal shows until it is closed. The system hands it on in pieces, and tells the end by an error."""
+    """Everything that a terminal shows until it is closed. The system passes it on in pieces, and reports the end by an error."""
     shown = b""
     with open(terminal, "rb", buffering=0) as screen, contextlib.suppress(OSError):
         while part := screen.read(1 << 16):
@@ -179,7 +179,7 @@ def read_terminal(terminal):
 
 
 def put(folder, texts):
-    """Writes texts or bytes to files below a folder, by their names. What begins with `#!` can be run."""
+    """Writes texts or bytes to files below a folder, by their names. What begins with `#!` is made executable."""
     for name, text in texts.items():
         path, held = folder / os.fsdecode(name), text if isinstance(text, bytes) else text.encode()
         path.parent.mkdir(parents=True, exist_ok=True)
@@ -190,8 +190,8 @@ def put(folder, texts):
 
 @contextlib.contextmanager
 def scratch():
-    """A folder for the time of a `with`, as a `pathlib.Path`; removed afterwards, whatever rights are left in it."""
-    # what was ended, as a browser, may still be tidying up
+    """A folder for the duration of a `with`, as a `pathlib.Path`; removed afterwards, whatever permissions are left in it."""
+    # what was ended, such as a browser, may still be tidying up
     with tempfile.TemporaryDirectory(prefix="latex2mathml-", ignore_cleanup_errors=True) as folder:
         yield pathlib.Path(folder)
 
@@ -204,9 +204,9 @@ def is_there(tool):
 
 
 def requires(*tools):
-    """Skips a case or a class of them where one of these tools or Python modules (`python:NAME`) is missing.
+    """Skips a case or a class of them if one of these tools or Python modules (`python:NAME`) is missing.
 
-    Where LATEX2MATHML_SKIP_NOTHING is 1, `./test` counts every case that is skipped as one that failed.
+    If LATEX2MATHML_SKIP_NOTHING is 1, `./test` counts every case that is skipped as one that failed.
     """
     lacking = [tool for tool in tools if not is_there(tool)]
     return unittest.skipIf(lacking, f"{', '.join(lacking)} not found")
@@ -227,7 +227,7 @@ def case_name(key):
 
 @dataclasses.dataclass(eq=False)
 class Has:
-    """Stands for any stream in which this part is found."""
+    """Represents any stream in which this part is found."""
     part: bytes
 
     def __eq__(self, stream):

@@ -1,4 +1,4 @@
-"""The net itself: what compares an answer sees each difference, and no case of the tests says nothing."""
+"""Tests the tests: what compares an answer notices each difference, and no case asserts nothing."""
 import ast
 import ctypes
 import itertools
@@ -48,7 +48,7 @@ class Differences(unittest.TestCase):
 
 class Rows(Case):
     def test_each_is_a_case(self):
-        """It is named by its key, and is given what is in the row. No case takes the place of another."""
+        """It is named by its key, and is given what is in the row. No case replaces another."""
         def add(self, *numbers):
             return sum(numbers)
 
@@ -61,7 +61,7 @@ class Rows(Case):
 
 
 class Library:
-    """A library for C that has one answer."""
+    """A library for C that always has the same answer."""
 
     def __init__(self, code, text):
         self.code, self.text = code, text
@@ -128,13 +128,13 @@ def is_empty(node):
         return False
     name, operands = node.func.attr, node.args
     if name in ("assertTrue", "assertFalse"):
-        # what is meant as an operand would be the message
+        # what is intended as an operand would be the message
         return is_always_true(operands[0]) or any(not is_message(it, operands[0]) for it in operands[1:])
     return len(operands) > 1 and (is_same(*operands[:2]) or is_of_any(name, *operands[:2]))
 
 
 def is_message(node, operand):
-    """Whether it is one, as behind a condition, or where it shows what is to be true. Otherwise it may be meant as another operand."""
+    """Whether it is one, as after a condition, or if it shows what should be true. Otherwise it may be meant as an operand."""
     if isinstance(operand, (ast.Compare, ast.BoolOp)):
         return True
     if isinstance(operand, ast.Call) and name_of(operand.func) in CONDITIONS:
@@ -167,7 +167,7 @@ def is_always_true(node):
 
 
 def cases_without_an_assertion(modules):
-    """The cases in which nothing asserts: neither they nor a function of such a name, in any of the modules, that they call."""
+    """The cases in which nothing asserts: neither they, nor a function that they call, by its name in any of the modules."""
     functions = [(name, it) for name, module in modules for it in ast.walk(module) if isinstance(it, ast.FunctionDef)]
     asserting = set(ASSERTING)
     while found := {it.name for _, it in functions if it.name not in asserting and asserts(it, asserting)}:
@@ -177,7 +177,7 @@ def cases_without_an_assertion(modules):
 
 
 def is_case(function):
-    """Whether it is one, or makes one of each row of a table."""
+    """Whether it is one, or makes one from each row of a table."""
     is_of_rows = any(isinstance(it, ast.Call) and name_of(it.func) == "each_row" for it in function.decorator_list)
     return is_of_rows or function.name.startswith("test_")
 

@@ -1,4 +1,4 @@
-"""Each prefix of a formula, cut between characters, is converted, or refused because it ends too soon, and for no other reason."""
+"""Each prefix of a formula, cut between characters, is converted, or is refused only because it ends too soon."""
 import re
 
 from tests import cases

@@ -1,6 +1,6 @@
-"""What is built is taken only as long as it is newer than its sources, and a building says how far it is.
+"""What is built is used only as long as it is newer than its sources, and a build reports its progress.
 
-`rt` is another program here, `tests/fakes/building/rt`.
+`rt` is replaced by another program here, `tests/fakes/building/rt`.
 """
 import os
 import pathlib
@@ -50,7 +50,7 @@ class House(Case):
                 "MET": str(self.folder / "met"), "PROCESS": str(self.folder / "process"), **more}
 
     def expect_calls(self, count):
-        """Expects that the program `high` was built so many times."""
+        """Expects that the program `high` was built this many times."""
         calls = self.calls.read_text()
         self.assertEqual(sum(line.startswith("high ") for line in calls.splitlines()), count, calls)
 
@@ -81,7 +81,7 @@ class Building(House):
         self.expect_calls(1)
 
     def test_what_was_made_is_kept(self):
-        """The next building of a crate begins with what the last one left, also one that failed."""
+        """The next build of a crate begins with what the last one left, even one that failed."""
         for times, fails in enumerate(("", "both", ""), 1):
             self.build("both", FAILS=fails)
             (self.house / "crates/low/src/lib.rt").touch()
@@ -134,7 +134,7 @@ class Building(House):
         self.expect_calls(1)
 
     def test_an_edit_while_it_is_built(self):
-        """It is newer than what was built of the text before it."""
+        """It is newer than what was built from the text before it."""
         self.build(EDITS=str(self.house / "crates/low/src/lib.rt"))
         self.build()
         self.expect_calls(2)
@@ -200,7 +200,7 @@ class Building(House):
             self.assertRegex(shown, rf"\r\x1b\[K2 of 3  middle  {functions} of 7 functions  \d+:\d\d")
 
     def interrupt(self, target, crate, number=signal.SIGINT, **more):
-        """Sends a signal to a building while `rt` works in this crate, and returns its status and what it said."""
+        """Sends a signal to a build while `rt` works in this crate, and returns its status and what it printed."""
         process = self.folder / "process"
         process.unlink(missing_ok=True)
         words = [sys.executable, self.house / "tools/build", target]
@@ -224,7 +224,7 @@ class Building(House):
                 self.assertEqual(self.made("both"), [])
 
     def test_two_at_once(self):
-        """The second waits for the first, and begins with what that made."""
+        """The second waits for the first, and begins with what the first made."""
         words, quiet = [self.house / "tools/built", "high"], {"stdout": subprocess.DEVNULL, "stderr": subprocess.PIPE}
         both = [subprocess.Popen(words, env=self.environment(), **quiet) for _ in range(2)]
         said = [process.communicate(timeout=60)[1].decode() for process in both]
@@ -236,7 +236,7 @@ class Building(House):
 @unittest.skipIf(len(os.sched_getaffinity(0)) < 2, "one processor")
 class SideBySide(House):
     def test_what_does_not_need_each_other_is_built_at_once(self):
-        """They share the memory. For a crate that is alone, `rt` chooses the number of processes."""
+        """They share the memory. For a single crate, `rt` chooses the number of processes."""
         for target, pair, memory, jobs in (("both", "left right", 17, 4), ("high tool", "high tool", 10, 2)):
             with self.subTest(target):
                 (self.folder / "met").write_text("")

@@ -22,8 +22,8 @@ ANNOTATED = INLINE.replace("><mi>x", ' alttext="x&lt;y"><semantics><mrow><mi>x')
     "</math>", '</mrow><annotation encoding="application/x-tex">x&lt;y</annotation></semantics></math>')
 CALLS = {"latex2mathml_formula", "latex2mathml_document", "latex2mathml_tex"}
 
-# Lines of `readelf`, and of a shared library whose name is another, that binds late, or leaves writable what was bound or the stack
-# executable.
+# Lines of `readelf`, and those of a shared library that has another name, binds late, leaves bound symbols writable, or has an
+# executable stack.
 LINKED = [r"\(SONAME\) +Library soname: \[liblatex2mathml\.so\.0\]$", r"\(FLAGS\) +.*\bBIND_NOW\b", r"\(FLAGS_1\) +Flags:.* NOW\b",
           r"^ +GNU_RELRO +0x", r"^ +GNU_STACK +0x.* RW +0x"]
 LINKED_BADLY = [r"\(TEXTREL\)", r"\((?:RPATH|RUNPATH)\)", r"^ +LOAD .* RWE "]
@@ -71,12 +71,12 @@ class Folder(Case):
         self.expect(run([program]), stdout=f"{BLOCK}\na {INLINE}\n{BLOCK}\n".encode())
 
     def test_a_caller_of_the_shared_library(self):
-        """It is linked by the library's name, and finds the library again as it starts."""
+        """It is linked by the library's name, and finds the library again when it starts."""
         caller = self.folder / "caller"
         self.expect(run([*CC, "-I", c_library(), c_library() / "examples/formula.c", "-L", c_library(), "-llatex2mathml",
                          f"-Wl,-rpath,{c_library()}", "-o", caller]))
         self.expect(run([caller, "x<y"]), stdout=f"{INLINE}\n".encode())
-        # the linker would also have taken the static one
+        # the linker would also have accepted the static one
         self.assertIn(f"{c_library()}/liblatex2mathml.so", run(["ldd", caller]).stdout.decode())
 
 
@@ -137,7 +137,7 @@ class Deep(Built):
     options = ["-O2"]
 
     def test_deep(self):
-        """On the stack that the header says is enough: formulas, and documents with one or with many."""
+        """On the stack that the header says is enough: formulas, and documents with one formula or with many."""
         self.judge("deep")
 
 
@@ -149,7 +149,7 @@ class Sanitized(Built):
 
     @staticmethod
     def preparation():
-        """The sanitizer of older compilers sometimes finds its own room taken where vm.mmap_rnd_bits is 32."""
+        """The sanitizer of older compilers sometimes finds its own addresses taken if vm.mmap_rnd_bits is 32."""
         ctypes.CDLL(None).personality(ADDR_NO_RANDOMIZE)
 
     @each_row({"answers": ("answers",), "memory": ("memory",), "random inputs": ("random",)})
@@ -161,7 +161,7 @@ class Sanitized(Built):
 class Examples(Case):
     @classmethod
     def setUpClass(cls):
-        # a copy, because they are built beside their sources and find the library in the folder above; a path may have spaces
+        # a copy, because they are built next to their sources and find the library in the folder above; a path may have spaces
         cls.folder = cls.enterClassContext(scratch()) / "the library"
         shutil.copytree(c_library(), cls.folder)
         cls.built = run([cls.folder / "examples/build"])

@@ -69,7 +69,7 @@ class CaseOfFile(AnswerCase):
 
 @functools.cache
 def tex_replies(name, display):
-    """What `tex2mathml` replies to each formula of a file of cases, which it is given all at once."""
+    """The reply of `tex2mathml` to each formula of a file of cases; it is given all of them at once."""
     formulas = [case.input for case in cases.read(name)]
     done = run([tex_program(), "--null", "--display", display], stdin=b"".join(it + b"\0" for it in formulas))
     *replies, rest = done.stdout.split(b"\0")

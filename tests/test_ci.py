@@ -1,6 +1,6 @@
 """What runs on a machine for checks: `.ci/run` installs what the tests use, and has `./test` skip nothing.
 
-`./test`, `apt-get` and what asks the system are other programs here.
+`./test`, `apt-get` and what queries the system are replaced by other programs here.
 """
 import shutil
 
@@ -11,7 +11,7 @@ PACKAGES = "# a remark\nhere\nmissing # behind a package too\n\nlost\n"
 STUBS = {
     "id": "echo ${USER_ID:-0}",
     "dpkg-query": """case $4 in here) echo 'install ok installed' ;; lost) echo 'deinstall ok config-files' ;; *) exit 1 ;; esac""",
-    # what is asked for stands behind the options
+    # what is requested follows the options
     "apt-get": """
         while [ "$1" != update ] && [ "$1" != install ]; do shift; done
         echo "$*" >>"$CALLS"
@@ -53,7 +53,7 @@ class Run(Case):
         self.assertEqual(calls[1:], ["install --no-install-recommends lost"])
 
     def test_one_cannot_be_installed(self):
-        """The others are, and `./test` runs, in which what needs it fails."""
+        """The others are, and `./test` runs, in which whatever needs it fails."""
         done, calls = self.run_ci(NOT_THERE="lost")
         self.expect(done, stdout=b"skips nothing: 1\n", stderr=Has(b"lost could not be installed"))
         self.assertEqual(calls[2:], ["install --no-install-recommends missing", "install --no-install-recommends lost"])
@@ -88,10 +88,10 @@ class Run(Case):
 
 
 class Pytest(Case):
-    """`./test` looks for a Python that has pytest, and has it installed where that may be done."""
+    """`./test` looks for a Python that has pytest, and installs it if it may."""
 
     def run_test(self, install, is_there=False):
-        """What `./test` does where `.ci/install` is this command, and which packages that was to install."""
+        """What `./test` does if `.ci/install` is this command, and which packages that command was to install."""
         house = self.enterContext(scratch())
         put(house, {"test": (ROOT / "test").read_text(), ".ci/install": f'#!/bin/sh\necho "$*" >installed; {install}\n',
                     "python": '#!/bin/sh\ncase $1 in -c) test -e has-pytest ;; *) echo "ran: $*" ;; esac\n'})

@@ -9,7 +9,7 @@ from tests import tex_command_table as table
 from tests.command_table import PAGE
 from tests.support import ROOT, Case, Has, program, run, tex_program
 
-# what `[t]` and the like stand for in the code
+# what `[t]` and the like mean in the code
 ARGUMENTS = {"": None, "{lcr}": "ColumnList", "{2}": "Number"}
 
 # the arguments of macros that do not take every formula
@@ -94,7 +94,7 @@ class TablesOfTheCode(unittest.TestCase):
 
 
 class Read(Case):
-    """`tex2mathml` reads all that is listed, and draws what is said. The formulas of a case are read by one run."""
+    """`tex2mathml` reads everything that is listed, and draws what is said. The formulas of a case are read by one run."""
     maxDiff = None
 
     def replies(self, formulas):
@@ -122,7 +122,7 @@ class Read(Case):
             self.draw({name: f"\\{name}" for name in drawn}, drawn)
 
     def test_marks(self):
-        """An arrow stands before what is above it, and any other mark behind it."""
+        """An arrow is before what is above it, and any other mark is after it."""
         marks = table.commands_drawn(table.before("Marks, braces and stacks"))
         self.draw({name: f"\\{name}{{x}}" for name in marks},
                   {name: f"{mark}x" if name.startswith("x") else f"x{mark}" for name, mark in marks.items()})
@@ -178,5 +178,5 @@ class Read(Case):
 
 
 def text_in(reply):
-    """The text of a reply, without its tags; all of it, if it is no markup."""
+    """The text of a reply, without its tags; all of it, if it is not markup."""
     return html.unescape(re.sub(r"<[^>]*>", "", reply.removeprefix("mathml\n"))) if reply.startswith("mathml\n") else reply

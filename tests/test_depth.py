@@ -1,5 +1,5 @@
 """Formulas that are a million nodes deep, or as wide, on a stack of 8 MiB: printed. Formulas a quarter as deep, on a quarter of that
-stack: in a style, cut off, and dropped after a refusal or a refused request for memory. Both leave 8 bytes of stack for a node.
+stack: in a style, cut off, and dropped after a refusal or a refused request for memory. Both leave 8 bytes of stack per node.
 
 Each kind of node and each place in it is tried, nested in itself; `cases/nested.txt` has them.
 """
@@ -13,7 +13,7 @@ from tests.texts import NO_MEMORY, OPEN, error, math
 
 pytestmark = [pytest.mark.long, pytest.mark.timeout(1800)]
 
-# The most bytes that such a formula takes for a token, besides the rooms of the text and of the answer, and what every run takes.
+# The most bytes that such a formula takes per token, besides the memory for the text and the answer, and what every run takes.
 # An accent or a root without braces takes most: a frame, a part and what is to be written, of 32 bytes each. Their lists have room
 # for 2^20 members or 2^18, which is 5 % more than there are. All others were counted with at most 87 bytes.
 MOST_EACH = 101
@@ -23,7 +23,7 @@ OWN_BYTES = 64 << 10
 NO_STRETCH = 'There must be a parenthesis after "Middle", but not found. Insted, "Middle" is found.'
 
 
-# the end of a text, where it is read as an error
+# the end of a text, if it is read as an error
 MISSING = '<mtext>[PARSE ERROR: Undefined("EOF")]</mtext>'
 
 # A token. The name of an environment counts as one: its letters are kept as a text.
@@ -33,13 +33,13 @@ KINDS = {name: (kind,) for name, kind in kinds_of("nested.txt").items()}
 
 
 def count_tokens(make, levels):
-    """The number of tokens of a formula with these levels. Each level but the first has as many."""
+    """The number of tokens of a formula with these levels. Each level except the first has equally many."""
     one, two = (len(TOKEN.findall(make(times))) for times in (1, 2))
     return one + (levels - 1) * (two - one)
 
 
 def room_of(text):
-    """The room of a text that is doubled when it is full."""
+    """The capacity of a text that is doubled when it is full."""
     return 1 << (len(text) - 1).bit_length()
 
 
@@ -116,7 +116,7 @@ class Cut(Shallow):
             self.answers(kind.cut(levels), kind.contents(levels, MISSING), count_tokens(kind.cut, levels))
 
     def test_stretched(self):
-        """`\\middle` takes an operator alone, so no node is in it, but as many as there are wait one for the other."""
+        """`\\middle` takes only an operator, so it contains no node, but all of them wait, each for the next."""
         self.is_refused("\\middle" * self.nodes + "|", NO_STRETCH)
 
 

@@ -8,22 +8,22 @@ from tests.texts import LESS, LESS_BLOCK, math
 
 CRATE = "crates/latex2mathml_c"
 
-# Stands for make-c-library: it makes the folder, which must not exist.
+# Replaces make-c-library: it makes the folder, which must not exist.
 LIBRARY_MAKER = """#!/bin/sh
 mkdir "$1" && echo made >"$1/liblatex2mathml.so"
 """
 
-# Stands for make-wheel.
+# Replaces make-wheel.
 WHEEL_MAKER = """#!/bin/sh
 mkdir -p "$2" && echo made >"$2/made.whl"
 """
 
-# Stands for make-deb.
+# Replaces make-deb.
 DEB_MAKER = """#!/bin/sh
 echo made >"$2/made.deb"
 """
 
-# Stands for a Python that has pip: its wheel holds the names of the files that it was to be made from.
+# Replaces a Python that has pip: its wheel contains the names of the files from which it should be made.
 PYTHON = """#!/bin/sh
 [ "$1" = -c ] && exit
 [ "$1" = setup.py ] && mkdir "$5" && touch "$5/made.tar.gz" && exit
@@ -42,12 +42,12 @@ class Dist(Case):
         cls.dist = dist()
 
     def house(self):
-        """What make-dist needs of a checkout, in a folder whose path has a space, with a copy of the tools."""
+        """What make-dist needs from a checkout, in a folder whose path has a space, with a copy of the tools."""
         house = self.folder / "a house"
         house.mkdir()
         for name in ("crates", "latex2mathml", "CHANGELOG.md", "LICENSE", "page", "packaging"):
             (house / name).symlink_to(ROOT / name)
-        # as old as it is, since a program that is older is built anew
+        # with its time, since a program that is older is built anew
         shutil.copy2(ROOT / "crates.txt", house)
         for name in ("tools", "integrations"):
             # other tests may be writing what Python compiles there
@@ -62,7 +62,7 @@ class Dist(Case):
         self.assertEqual(list((run_folder() / "temporary").iterdir()), [])
 
     def test_the_version(self):
-        """That of the README is the one of the library for C that is there, and the newest of the changes."""
+        """The version in the README is that of the library for C next to it, and the newest of the changes."""
         [version] = re.findall(r'^#define LATEX2MATHML_VERSION "(.+)"$', (self.dist / "c/latex2mathml.h").read_text(), re.MULTILINE)
         self.assertEqual((self.dist / "README.md").read_text(encoding="utf-8").splitlines()[0], f"# latex2mathml {version}")
         self.assertEqual(newest_version(), version)
@@ -71,7 +71,7 @@ class Dist(Case):
         self.expect(run([ROOT / "tools/make-dist", self.dist]), 1, b"", None)
 
     def test_without_an_argument(self):
-        """It makes the folder `dist` of its own house, and the next time another in its place."""
+        """It makes the folder `dist` of its own house, and replaces it the next time."""
         house = self.house()
         put(house / "tools", {"make-c-library": LIBRARY_MAKER, "make-wheel": WHEEL_MAKER, "make-deb": DEB_MAKER})
         for turn in ("first", "second"):
@@ -84,7 +84,7 @@ class Dist(Case):
                 (house / "dist/old").touch()
 
     def test_make_wheel_in_a_path_with_a_space(self):
-        """It takes what the package needs from its own house and from the library, and leaves the wheel in the folder."""
+        """It takes what the package needs from its own house and from the library, and puts the wheel into the folder."""
         house = self.house()
         put(house, {"a python": PYTHON, "a library/liblatex2mathml.so": ""})
         wheel = house / "a wheel/made.whl"

@@ -1,5 +1,5 @@
-"""Checks the documents: links lead somewhere, commands print what is shown, what `tools/renew-documents` writes is as it would
-write it now, and sentences are short."""
+"""Checks the documents: links lead somewhere, commands print what is shown, what `tools/renew-documents` writes is up to date,
+and sentences are short."""
 import re
 import shutil
 
@@ -15,7 +15,7 @@ README_LINES = 155
 
 
 def documents():
-    """The documents that git keeps; all, where it is missing or knows of none, as in a copy without its folder."""
+    """The documents that git keeps; or all, if git is missing or knows of none, as in a copy without its folder."""
     # the folder may belong to another user
     command = ["git", "-c", f"safe.directory={ROOT}", "-C", ROOT, "ls-files", "-co", "--exclude-standard", "*.md"]
     listed = run(command).stdout.decode().split("\n") if shutil.which("git") else []
@@ -92,14 +92,13 @@ class Quotes(Case):
             self.assertEqual(len(list(quotes.definitions(document))), links, f"{document.name} links a line without a definition's name")
 
     def test_each_public_call_is_quoted(self):
-        document = ROOT / "docs/CALLING.md"
-        text = document.read_text()
+        text = "".join((ROOT / "docs" / name).read_text() for name in ("CALLING.md", "CALLING_TEX.md"))
         missing = [name for name in quotes.public_calls() if f"fn {name}" not in text]
-        self.assertFalse(missing, f"docs/CALLING.md does not quote: {', '.join(missing)}")
+        self.assertFalse(missing, f"docs/CALLING.md and CALLING_TEX.md do not quote: {', '.join(missing)}")
 
 
 class Definitions(Case):
-    """What PROMISES says of the definitions that its contracts rest on."""
+    """What PROMISES says about the definitions that its contracts rest on."""
     document = ROOT / "docs/PROMISES.md"
     files = specs.in_order(specs.named(quotes.public_sources()))
 
@@ -116,7 +115,7 @@ class Definitions(Case):
             self.assertEqual([below.name for below in specs.files_below(here) if below not in self.files[:at]], [], here.name)
 
     def test_the_imports_of_a_file_are_all_of_its_imports(self):
-        """No import of a file is read past: each line that begins with `use` is one."""
+        """No import of a file is missed: each line that begins with `use` is one."""
         for here in self.files:
             lines = [line for line in here.path.read_text().split("\n") if re.match(r"\s*(?:\w+ )*use\b", line)]
             self.assertEqual(len(specs.USE.findall(here.path.read_text())), len(lines), here.name)
@@ -151,7 +150,7 @@ def clauses_of_functions():
     for source in sorted((ROOT / "crates").glob("*/src/**/*.rt")):
         text = source.read_text()
         for begun in re.finditer(r"^ *(?:pub(?:\(crate\))? )?(?:const |extern \"C\" )*fn (\w+)", text, re.M):
-            # up to its body, or to the next function where it has none
+            # up to its body, or to the next function if it has none
             signature = re.split(r"\n *\{\n|\{\}\n|\bfn \w", text[begun.end():], maxsplit=1)[0]
             found.setdefault(begun[1], set()).update(re.findall(r"\bensures (\w+) \{", signature))
     return found
@@ -196,7 +195,7 @@ class Readme(Case):
         self.assertLessEqual(self.text.count("\n"), README_LINES)
 
     def test_its_commands_print_what_is_shown(self):
-        """So do those of TEX.md. What begins with the name of a program is a refusal, on standard error."""
+        """So do those of TEX.md. A line that begins with the name of a program is a refusal, on standard error."""
         for document, refused in (("README.md", [0, 0, 1, 1]), ("docs/TEX.md", [0, 1, 1, 1])):
             text = (ROOT / document).read_text()
             shown = re.findall(r"^    (?:\$ )?(printf .*)\n(?:\nprints\n\n)?    (.*)\n", text, re.M)
@@ -265,7 +264,7 @@ class Language(Case):
 
     @staticmethod
     def parts(answer):
-        """The texts of an answer, whose code stands as it is, and whose M(x) is markup."""
+        """The texts of an answer: its code is taken as it is, and M(x) is markup."""
         for formula, code in re.findall(r"M\(`([^`]*)`\)|`([^`]*)`", answer):
             yield answer_of(formula) if formula else code
 
@@ -377,7 +376,7 @@ class Figures(Case):
     """The figures of the READMEs match the files that the benchmarks write."""
 
     def test_ratios(self):
-        """How many times as many instructions the crate executes, by the table below that."""
+        """How many times as many instructions the crate executes, by the table below that sentence."""
         text = (ROOT / "README.md").read_text()
         least, most = re.search(r"executes (\d\.\d) to (\d\.\d) times as many instructions", text).groups()
         rows = [(int(ours), int(theirs)) for ours, theirs in re.findall(r"\| (\d+) million, (\d+) million, ", text)]

@@ -49,7 +49,7 @@ class Inputs(Streams):
     @support.each_row({f"{word} {name} at each read": (word, number)
                        for word in ANSWERS for name, number in READ_ERRORS.items()})
     def fails_at_each_read(self, word, number):
-        """One byte per call, and each call in turn fails, also the one that would report the end. Nothing after it is read."""
+        """One byte per call, and each call in turn fails, including the one that would report the end. Nothing after it is read."""
         for given, answer in ANSWERS[word]:
             self.fails_at_each("read", number, len(given) + 1, [faulty.program(), word], given, answer,
                                lambda call: (1, b"", NO_INPUT), left=lambda call, size=len(given): size - call + 1)
@@ -80,7 +80,7 @@ AROUND = range(ROOM - 4, ROOM + 1)
 
 
 class AroundTheRoom(Streams):
-    """A character of four bytes that begins before the end of what the first call gives, at it, or behind it; then the text
+    """A character of four bytes that begins before the end of what the first call gives, at that end, or after it; then the text
     ends, or has ended within the character.
     """
 
@@ -116,14 +116,14 @@ class Outputs(Streams):
 
 
 def ends(due):
-    """Some numbers of bytes after which standard error stops, up to more than are due."""
+    """Some numbers of bytes after which standard error stops, up to more than are expected."""
     return 0, 1, 9, len(due) // 2, len(due) - 1, len(due), len(due) + 41
 
 
 @support.requires("cc")
 class Errors(Streams):
-    """Standard error takes one byte a call and stops after some bytes. It then has the first bytes of what is due, and nothing else
-    changes."""
+    """Standard error takes one byte per call and stops after some bytes. It then has the first bytes of what is expected, and
+    nothing else changes."""
 
     def test_wrong_words(self):
         """They leave the input to the next reader."""
@@ -168,7 +168,7 @@ class Errors(Streams):
 class Pipes(Streams):
     @support.each_row({**{word: (word, False) for word in WORDS}, "signal": ("inline", True)})
     def nobody_reads(self, word, is_default):
-        """The reader closes its end before anything is written. The program gets an error, and no signal ends it, also
+        """The reader closes its end before anything is written. The program gets an error, and no signal ends it, even
         if the signal of a closed pipe has its default effect."""
         read, write = os.pipe()
         os.close(read)
@@ -211,7 +211,7 @@ class FullDevice(Streams):
 
 @support.requires("cc")
 class Readings(Streams):
-    """How often the program reads: two calls for a short input, of which one reports the end, and one more for each full buffer."""
+    """How often the program reads: two calls for a short input, one of which reports the end, and one more for each full buffer."""
 
     def reads(self, word, given):
         with open_input(given) as source:

@@ -26,9 +26,9 @@ class Walks(support.Case):
         return faulty.run_with([faulty.program(), "html", self.site], **told)
 
     def holds(self, done, faults=(), held=()):
-        """Checks the status, the lines, each a path below the site and a fault, and what the files hold.
+        """Checks the status, the lines (each has a path below the site, and a fault), and the contents of the files.
 
-        Files that `held` does not name hold the answer, where they stand.
+        Files that `held` does not name contain the answer for their place.
         """
         lines = b"".join(error(f"{self.site}{path}: {fault}") for path, fault in faults)
         self.expect(done, 1 if faults else 0, b"", lines)
@@ -37,8 +37,8 @@ class Walks(support.Case):
         self.assertEqual({file: (self.site / file).read_bytes() for file in due}, due)
 
 
-# Of each kind the calls that a walk makes, in order: the path and the fault that are told where it fails, if any are, and the
-# files that then keep what they held.
+# For each kind the calls that a walk makes, in order: the path and the fault that are reported if it fails, if any are, and the
+# files that then keep their contents.
 CALLS = {
     "open": [
         ("", UNLISTED, FILES),
@@ -50,7 +50,7 @@ CALLS = {
     ],
     # the bytes, and the end
     "read": [(f"/{file}", UNREAD, [file]) for file in FILES for _ in range(2)],
-    # if the list of entries breaks off, the entries before that are converted
+    # if the list of entries breaks off, the entries before that point are converted
     "list": [("", BAD_ENTRY, FILES), ("", BAD_ENTRY, []), ("/m", BAD_ENTRY, ["m/b.html", "m/c.html"]), ("/m", BAD_ENTRY, [])],
     # a path about which the system gives no information is left alone
     "look": [(None, None, kept) for kept in (FILES, ["a.html"], FILES[1:3], ["m/b.html"], ["m/c.html"], ["z.html"])],
@@ -105,7 +105,7 @@ STOPS = sorted({0, 1, 2, *range(3, len(X), 7), len(X) - 3, len(X) - 2, len(X) - 
 
 @support.requires("cc")
 class Writing(Walks):
-    """The writing of a file stops: it holds the first bytes of its answer, and all others their answers."""
+    """The writing of a file stops: it contains the first bytes of its answer, and all others contain their answers."""
 
     @support.each_row({f"error {number} after {written}": (number, written)
                        for number, written in itertools.product((28, 5, 4, 0), STOPS)})
@@ -172,12 +172,12 @@ class Rights(Walks):
 
 @support.requires("cc")
 class NoFiles(Walks):
-    """What is neither a file nor a directory is left alone, whatever its name is, and not opened: that might never end."""
+    """What is neither a file nor a directory is left alone, whatever its name is, and not opened: opening it might never end."""
 
     @support.each_row({"pipe": (os.mkfifo,), "socket": (lambda path: os.mknod(path, stat.S_IFSOCK | 0o600),),
                "link to a device": (lambda path: path.symlink_to(os.devnull),)})
     def is_left_alone(self, make):
-        """Makes something at a path, and walks the folder with it, and then the path alone."""
+        """Makes something at a path, and walks the folder with it, and then only the path."""
         self.anew()
         path = self.site / "n.html"
         make(path)
@@ -192,7 +192,7 @@ class NoFiles(Walks):
 
 
 class Full(Walks):
-    """A device is full, or a limit of what a file may hold is met, while a file is written: it holds the first bytes of its
+    """A device is full, or the limit of a file's size is reached, while a file is written: the file contains the first bytes of its
     answer, as many as the line says, and the walk goes on.
     """
     COUNT = 1000
@@ -205,7 +205,7 @@ class Full(Walks):
 
     @support.requires("cc")
     def test_device(self):
-        """Where this user may mount no device, as in a container, a call that writes fails as for a full one."""
+        """If this user may not mount devices, as in a container, a call that writes fails as for a full device."""
         self.anew()
         device = self.site / "device"
         device.mkdir()
@@ -231,8 +231,8 @@ class Full(Walks):
                 support.run(["umount", device])
 
     def test_limit(self):
-        """The system tells of the limit by a signal that ends a program, unless it is ignored, as Python has it, and
-        then by an error."""
+        """The system reports the limit by a signal that ends a program. If the signal is ignored, as in Python, it
+        reports an error instead."""
         self.anew()
         (self.site / "limited.html").write_bytes(b"$x$" * self.COUNT)
         limit = support.limit(FSIZE=20 << 10)

@@ -1,6 +1,6 @@
 """How instructions, memory and requests for memory grow with the input.
 
-Instructions are counted by cachegrind, of texts of two sizes; requests and bytes held by `counts.c`. None of these counts hangs
+Instructions are counted by cachegrind, of texts of two sizes; requests and bytes held by `counts.c`. None of these counts depends
 on what else the machine does.
 """
 import pytest
@@ -18,15 +18,15 @@ MOST_TIMES = 4.1
 OWN_BYTES = 64 << 10
 # What a formula or a document of a few bytes takes: the greatest of them was counted with 2,600 bytes.
 FEW_BYTES = 4 << 10
-# So many requests more than were counted are let pass, because a list may begin with less room. One for each 4,096 bytes is not:
-# these would be 24 more.
+# This many requests more than were counted are allowed, because a list may begin with less room. One for each 4,096 bytes is not:
+# that would be 24 more.
 MORE_REQUESTS = 10
 
 MEGABYTE = 1_000_000
 
 
 def different_texts(size):
-    """A group of texts of which no two are equal."""
+    """A group of texts, no two of which are equal."""
     return b"{" + b"".join(b"\\text{%s}" % bytes(97 + number // 26**place % 26 for place in range(5)) for number in range(size // 12)) + b"}"
 
 
@@ -36,7 +36,7 @@ def rows(name):
 
 
 # What asks for memory for each of its pieces, and how often for each: a name or a text that is spelled out is a text of its own.
-# The name of an unknown command is copied, and stands in a text that grows once. All else is written from what was read.
+# The name of an unknown command is copied, into a text that grows once. Everything else is written from what was read.
 FOR_EACH = {
     "names": ("inline", "\\operatorname{ab}", 1),
     "texts": ("inline", "\\text{ab}", 1),
@@ -54,14 +54,14 @@ ONE_AT_A_TIME = {
     "a formula of a document": ("document", 'a $[N times "x_1^2"]$ b'),
 }
 
-# The formulas of a document, and what each comes to.
+# The formulas of a document, and the result of each.
 FORMULAS = {
     "$x$": "<mi>x</mi>",
     "$x^2$": "<msup><mi>x</mi><mn>2</mn></msup>",
     "$\\frac12$": "<mfrac><mn>1</mn><mn>2</mn></mfrac>",
 }
 
-# Those of all these texts that are refused: groups that are still open, and an environment that there is not.
+# Those of all these texts that are refused: groups that are still open, and an unknown environment.
 REFUSED = {"open braces", "white space behind open braces", "groups that are still open", "a long name of an environment"}
 
 
@@ -101,7 +101,7 @@ class Memory(Growth):
         self.assertLessEqual(large, MOST_TIMES * small + OWN_BYTES, f"{small:,} bytes are held, and of four times the text {large:,}")
 
     def judge_room(self, text, answer, peak):
-        """Memory is held for the text and the answer alone, whose room is at most twice as large as they are."""
+        """Memory is held only for the text and the answer, with at most twice the room that they need."""
         self.assertLessEqual(peak, 2 * (text + answer) + OWN_BYTES, f"the text has {text:,} bytes, and the answer {answer:,}")
 
     @support.each_row({f"one at a time of {name}": row for name, row in ONE_AT_A_TIME.items()})
@@ -120,7 +120,7 @@ class Memory(Growth):
                 self.judge_room(len(document), len(answer), counts["peak"])
 
     def test_few_bytes(self):
-        """A short text takes little memory, so that many calls at once do."""
+        """A short text takes little memory, so that many calls at once take little too."""
         for formula in FORMULAS:
             for word, text in (("inline", formula.strip("$")), ("block", formula.strip("$")), ("document", formula)):
                 with self.subTest(word=word, text=text):
@@ -137,6 +137,6 @@ class Requests(Growth):
 
     @support.each_row({f"each of {name}": row for name, row in FOR_EACH.items()})
     def judge_each(self, word, piece, each):
-        """Those of 5,000 pieces more are so many for each of them, besides the doubling of what grows."""
+        """5,000 more pieces take this many for each of them, besides the doubling of what grows."""
         few, many = (self.count(word, piece.encode() * pieces)["requests"] for pieces in (5_000, 10_000))
         self.assertLessEqual(many - few, 5_000 * each + MORE_REQUESTS)

@@ -1,6 +1,6 @@
-"""`./test` counts each case, shows what failed, ends cases that do not end, and tries nothing over what is not proved.
+"""`./test` counts each case, shows what failed, ends cases that do not end, and tests nothing that is not proved.
 
-The house here has a few cases of its own, and the programs of `tests/fakes/harness` in place of `rt` and of the compiler.
+The house here has a few cases of its own, and the programs of `tests/fakes/harness` instead of `rt` and the compiler.
 """
 import os
 import signal
@@ -142,7 +142,7 @@ class Harness(Case):
                 "PROCESS": str(self.folder / "process"), **more}
 
     def comes_to(self, passed, failed, *words, before=None, **more):
-        """What `./test` with these words prints. Its last line has these numbers; its status is 1 if something
+        """The output of `./test` with these words. Its last line has these numbers; its status is 1 if something
         failed."""
         words = [sys.executable, "-B", "-m", "tests", *words]
         done = run(words, cwd=self.house, env=self.environment(**more), timeout=120, preexec_fn=before)
@@ -173,12 +173,12 @@ class Counts(Harness):
         self.assertIn("FAILED tests/test_ends.py::Ends::test_then\n", shown)
 
     def test_a_process_that_ends_after_its_cases(self):
-        """What else it had to say is then lost."""
+        """The rest of its output is then lost."""
         self.add("test_last.py")
         self.comes_to(1, 1, "test_last")
 
     def test_a_case_that_does_not_end(self):
-        """It is named, and those after it are tried, though it waits for a process that never ends."""
+        """It is named, and those after it are run, although it waits for a process that never ends."""
         self.add("test_hangs.py")
         shown = self.comes_to(1, 1, "test_hangs.HangsShortly")
         self.assertIn("Timeout", shown)
@@ -247,7 +247,7 @@ class Whole(Harness):
                 self.assertNotIn("one proved", shown)
 
     def test_no_toolchain(self):
-        """One line says what is missing and where to read on, under a heading that is there."""
+        """One line says what is missing and where to read on, under a heading that exists."""
         for words in ([], ["proofs"]):
             with self.subTest(words):
                 command = [sys.executable, "-B", "-m", "tests", *words]
@@ -279,7 +279,7 @@ class Names(Case):
             name_of("cases/none.txt:1")
 
     def test_processors(self):
-        """A quota of a container counts where it is smaller than what can be seen."""
+        """The quota of a container counts if it is smaller than what is visible."""
         quota = self.folder / "cpu.max"
         for text, count in (("max 100000", 8), ("200000 100000", 2), ("50000 100000", 1), ("1600000 100000", 8), ("", 8), (None, 8)):
             with self.subTest(text), unittest.mock.patch("tests.support.QUOTA", quota), \
@@ -294,7 +294,7 @@ class Names(Case):
 
 
 class SilentProgram(Case):
-    """`tools/try-silent-program` tries the classes that it is told, and names each that passes."""
+    """`tools/try-silent-program` tries the classes that it is given, and names each that passes."""
 
     def test_a_class_that_fails_over_a_silent_program(self):
         self.expect(run([ROOT / "tools/try-silent-program", "test_beginnings"], timeout=300), stdout=b"1 passed, 0 failed\n")

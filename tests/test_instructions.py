@@ -53,7 +53,7 @@ class TexInstructions(Counted):
 
 @support.requires("cc", "valgrind")
 class Calls(Counted):
-    """One call of the library for C: what a call does besides its formula does not show in long texts."""
+    """One call of the library for C: the cost of a call apart from its formula does not show in long texts."""
 
     @classmethod
     def setUpClass(cls):

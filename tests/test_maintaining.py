@@ -1,4 +1,4 @@
-"""The pages for maintainers name crates, files, modules and tests that there are, and each source says itself what it is."""
+"""The pages for maintainers name crates, files, modules and tests that exist, and each source says itself what it is."""
 import re
 import unittest
 
@@ -26,7 +26,7 @@ def section(page, heading):
 
 
 def tables(text):
-    """The tables of a text: of each the cells of its head, and those of its other rows."""
+    """The tables of a text: for each the cells of its head, and those of its other rows."""
     for found in re.findall(r"(?:^\|.*\n)+", text, re.M):
         head, _, *rows = ([cell.strip() for cell in line.strip("|").split("|")] for line in found.splitlines())
         yield head, rows
@@ -116,7 +116,7 @@ class Pages(unittest.TestCase):
 
 
 class Sources(unittest.TestCase):
-    """ARCHITECTURE names only some files. So each of code, of definitions and of lemmas says at its head what it is."""
+    """ARCHITECTURE names only some files. So each file of code, of definitions and of lemmas says at its head what it is."""
 
     def test_each_says_what_it_is(self):
         for pattern, begins in (("src/**/*.rt", "//! "), ("specs/*.antt", "-- "), ("proofs/*.antt", "-- ")):

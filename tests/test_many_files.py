@@ -1,4 +1,4 @@
-"""Folders of many files: whether all are converted, and what a walk takes for each file and each name."""
+"""Folders of many files: whether all are converted, and what a walk costs for each file and each name."""
 import os
 import shutil
 
@@ -47,18 +47,18 @@ class Many(Folders):
         self.are_converted()
 
     def test_little_stack(self):
-        """No stack is taken for each name of a folder, also one that is no text, nor for each line of what was not converted."""
+        """No stack is taken per name of a folder, even one that is not a text, nor per line about what was not converted."""
         self.make(20_000, text=b"$$$")
         for number in range(20_000):
             os.close(os.open(os.fsencode(self.site) + b"/%d\xff" % number, os.O_CREAT))
-        # the variables of an environment would take a part of the stack
+        # the variables of an environment would take part of the stack
         done = support.run([support.program(), "html", self.site], preexec_fn=support.limit(STACK=128 << 10), env={})
         self.expect(done, 1, b"", None)
         self.assertEqual([done.stderr.count(fault.encode()) for fault in (UNPAIRED, BAD_ENTRY)], [20_000, 20_000])
 
 
-# What a file holds, and how often a walk asks for memory for it. The formulas of a file share the room for their parts: so 20 of
-# them need 5 more requests than one, because the answer is longer, and no more.
+# The contents of a file, and how often a walk asks for memory for it. The formulas of a file share the room for their parts: so 20
+# of them need only 5 more requests than one, because the answer is longer.
 EACH_FILE = {b"$x$": 8, b"$x^2$": 11, b"$x^2$" * 20: 16, b"$\\frac12$" * 20: 16, b"no sign": 6, b"$$$": 10}
 # the names of a folder, and what was not converted: a list asks once more where it doubles
 MOST_DOUBLINGS = 6
@@ -75,7 +75,7 @@ class Counts(Folders):
         _, counts = faulty.counts_of([faulty.program(), "html", self.site])
         return counts
 
-    # a letter alone needs no parts, but scripts, fractions, and a text that is spelled out do
+    # a single letter needs no parts, but scripts, fractions, and a text that is spelled out do
     @support.each_row({"converted": (b"$x$",), "converted parts": (b"$x^2$ $\\frac12$ $\\text{ab}$",),
                        "unchanged": (b"no sign",), "refused": (b"$$$",), "no text": (b"\xff",)})
     def leaves_nothing(self, text):
@@ -94,18 +94,18 @@ class Counts(Folders):
                 self.assertLessEqual(counts["read"], (size + 3) // 4096 + 2)
                 # the folder, and the file twice
                 self.assertLessEqual(counts["open"], 3)
-                # a wait for the disk takes longer than all else
+                # a wait for the disk takes longer than everything else
                 self.assertEqual((counts["write"], counts["sync"]), (1, 0))
 
     def test_requests(self):
-        """Memory is asked for a few times for each file, and for no list of a walk more than it doubles."""
+        """Memory is requested a few times for each file, and for each list of a walk only when it doubles."""
         for text, each in EACH_FILE.items():
             with self.subTest(text):
                 few, many = self.counts(100, 0, text), self.counts(500, 0, text)
                 self.assertLessEqual(many["requests"] - few["requests"], 400 * each + MOST_DOUBLINGS)
 
     def test_names(self):
-        """A walk holds the names of one folder, and neither their paths nor more room than they need."""
+        """A walk keeps the names of one folder, and neither their paths nor more room than they need."""
         few, many = self.counts(100, 0, b"no sign"), self.counts(1_100, 0, b"no sign")
         self.assertLessEqual(many["peak"] - few["peak"], 1_000 * BYTES_OF_A_NAME)
 
@@ -116,7 +116,7 @@ class Counts(Folders):
 
 @support.requires("valgrind")
 class Instructions(Folders):
-    """Five times the files take five times the instructions, but for the sorting of their names."""
+    """Five times the files take five times the instructions, except for the sorting of their names."""
 
     @support.each_row({"converted": (b"$x$",), "unchanged": (b"no sign",), "refused": (b"$$$", 1)})
     def judge(self, text, status=0):

@@ -48,13 +48,13 @@ def convert(text, others=(), **options):
 
 
 def convert_apart(*texts):
-    """The page of each text, and its log, in a process of its own, which is ended after 20 seconds of a processor."""
+    """The page of each text, and its log, in a process of its own, which is ended after 20 processor seconds."""
     with concurrent.futures.ProcessPoolExecutor(1, multiprocessing.get_context("fork"), limit(CPU=20)) as pool:
         return list(pool.map(convert, texts))
 
 
 def calls_of(text):
-    """How many calls of functions, of Python and of C, the conversion of a text takes."""
+    """The number of function calls, in Python and in C, that the conversion of a text takes."""
     calls = collections.Counter()
     sys.setprofile(lambda frame, event, argument: calls.update([event]))
     try:
@@ -65,7 +65,7 @@ def calls_of(text):
 
 
 def seconds_for_lines(sources):
-    """The processor's seconds for finding the lines of formulas, between lines of prose: the least of three times."""
+    """The processor seconds for finding the lines of formulas, between lines of prose: the least of three times."""
     taken = []
     for _ in range(3):
         page = proved(".markdown").Page()
@@ -122,7 +122,7 @@ class Formulas(Case):
                 self.assertEqual((page.count("<math "), said), (formulas, []))
 
     def test_calls_of_functions(self):
-        """Four times the text takes four times as many, also if its formulas are refused, or stand behind backslashes."""
+        """Four times the text takes four times as many, even if its formulas are refused, or follow backslashes."""
         for pieces in (["${x$\n\n"], ["\\\\ ", "$a$ "]):
             with self.subTest(pieces):
                 texts = ["".join(piece * count for piece in pieces) for count in (100, 400)]
@@ -166,19 +166,19 @@ class Options(Case):
         self.assertEqual(found, [(None, "a"), ("3", "b"), ("7", "c"), ("12", "e"), ("15", "b"), ("15", "g"), ("17", "h")])
 
     def test_lines_behind_what_is_put_aside(self):
-        """Code, HTML and definitions have lines too, and a line may end in spaces."""
+        """Code, HTML and definitions have lines too, and a line may end with spaces."""
         text = "```\na\n```\n\n<p>\nc\n</p>\n\n[d]: e\n*[f]: g\n\n${x$\n\n$$  \n{y  \n$$  \n"
         _, said = convert(text, others=["extra"])
         self.assertEqual([line.partition("{")[0] for line in said], ["latex2mathml: line 12: ", "latex2mathml: line 15: "])
 
     def test_lines_of_white_space(self):
-        """The line of a formula with no-break spaces is found, and soon where lines of spaces stand elsewhere."""
+        """The line of a formula with no-break spaces is found, and quickly if there are lines of spaces elsewhere."""
         spaces, formula = "$$\n" + "    \n" * 30 + "x\n\n", "$$\n" + "\u00a0\n" * 30 + "{b\n$$"
         [[_, [said]]] = convert_apart(spaces + formula)
         self.assertEqual(said, f"latex2mathml: line 65: {{b: {OPEN}")
 
     def test_lines_that_end_otherwise(self):
-        """The line of a formula is found whatever ends the lines, and where it has tabs."""
+        """The line of a formula is found whatever ends the lines, and if it has tabs."""
         quotation, item = "> $$\n> {x\n> $$", "\t$$\n\t{x\ty\n\t$$"
         cases = {f"a\n\n{quotation}".replace("\n", "\r\n"): 4, "a\r\rb\r${x$": 4, "a\n\nb ${\tx\ty$": 3, f"- a\n\n{item}": 4}
         for text, line in cases.items():
@@ -199,7 +199,7 @@ class Options(Case):
         self.assertEqual(said, [f"latex2mathml: line {line}: {{x: {OPEN}" for line in range(1, 100, 2) for _ in range(2)])
 
     def test_lines_of_many_formulas(self):
-        """Four times the text takes four times as long, whether its formulas are written alike or not."""
+        """Four times the text takes four times as long, whether or not its formulas are written alike."""
         for source in ("${{x$", "${{x{}$"):
             with self.subTest(source):
                 texts = [[source.format(number) for number in range(count)] for count in (500, 2000)]
@@ -214,20 +214,20 @@ class Options(Case):
         self.assertEqual(said, ["latex2mathml: line 2: b \\foo \\bar \\baz: unknown command \\foo at column 3"])
 
     def test_strict(self):
-        """All formulas of a page that are refused are told at once."""
+        """All refused formulas of a page are reported at once."""
         self.assertIn("<math ", convert("$x$", strict=True)[0])
         self.assertEqual(convert("a\n${x$\n\n$\\foo$", strict=True),
                          (None, [f"line 2: {{x: {OPEN}\nline 4: \\foo: unknown command \\foo at column 1"]))
 
     def test_annotation(self):
-        """It has the formula as it was written, also where macros stand for parts of it and where it has several lines."""
+        """It has the formula as it was written, even if macros replace parts of it and if it has several lines."""
         page, _ = convert("$\\R<x$\n\n\\[\\frac{a}\n{\"b\"}\\]", annotation=True, macros={"R": "y"})
         self.assertEqual(re.findall('alttext="(.*?)"><semantics>', page, re.DOTALL), ["\\R&lt;x", "\\frac{a}\n{&quot;b&quot;}"])
         self.assertEqual(re.findall('<annotation encoding="application/x-tex">(.*?)</annotation></semantics></math>', page, re.DOTALL),
                          ["\\R&lt;x", '\\frac{a}\n{"b"}'])
 
     def test_no_links(self):
-        """A page asks for no script, no style sheet and no font."""
+        """A page requests no script, no style sheet and no font."""
         page, _ = convert("$x$ \\[\\mathbb{R}\\]")
         self.assertEqual(re.findall(r"<(?:script|link|style)", page), [])
 
@@ -245,7 +245,7 @@ class Options(Case):
         self.assertEqual(pages, ["<p>[x]</p>", "<p>a [y]</p>"])
 
     def test_a_converter_at_work_within_another(self):
-        """As of an extension that converts docstrings: each has its own formulas, though both have the same extension."""
+        """As in an extension that converts docstrings: each has its own formulas, although both have the same extension."""
         convert, ours = markdown().markdown, proved(".markdown").Latex2MathML()
 
         class Inner(markdown().inlinepatterns.InlineProcessor):

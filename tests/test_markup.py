@@ -31,7 +31,7 @@ def local_name(element):
 
 
 def check_element(element, parent):
-    """Whether an element obeys the child table, with all that stands in it; a `ValueError` says what does not."""
+    """Whether an element and all that it contains obey the child table; a `ValueError` says what does not."""
     name = local_name(element)
     children = [local_name(child) for child in element]
     has_text = bool(element.text) or any(child.tail for child in element)

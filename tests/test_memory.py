@@ -22,8 +22,8 @@ CALLS = {cases.key_of(heading): (name.text, text.expand().decode(), cases.with_t
 CALLS["each rule"] = ("latex_to_mathml", RULES, b"answer: " + math(OF_RULES))
 _, TEX, OF_TEX = CALLS["a formula of tex_to_mathml"]
 
-# How many allocations a copy needs: those of what is copied. In the node these are 27 nodes, each a box and a text, six other texts,
-# and seven lists, of which the four with more than four members grow once.
+# How many allocations a copy needs: those of what is copied. In the node these are 27 nodes, each a box and a text, six other
+# texts, and seven lists, four of which have more than four members and grow once.
 COPIES = {"node": 71, "token": 1, "refusal": 2}
 
 # Two formulas that a converter is given, the second one twice, and its answers with enough memory.
@@ -35,7 +35,7 @@ CONVERTED = {
         "x", r"\frac{x_i}{y \foo}", b"answer: " + X, b"refusal: unknown command \\foo at 13"),
 }
 
-# How often a converter that has done the same asks for memory: only for its answer, whose room grows.
+# How often a converter that has done the same before asks for memory: only for its answer, whose room grows.
 FOR_THE_ANSWER = 4
 
 # an argument of the program, its input, and its status and streams
@@ -88,8 +88,8 @@ class Refused(support.Case):
     def in_turn(self, words, way, judge, *, marked=False, stdin=b"", before=lambda: None):
         """Runs the command with each request refused, in this way, until a run makes fewer.
 
-        The judge is told what came of a run, and whether a request was refused in it. `before` is called before each. No run leaves
-        a block of memory that it has not freed. Returns in how many runs a request was refused.
+        The judge is given the outcome of a run, and whether a request was refused in it. `before` is called before each. No run
+        leaves a block of memory unfreed. Returns in how many runs a request was refused.
         """
         counts = self.folder / "counts"
         for number in itertools.count(1):
@@ -105,10 +105,10 @@ class Refused(support.Case):
 
 
 class Library(Refused):
-    """Calls of the library: they return out of memory, or the same as with enough memory."""
+    """Calls of the library: they return out of memory, or the same result as with enough memory."""
 
     def comes_to(self, words, way, answer, wanting):
-        """The call has this answer, or the other one if memory is wanting. Returns in how many runs it was."""
+        """The call has this answer, or the other one if it runs out of memory. Returns in how many runs it did."""
         def judge(done, is_refused):
             self.expect(done, 0, None)
             self.assertIn(done.stdout, [answer] + [wanting] * is_refused)
@@ -142,10 +142,10 @@ class Library(Refused):
 
 
 class Served(Refused):
-    """A whole program: what it does with ample memory, or one line that says that memory could not be found. Of many
-    formulas each has its reply, or one that says that memory ran out.
+    """A whole program: what it does with ample memory, or one line that says that memory could not be found. Each of many
+    formulas has its reply, or one that says that memory ran out.
 
-    Where that line, or the one that is due, finds no memory itself, there is none.
+    If there is no memory for that line, or for the expected one, there is no line.
     """
 
     def serve(self, command, given, way, due, lines):

@@ -18,7 +18,7 @@ class Site(Case):
         put(self.folder, {"mkdocs.yml": config, **{f"docs/{name}.md": text for name, text in pages.items()}})
 
     def build(self, *words, status=0):
-        """Builds the site, and returns what is said but for news."""
+        """Builds the site, and returns its messages except for news."""
         done = run_python(environment("markdown", "mkdocs"), "-m", "mkdocs", "build", *words, cwd=self.folder, timeout=120)
         self.expect(done, status, None, None)
         said = re.sub(r"\x1b\[\d+m", "", (done.stdout + done.stderr).decode())
@@ -45,7 +45,7 @@ class Site(Case):
         self.assertEqual(len(self.letters()), 5)
 
     def test_no_files(self):
-        """A page asks for nothing that one without formulas does not."""
+        """A page requests nothing that one without formulas does not."""
         asked = []
         for text in ("x", "$x$"):
             self.write(PLUGIN, index=text)
@@ -55,7 +55,7 @@ class Site(Case):
         self.assertEqual(self.letters(), ["x"])
 
     def test_warnings(self):
-        """They name the file and the line, also where metadata stand before the page, and of pages in folders."""
+        """They name the file and the line, even if metadata precedes the page, and for pages in folders."""
         pages = {"index": "---\ntitle: One\n---\n\n${x$ and\n$x$ \\({y\\)\n",
                  "deep/page": "a\n\n```math\nb\n\\foo\n```\n"}
         self.write(PLUGIN, other="$x$\n", **pages)
@@ -72,7 +72,7 @@ class Site(Case):
         self.assertEqual(re.findall('<annotation encoding="application/x-tex">(.*?)</annotation>', self.page()), ["x&lt;y"])
 
     def test_strict(self):
-        """MkDocs' own option fails the build if a formula is refused, after all of them are told."""
+        """MkDocs' own option fails the build if a formula is refused, after all of them are reported."""
         self.write(PLUGIN, index="${x$ ${y$\n", other="${z$\n")
         said = self.build("--strict", status=1)
         self.assertEqual((said.count(OPEN), "Aborted with 3 warnings in strict mode!" in said), (3, True))
@@ -80,14 +80,14 @@ class Site(Case):
         self.build("--strict")
 
     def test_a_file_of_macros(self):
-        """It is seen from the folder of mkdocs.yml, wherever MkDocs is called."""
+        """It is relative to the folder of mkdocs.yml, wherever MkDocs is called."""
         self.write(PLUGIN.replace("[latex2mathml]", "[latex2mathml: {macros: tex/macros.tex}]"), index="$\\R$\n")
         put(self.folder, {"tex/macros.tex": "\\newcommand{\\R}{\\mathbb{R}}\n"})
         self.build("-f", self.folder / "mkdocs.yml", "-d", self.folder / "site")
         self.assertEqual(self.letters(), ["ℝ"])
 
     def test_what_is_no_macro(self):
-        """The build ends before it begins, with one line that says which it is."""
+        """The build ends before it begins, with one line that says which one it is."""
         (self.folder / "macros.tex").write_text("\\R")
         for macros, said in [("{R: '{x'}", "latex2mathml: macros: \\R: { is not closed: {x"), ("macros.tex", "macros.tex:1:1: not a definition"),
                              ("none.tex", "No such file or directory"), ("{R: ['#1', 1, x]}", "has an argument with a default")]:
@@ -98,7 +98,7 @@ class Site(Case):
 
     @requires_python("pymdownx")
     def test_extensions_that_sites_use(self):
-        """Formulas in tabs, in notes and beside code, where `pymdownx` reads blocks of code."""
+        """Formulas in tabs, in notes and next to code, where `pymdownx` reads blocks of code."""
         config = PLUGIN + "markdown_extensions: [admonition, pymdownx.superfences, pymdownx.tabbed, pymdownx.highlight, toc, tables]\n"
         self.write(config, index="# A $a$\n\n!!! note\n\n    $b$\n\n    ```math\n    c\n    ```\n\n=== \"Tab\"\n\n    $d$\n\n    ```math\n    e\n    ```\n\n"
                    "```python\n$x$\n```\n\n| a |\n|---|\n| $f$ |\n")

@@ -69,7 +69,7 @@ class Calls(Package):
         self.run_tests("calls.test.cjs")
 
     def test_an_answer_longer_than_a_string(self):
-        """It is an error, and not a call that returns nothing. The library is another here, which asks for that much room."""
+        """It is an error, and not a call that returns nothing. The library here is another one, which asks for that much room."""
         package = self.copy("long")
         library = package / "lib/liblatex2mathml.a"
         library.unlink()
@@ -83,7 +83,7 @@ class Calls(Package):
                 self.expect(done, 1, stderr=Has(b"\nRangeError: The answer is longer than a string of Node can be.\n"))
 
     def test_nothing_is_kept(self):
-        """What a call takes is given back, also where it is refused: many calls take no more memory than a few."""
+        """What a call takes is given back, even if it is refused: many calls take no more memory than a few."""
         most = 100 * 300_000
         done = self.node("--expose-gc", TESTS / "memory.cjs", str(most), timeout=300)
         self.expect(done)
@@ -143,7 +143,7 @@ class Calls(Package):
 
     @requires("npm")
     def test_npm_from_a_file(self):
-        """What `npm pack` makes has all that the package needs, and its licence."""
+        """What `npm pack` makes has everything that the package needs, and its licence."""
         package = self.copy("packed")
         packed = run(["npm", "pack", "--silent"], cwd=package, env={**os.environ, "npm_config_cache": str(self.folder / "npm-cache")})
         self.expect(packed, stdout=None)
@@ -178,10 +178,10 @@ class MarkdownIt(Package):
 
     @requires("tsc")
     def test_declarations(self):
-        """TypeScript refuses those calls that `calls.ts` says, and no others."""
+        """TypeScript refuses the calls that `calls.ts` marks, and no others."""
         project, calls = self.package.parent, (TESTS / "calls.ts").read_text()
         (project / "calls.ts").write_text(calls)
-        # the types of packages that the system may have stand in no such folder
+        # the types of packages that the system may have are not in such a folder
         flags = ["--noEmit", "--strict", "--lib", "es5", "--typeRoots", "none", "--module", "node16", "--moduleResolution", "node16"]
         done = run(["tsc", *flags, "calls.ts"], cwd=project, timeout=300)
         faults = set(re.findall(r"^(\S.*),\d+\): error", done.stdout.decode(), re.MULTILINE))

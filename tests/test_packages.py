@@ -1,4 +1,4 @@
-"""The package for Debian, the source distribution, and what all packages say of themselves."""
+"""The package for Debian, the source distribution, and what all packages say about themselves."""
 import hashlib
 import json
 import os
@@ -17,12 +17,12 @@ pytestmark = pytest.mark.long
 
 COMMANDS = ("latex2mathml", "tex2mathml", "latex2mathml-site")
 
-# What Debian's installer asks of the folder of a system.
+# What Debian's installer requires in the folder of a system.
 SYSTEM = ("var/lib/dpkg/info", "var/lib/dpkg/updates", "var/lib/dpkg/triggers")
 
 
 def about():
-    """What the packages say of themselves."""
+    """What the packages say about themselves."""
     text = (ROOT / "packaging/about").read_text(encoding="utf-8")
     return {name: value.strip("'") for name, value in re.findall(r"^([A-Z]+)=(.*)$", text, re.MULTILINE)}
 
@@ -36,7 +36,7 @@ class Packages(Case):
         cls.package = cls.dist / f"latex2mathml_{cls.version}_amd64.deb"
 
     def root(self):
-        """A folder with what the package holds, as an installer unpacks it."""
+        """A folder with the contents of the package, as an installer unpacks it."""
         self.expect(run(["dpkg-deb", "--extract", self.package, self.folder / "root"]))
         return self.folder / "root"
 
@@ -74,7 +74,7 @@ class Packages(Case):
 
     @requires("pkg-config")
     def test_a_program_in_c(self):
-        """pkg-config says how to build it, and it asks for the library by its SONAME."""
+        """pkg-config says how to build it, and it requests the library by its SONAME."""
         root = self.root()
         environment = {**os.environ, "PKG_CONFIG_PATH": str(root / "usr/lib/x86_64-linux-gnu/pkgconfig"), "PKG_CONFIG_SYSROOT_DIR": str(root)}
         asked = run(["pkg-config", "--modversion", "--print-errors", "latex2mathml"], env=environment)
@@ -89,7 +89,7 @@ class Packages(Case):
 
     @requires("dpkg", "fakeroot")
     def test_it_is_installed_and_removed(self):
-        """By Debian's own program, into the folder of a system with nothing else in it. Nothing of the package stays behind."""
+        """By Debian's own program, into the folder of a system with nothing else in it. Nothing of the package is left."""
         root = self.folder
         for name in SYSTEM:
             (root / name).mkdir(parents=True)
@@ -138,7 +138,7 @@ class Packages(Case):
                 self.assertEqual(named, options)
 
     def test_source_distribution(self):
-        """A wheel is made from it alone, and is the one that is there."""
+        """A wheel that is made from it alone is the same as the one that is there."""
         [source] = (self.dist / "integrations/python").glob("*.tar.gz")
         [wheel] = (self.dist / "integrations/python").glob("*.whl")
         with tarfile.open(source) as packed:
@@ -186,7 +186,7 @@ class Packages(Case):
 
 
 class Metadata(Case):
-    """All packages say the same of who made them, and where they are."""
+    """All packages say the same about who made them, and where they are."""
 
     def test_python(self):
         project = tomllib.loads((ROOT / "integrations/python/pyproject.toml").read_text(encoding="utf-8"))["project"]

@@ -16,7 +16,7 @@ PAGES = support.ROOT / "tests/page"
 # The width of the window of a page, if it is not 1,000 pixels.
 WIDTHS = {"narrow.html": 320}
 
-# The seconds that a browser may take to start and to check a page. They are many, since only one that hangs meets them.
+# The seconds that a browser may take to start and to check a page. They are many, since only a browser that hangs reaches them.
 LONGEST = 300
 
 TALL = r"\frac{\frac{a}{b}}{\frac{c}{d}}"
@@ -129,7 +129,7 @@ def write_out(row, between, in_script):
 
 
 def settle(row):
-    """The classes as TeX changes them: a binary sign is ordinary at an end, and beside what is no operand of it."""
+    """The classes as TeX changes them: a binary sign is ordinary at an end, and next to what is not its operand."""
     classes = list(row)
     for place, kind in enumerate(classes):
         before, behind = (["end", *classes][place], [*classes, "end"][place + 1])
@@ -170,7 +170,7 @@ def insert(page, cases):
 
 
 class Gallery(support.Case):
-    """docs/gallery.html is what the program makes of its source, and shows every command."""
+    """docs/gallery.html is what the program makes from its source, and shows every command."""
 
     def test_gallery_is_of_today(self):
         source = (support.ROOT / "docs/gallery.source.html").read_bytes()

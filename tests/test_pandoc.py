@@ -113,7 +113,7 @@ class Formulas(Pandoc):
         self.assertRegex(page, r'<h1 class="title">The\s+case\s+' + re.escape(tex_answer_of("x<y")) + "</h1>")
 
     def test_images(self):
-        """The text that stands for an image has formulas as pandoc itself has them there. Its caption has the markup."""
+        """The alternative text of an image has formulas as pandoc itself has them there. Its caption has the markup."""
         source = "![The $x<y$](i.png)\n\na ![$x<y$](i.png) b ![$x<y$](i.png){alt=own} c ![d](i.png)"
         page = self.page(source, "-t", "html")
         of_pandoc = run(["pandoc", "-t", "html", "--mathml"], stdin=source.encode()).stdout.decode()
@@ -151,7 +151,7 @@ class Formulas(Pandoc):
         self.assertEqual(link, f"{target}#eq:a")
 
     def test_processes(self):
-        """One for a document, however many formulas there are, and whether some are refused. A refused definition makes them two."""
+        """One for a document, however many formulas it has, whether or not some are refused. A refused definition makes it two."""
         counter = self.script(COUNTER.format(program=tex_program()))
         lines = "\n\n".join(f"$x_{{{i}}}$" if i % 10 else f"${{{i}$" for i in range(1000))
         block, macro, wrong = "\n\n$$x$$", "\\newcommand{\\R}{x}\n\n", "\\newcommand{\\R}{#1}\n\n"
@@ -172,7 +172,7 @@ class Formulas(Pandoc):
         self.ends("$x$", "/nowhere/tex2mathml could not convert the formulas", converter="/nowhere/tex2mathml")
 
     def test_a_copy_of_the_filter(self):
-        """As the README says: the filter stands anywhere, the program is on the path, and no option is given."""
+        """As the README says: the filter is anywhere, the program is on the path, and no option is given."""
         copy = self.folder / "my filters" / FILTER.name
         put(self.folder, {f"my filters/{FILTER.name}": FILTER.read_text()})
         (self.folder / "tex2mathml").symlink_to(tex_program())
@@ -298,7 +298,7 @@ class Macros(Pandoc):
         self.expect(done, FILTER_ENDED, stderr=Has(b"tex2mathml: a_b.tex:2:2: not a definition\n"))
 
     def test_definitions_in_the_document(self):
-        """Those that pandoc leaves there hold from where they stand."""
+        """Those that pandoc leaves there hold from their place on."""
         source = ("$\\R$\n\n\\newcommand{\\R}{\\mathbb{R}}\n\\DeclareMathOperator{\\rank}{rank}\n\n$\\R\\rank$ \\def\\a#1{#1#1} $$\\a x$$\n\n"
                   "\\renewcommand{\\R}{y}\n\n$\\R$")
         page = self.page(source, "-f", "markdown-latex_macros", stderr=b"[WARNING] latex2mathml: standard input: \\R: unknown command \\R at 0\n")
@@ -313,7 +313,7 @@ class Macros(Pandoc):
         self.assertEqual(page.count(tex_answer_of("\\mathbb{R}")), 2)
 
     def test_definitions_that_are_refused(self):
-        """The others of the same raw TeX hold, and so does what stood before."""
+        """The others of the same raw TeX hold, and so do those before it."""
         source = "\\newcommand{\\a}{x}\n\\newcommand{\\b}[1][y]{z}\n\\newcommand{\\c}{w}\n\n$\\a\\c$ $\\b$"
         page = self.page(source, "-f", "markdown-latex_macros", stderr=(
             b"[WARNING] latex2mathml: standard input: \\newcommand{\\b}[1][y]{z}: optional arguments are not read\n"
@@ -413,7 +413,7 @@ class References(Pandoc):
         self.assertEqual(page.count('id="eq:a"'), 1)
 
     def test_other_links(self):
-        """A link with a text of its own keeps it, and the formulas behind it keep their places."""
+        """A link with a text of its own keeps it, and the formulas after it keep their places."""
         page = self.page("[$y$](#eq:a){reference-type=ref reference=eq:a} $z$ $$x\\label{eq:a}$$")
         self.assertEqual(re.findall(r"<math.*?</math>", page), [tex_answer_of("y"), tex_answer_of("z"), tex_answer_of("x\\label{eq:a}", "block")])
 

@@ -6,7 +6,7 @@ import time
 from tests import support
 from tests.browsers import firefox, open_browser
 
-# Signs, letters, lines, and brackets that are drawn of several pieces.
+# Signs, letters, lines, and brackets that are drawn from several pieces.
 FORMULAS = [r"\left( \frac{\frac{a}{b}}{\frac{c}{d}} \right) + \left[ x^2 \right]", r"\sqrt{\frac12} \leq \sum_{k=1}^n a_k", r"\overline{ab}",
             r"\begin{pmatrix}1 & 2 \\ 3 & 4\end{pmatrix}"]
 STYLES = {"light": "", "dark": "background: #121212; color: #eee"}
@@ -29,10 +29,10 @@ SETTINGS = {
 }
 PATH = "print.printer_Mozilla_Save_to_PDF.print_to_filename"
 
-# The seconds that Firefox may take. They are many, since only one that hangs meets them.
+# The seconds that Firefox may take. They are many, since only a Firefox that hangs reaches them.
 LONGEST = 120
 
-# An inch has so many dots. The formulas have at least so many dots that are not white, or nearly so.
+# The dots per inch, and the least number of dots of the formulas that are not white, or nearly so.
 DOTS, LIGHTEST, FEWEST = 100, 200, 1000
 
 
@@ -51,7 +51,7 @@ def is_whole(paper):
 
 
 def dots_of(paper):
-    """The first page of a PDF, a byte for each dot: 0 where it is black, 255 where it is white."""
+    """The first page of a PDF, a byte for each dot: 0 if it is black, 255 if it is white."""
     done = support.run(["pdftoppm", "-gray", "-r", str(DOTS), "-singlefile", paper])
     assert done.returncode == 0, done.stderr.decode()
     return done.stdout.split(b"\n255\n", 1)[1]

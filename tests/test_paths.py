@@ -9,7 +9,7 @@ FILES = {
 }
 CONVERTED = {**FILES, "a.html": X}
 
-# Each of these is the name of a folder, and with `.html` behind it that of a file. The longest have 250 bytes: 255 is the most.
+# Each of these is the name of a folder, and, followed by `.html`, that of a file. The longest have 250 bytes: 255 is the most.
 NAMES = [
     *".a ..a ... .html .git .well-known a. a.. a.b a..b a.html a.HTML a.htm A _a 0 1.0 node_modules out index - -a -- --help ~ a~ #a#".split(),
     *"a,b a;b a:b a@b a%20b a+b a=b a&b a|b a!b a?b a*b a\\b a'b a\"b a`b $x$ $HOME {a,b} [a] (a) <a> ^a é E\u0301 あ 𝑥 עברית".split(),
@@ -53,7 +53,7 @@ class Paths(Site):
         self.expect_files(FILES)
 
     def check_names(self, names, paths, **more):
-        """Converts what is under these paths. All files of these names, below the folder, are converted, and nothing is told."""
+        """Converts what is under these paths. All files of these names below the folder are converted, and nothing is reported."""
         self.put(dict.fromkeys(names, b"$x$"))
         for path in paths:
             self.convert(path, **more)

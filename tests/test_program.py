@@ -23,7 +23,7 @@ class Launcher(Case):
         program()  # is built first
         house = self.folder / "a house"
         (house / "tools").mkdir(parents=True)
-        # as old as they are, since a program that is older is not taken
+        # with their times, since a program that is older is not used
         for name in ("latex2mathml", "tools/built", "crates.txt"):
             shutil.copy2(ROOT / name, house / name)
         (house / "crates").symlink_to(ROOT / "crates")
@@ -42,7 +42,7 @@ class Launcher(Case):
 
 
     def test_the_program_takes_its_place(self):
-        """The launcher does not wait beside the program, leaves nothing in the folder of temporary files, and passes the words on."""
+        """The program replaces the process of the launcher, which leaves no temporary files, and passes the arguments on."""
         put(self.folder, {"tools/built": '#!/bin/sh\necho "${0%/*}/program"\n',
                           "tools/program": '#!/bin/sh\necho "$$"; printf "<%s>" "$@"\n'})
         temporary = self.folder / "temporary"
@@ -221,7 +221,7 @@ class Files(Site):
         self.assertTrue((walked / "b.html").is_symlink())
 
     def test_a_folder_in_itself(self):
-        """The system follows only a limited number of links in one path, and what is after them is left alone."""
+        """The system follows only a limited number of links in one path, and what comes after them is left alone."""
         (self.site / "d").symlink_to(".")
         self.put({"a.html": b"$x$"})
         self.convert(self.site)

@@ -29,7 +29,7 @@ def math(contents, display="inline"):
     return texts.math(contents, display).decode()
 
 
-# The type of what is wrong with a formula.
+# The type of a fault of a formula.
 FAULT = "latex2mathml_proved.rendering.Fault"
 
 # Converts a text whose markup has no room in the memory that is left, and then one whose markup has.
@@ -82,7 +82,7 @@ def refused(reason):
 
 
 def call_tex(*words):
-    """What `tex` returns, or what is known of a refusal, also behind a copy of it."""
+    """What `tex` returns, or what is known about a refusal, even after copying it."""
     try:
         return proved().tex(*words)
     except proved().TexRefused as error:
@@ -114,7 +114,7 @@ class Wheel(Case):
 
     @requires("mypy")
     def test_types(self):
-        """A checker of types takes them from the installed package."""
+        """A type checker takes them from the installed package."""
         program = self.folder / "typed.py"
         program.write_text(
             "import latex2mathml_proved\n"
@@ -124,7 +124,7 @@ class Wheel(Case):
             "latex2mathml_proved.document(b'x')\n")
         done = run(["mypy", "--strict", "--no-error-summary", "--python-executable", environment(), "--cache-dir", program.parent / "cache",
                     program], timeout=300)
-        # older checkers write the second type so
+        # older checkers write the second type like this
         said = [line.partition(": ")[2].replace(f"Union[{FAULT}, None]", f"{FAULT} | None") for line in done.stdout.decode().splitlines()]
         self.assertEqual(said, [
             'note: Revealed type is "builtins.str"', f'note: Revealed type is "{FAULT} | None"',
@@ -141,13 +141,13 @@ class Wheel(Case):
         self.expect(done, 0, b"", b"")
 
     def test_licence(self):
-        """It comes with the package, as its terms ask."""
+        """It comes with the package, as its terms require."""
         with zipfile.ZipFile(wheel()) as packed:
             [licence] = [name for name in packed.namelist() if name.endswith("/LICENSE")]
             self.assertEqual(packed.read(licence), (ROOT / "LICENSE").read_bytes())
 
     def test_what_is_opened_is_closed(self):
-        """Python would warn of a file that is left for the collector to close, and of one that is read as the locale has it."""
+        """Python would warn about a file that the collector has to close, and about one that is read in the locale's encoding."""
         script = ("import sys\nimport latex2mathml_proved.rendering as it\n"
                   "print(it.Renderer().render('x').markup)\nit.Renderer().render('{')\nit.copy_page(sys.argv[1])")
         options = ["-X", "warn_default_encoding", "-W", "always::ResourceWarning"]
@@ -180,7 +180,7 @@ class Wheel(Case):
         self.assertEqual([bool(path.stat().st_mode & 0o200) for path in (site, *site.iterdir())], [True] * 3)
 
     def test_other_systems(self):
-        """Where the library does not run, the error of the import says what it needs."""
+        """If the library does not run, the error of the import says what it needs."""
         [machine], [library] = (ask(environment(), ELSEWHERE, it) for it in ("machine", "C library"))
         self.assertEqual(machine, "latex2mathml_proved runs on Linux x86_64, and this is Linux aarch64")
         self.assertRegex(library, "^latex2mathml_proved needs the GNU C library, .*: no GLIBC_2.99$")
@@ -206,7 +206,7 @@ class Calls(Case):
         self.assertEqual(call("document", "a ${x$"), refused(UNCLOSED))
 
     def test_marked_errors(self):
-        """Where none may be, all of them are named, and a formula without any is as it was."""
+        """If none is allowed, all of them are named, and a formula without any is as it was."""
         le, less = 'marked as an error: Undefined("Command(\\"le\\")")', 'marked as an error: Undefined("Command(\\"<\\")")'
         self.assertEqual(call("formula", "x \\le y", strict=True), refused(le))
         self.assertEqual(call("formula", "\\<", True, True), refused(less))
@@ -246,14 +246,14 @@ class Tex(unittest.TestCase):
         self.assertEqual(call_tex("\\p", False, "\\newcommand{\\p}{x_i^2}"), math(power))
 
     def test_annotation(self):
-        """It is the formula as it was given, also where a macro takes the place of a part of it."""
+        """It is the formula as it was given, even if a macro replaces a part of it."""
         self.assertEqual(call_tex("x<y", False, "", True),
                          ANNOTATED.format("inline", "<mrow><mi>x</mi><mo>&lt;</mo><mi>y</mi></mrow>", "x&lt;y"))
         self.assertEqual(call_tex("\\p", True, "\\def\\p{x}", True), ANNOTATED.format("block", "<mi>x</mi>", "\\p"))
         self.assertEqual(call_tex("\\foo", False, "", True), ("unknown command \\foo at 0", "unknown command \\foo", 0, False, 1, 1, True))
 
     def test_refusals(self):
-        """A place is that of a character, wherever characters of several bytes stand before it."""
+        """A place is that of a character, even if characters of several bytes precede it."""
         for words, place, is_definition, line, column in (
                 (["x + \\foo"], 4, False, 1, 5), (["é𝟙\\foo"], 2, False, 1, 3), (["x", False, "% é\nx"], 4, True, 2, 1),
                 (["x\né\n 𝟙\\foo"], 6, False, 3, 3)):
@@ -261,7 +261,7 @@ class Tex(unittest.TestCase):
             self.assertEqual(call_tex(*words), (f"{reason} at {place}", reason, place, is_definition, line, column, True))
 
     def test_brackets_behind_commands(self):
-        """An optional argument is no part of what is drawn."""
+        """An optional argument is not part of what is drawn."""
         bracketed, plain = (re.sub("<[^>]*>", "", call_tex(latex)) for latex in ("\\smash[b]{x}", "\\smash{x}"))
         self.assertEqual(bracketed, plain)
 
@@ -333,7 +333,7 @@ class Renderings(unittest.TestCase):
         self.assertEqual(render("{" + "x " * 40)[1], "{" + "x " * 29 + "x...: { is not closed at column 1")
 
     def test_another_source(self):
-        """Code and faults have what the author wrote, in place of what is converted."""
+        """Code and faults have what the author wrote, instead of what is converted."""
         self.assertEqual(render("a\\\\\\foo", True, "a\n\n\\foo"), (
             '<code class="latex2mathml-refused" title="unknown command \\foo at line 3, column 1">a\n\n\\foo</code>',
             "a \\foo: unknown command \\foo at line 3, column 1"))

@@ -1,4 +1,4 @@
-"""The READMEs of the folder for people without Rattle, followed to the letter: in a copy of the folder or in a project beside it,
+"""The READMEs of the folder for people without Rattle, followed to the letter: in a copy of the folder or in a project next to it,
 where no toolchain can be called."""
 import os
 import pathlib
@@ -11,13 +11,13 @@ from tests.support import Case, dist, put, requires, run, scratch
 
 PACKAGES = pathlib.Path("/usr/share/nodejs")  # Debian's
 
-# Stands for the toolchain, in front of the path.
+# Replaces the toolchain, at the front of the path.
 TOOLCHAIN = """#!/bin/sh
 echo "$0 is called" >&2
 exit 127
 """
 
-# A program with the lines of the README for Rust. It shows the last of its markups, and more of what they made.
+# A program with the lines of the README for Rust. It shows the last of its markups, and other results of these lines.
 MAIN = """#![allow(unused_variables)]
 fn main() -> Result<(), Box<dyn std::error::Error>> {{
 {lines}
@@ -30,10 +30,10 @@ MEMBER = "x_i^2 \\in \\mathbb{R}"
 
 MANIFEST = '[package]\nname = "site"\nversion = "0.1.0"\nedition = "2021"\n\n'
 
-# How the plugins are imported, and that the file with these lines is read.
+# How the plugins are imported, and a line that shows that the file is read.
 IMPORTS = "{lines}\nconsole.log(typeof remarkLatex2mathml, typeof rehypeLatex2mathml);\n"
 
-# The lines of the README for Python that call, with what they are about.
+# The lines of the README for Python that make calls, with what they need.
 PYTHON = """
 import markdown
 from latex2mathml_proved.macros import definitions_of
@@ -49,7 +49,7 @@ print(markup, fault)
 
 
 def commands(readme):
-    """The commands of a README: the lines of its blocks of code that are no file, with those that a backslash continues."""
+    """The commands of a README: the lines of its blocks of code that are not files, with those that a backslash continues."""
     blocks = re.findall(r"(?:^    .*\n)+", readme, re.MULTILINE)
     return [" ".join(line.split()) for block in blocks for line in block.replace("\\\n", " ").splitlines()]
 
@@ -66,7 +66,7 @@ class Readme(Case):
         toolchain = folder / "toolchain"
         put(toolchain, {"rt": TOOLCHAIN, "rattle": TOOLCHAIN})
         kept = {name: value for name, value in os.environ.items() if not name.startswith(("LATEX2MATHML", "PYTHON", "NODE_", "npm_"))}
-        # what npm and cargo keep stands there too, and neither has a network
+        # what npm and cargo keep is there too, and neither has a network
         cls.environment = {**kept, "PATH": f"{toolchain}:{os.environ['PATH']}", "npm_config_offline": "true",
                            "npm_config_cache": str(folder / "npm"), "CARGO_NET_OFFLINE": "true", "CARGO_HOME": str(folder / "cargo")}
 
@@ -92,7 +92,7 @@ class Readme(Case):
 class OfTheFolder(Readme):
     @requires_python()
     def test_its_commands(self):
-        """All of them, in their order. Those for Python are for a virtual environment."""
+        """All of them, in order. Those for Python are for a virtual environment."""
         said = [it for it in commands(self.readme(".")) if re.match(r"printf |\./|c/|python3 ", it)]
         squares = [tex_answer_of("x_i^2", display) for display in ("inline", "block")]
         line, block, real = answer_of("x<y"), answer_of("x<y", "block"), tex_answer_of(MEMBER)
@@ -114,7 +114,7 @@ class OfThePackageForPython(Readme):
         readme = self.readme("integrations/python")
         folder = self.house / readme.partition("    cd ")[2].partition("\n")[0]
         said = re.findall(r"^    ((?:python3|venv/bin/\w+) .*)$", readme.partition("    cd ")[2], re.MULTILINE)
-        # as it says of tools that Debian has as packages
+        # as it says about tools that Debian has as packages
         python = interpreter("ensurepip", "sphinx", "markdown", "mkdocs")
         self.assertEqual(said[0], "python3 -m venv venv")
         said[0] = f"{python} -m venv --system-site-packages venv"
@@ -164,7 +164,7 @@ class OfTheFilterForPandoc(Readme):
         return done.stdout.decode()
 
     def test_its_metadata(self):
-        """Each block of it defines what formulas behind it use."""
+        """Each block of it defines what the formulas after it use."""
         blocks = re.findall(r"^    ---\n((?:    .*\n)+?)    ---\n", self.readme("integrations/pandoc"), re.MULTILINE)
         first, second = ["---\n" + re.sub("^    ", "", block, flags=re.MULTILINE) + "---\n\n" for block in blocks]
         for head, uses in ((first, {"\\RR": "\\mathbb{R}", "\\norm{x}": "\\lVert x \\rVert", "\\half{x}": "\\frac{x}{2}"}),
@@ -198,7 +198,7 @@ class OfThePackageForNode(Readme):
         return self.follow(f"NODE_PATH={PACKAGES} node {name}", self.project)
 
     def test_its_commands(self):
-        """They install the package, as a folder and as a file that needs no folder beside it."""
+        """They install the package, as a folder and as a file that needs no folder."""
         for words in self.installs():
             with self.subTest(words):
                 self.install(*words)
@@ -245,7 +245,7 @@ class OfTheCrateForRust(Readme):
         self.assertIn(f"Let {answer_of('x<y')} be.", (crate / "a.html").read_text(encoding="utf-8"))
 
     def test_its_code(self):
-        """In a project with its lines for Cargo.toml, of which the last puts the crate in the place of the other one."""
+        """In a project with its lines for Cargo.toml, the last of which replaces the other crate with this one."""
         readme = self.readme("integrations/rust")
         dependency, replacement = re.findall(r"^    (latex2mathml = .*)$", readme, re.MULTILINE)
         [patch] = re.findall(r"^    (\[patch\..*)$", readme, re.MULTILINE)

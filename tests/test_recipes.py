@@ -77,7 +77,7 @@ class Builders(Case):
         [command] = blocks("rustdoc", "sh")
         put(self.site, {"Cargo.toml": '[package]\nname = "mean"\nversion = "0.1.0"\nedition = "2018"\n',
                   "src/lib.rs": f"{comment}//!\n//! `$x$` for $5\n/// A macro\n#[macro_export]\nmacro_rules! m {{ ($a:expr, $b:expr) => {{}} }}\n"})
-        # cargo is to ask no network
+        # cargo must not use the network
         self.do(command.replace("cargo doc", "cargo doc --quiet --offline"), CARGO_TARGET_DIR=str(self.site / "target"),
                 CARGO_HOME=str(self.folder / "cargo"))
         page = (self.site / "target/doc/mean/index.html").read_text()
@@ -96,7 +96,7 @@ class Builders(Case):
 @requires_python()
 class Checks(Case):
     def test_before_a_commit(self):
-        """The hook's command fails where a formula is refused, and changes nothing."""
+        """The hook's command fails if a formula is refused, and changes nothing."""
         [entry] = re.findall(r"^ *entry: (.*)$", section("Before each commit"), re.MULTILINE)
         path = {**os.environ, "PATH": f"{environment().parent}:{os.environ['PATH']}"}
         for text, status in (("$x$", 0), ("$\\foo$", 1)):

@@ -8,7 +8,7 @@ from tests.texts import UNCLOSED, UNPAIRED, math
 CRATE = ROOT / "integrations/rust"
 MEGABYTE = 1 << 20
 
-# how a program that was written for the crate asks for it
+# how a program that was written for the crate depends on it
 MANIFEST = """[package]
 name = "site"
 version = "0.1.0"
@@ -35,7 +35,7 @@ class Crate(Case):
         return shutil.copytree(CRATE, cls.folder / name, ignore=shutil.ignore_patterns("target", "lib", "Cargo.lock"))
 
     def cargo(self, *words, folder=None, **environment):
-        # what cargo keeps for itself stands there too, since a user may have no home to write to
+        # what cargo keeps for itself is there too, since a user may have no home to write to
         environment = {"CARGO_TARGET_DIR": str(self.folder / "target"), "CARGO_HOME": str(self.folder / "cargo"), **environment}
         inherited = {name: value for name, value in os.environ.items() if name != "LATEX2MATHML_LIB"}
         command = ["cargo", words[0], "--quiet", "--offline", *words[1:]]

@@ -1,4 +1,4 @@
-"""The command `latex2mathml-site`: which parts of a page are formulas, what takes their place, and what is said of them."""
+"""The command `latex2mathml-site`: which parts of a page are formulas, what replaces them, and what is reported about them."""
 import os
 import pathlib
 import re
@@ -21,13 +21,13 @@ def convert(text, **options):
 
 
 def settings(script):
-    """The definitions that the settings in a script come to, and what is refused in them."""
+    """The definitions that result from the settings in a script, and what is refused in them."""
     macros = proved(".site.settings").macros_of(script)
     return macros.definitions, [tuple(it) for it in macros.refused]
 
 
 def due(case):
-    """The page that a case comes to: with its markup in place of each formula between `<inline>` or `<block>`."""
+    """The page that is the result of a case: each formula between `<inline>` or `<block>` is replaced by its markup."""
     return FORMULA.sub(lambda found: tex([found[2], found[1] == "block"])[0], case.answer.decode())
 
 
@@ -61,7 +61,7 @@ class Elements(Pages):
 @requires_python()
 class Refusals(Case):
     def test_places(self):
-        """The line and the column are those of what is refused in the page, also behind references and in elements."""
+        """The line and the column are those of what is refused in the page, even after references and in elements."""
         page = ("<p>é $x$ \\(a &lt; \\foo &amp;\\)\n$$\n x \\foo$$</p>\n"
                 '<pre><code class="language-math">\n &lt; \\foo\n</code></pre><script type="math/tex">&lt; \\foo</script>')
         made, formulas, faults = convert(page)
@@ -72,7 +72,7 @@ class Refusals(Case):
         self.assertIn('<code class="latex2mathml-refused" title="unknown command \\foo at column 5">a &lt; \\foo &amp;</code>', made)
 
     def test_it_is_told_again(self):
-        """A page that was converted before has the formula as code, and a second run names it too."""
+        """A page that was converted before has the formula as code, and a second run reports it too."""
         once, _, _ = convert("<p>\n$\\foo \\$$")
         twice, _, second = convert(once)
         self.assertEqual(twice, once)
@@ -116,7 +116,7 @@ class Macros(Case):
             self.assertEqual(settings(script), ("", []))
 
     def test_one_that_is_refused(self):
-        """The others hold all the same."""
+        """The others still hold."""
         definitions, [(reason, place)] = settings('macros: {a: "x", b: 7, c: "y"}')
         self.assertEqual(definitions, "\\newcommand{\\a}{x}\n\\newcommand{\\c}{y}\n")
         self.assertEqual((reason, place), ("macros: \\b is neither a text nor a list of a text and a number of arguments: 7", 8))
@@ -128,7 +128,7 @@ class Macros(Case):
         self.assertEqual((self.folder / "a.html").read_text(), page.replace("${}$", "{}").format(*tex("x")))
 
     def test_files(self):
-        """Those of a page come before those of a file, and a later file before an earlier one."""
+        """Those of a page take precedence over those of a file, and a later file over an earlier one."""
         files = {"m.tex": "\\newcommand{\\R}{x}\\newcommand{\\Q}{q}", "m.json": '{"R": "y", "S": "s"}',
                  "m.js": 'window.MathJax = {tex: {macros: {T: "t"}}}; // as MkDocs has it'}
         put(self.folder, {**files, "a.html": "$\\R \\Q \\S \\T$<script>macros: {S: 'p'}</script>"})
@@ -153,8 +153,8 @@ class Macros(Case):
 @requires_python()
 class Leftovers(Case):
     def test_whose_process_has_ended(self):
-        """The next run removes a file that was being written, unless its process still writes: not one of the same number that began
-        later, nor one that is listed after its end."""
+        """The next run removes a file that was being written, unless its process is still writing. A process with the same number
+        that began later does not count, nor does one that is listed after its end."""
         with subprocess.Popen(["sleep", "600"]) as alive:
             ended = subprocess.Popen(["true"])
             os.waitid(os.P_PID, ended.pid, os.WEXITED | os.WNOWAIT)
@@ -171,11 +171,11 @@ class Leftovers(Case):
 
 
 def began_at(process):
-    """When a process began, in the ticks of Linux."""
+    """When a process began, in ticks of Linux."""
     return pathlib.Path(f"/proc/{process}/stat").read_text().rpartition(")")[2].split()[19]
 
 
-# Runs the command where each page is written anew after it was read.
+# Runs the command in a setting where each page is written anew after it was read.
 WRITTEN_ANEW = """
 import sys
 from latex2mathml_proved.site import building, command

@@ -27,7 +27,7 @@ def summary(pages, changed, formulas, refused=0, what="changed"):
 
 
 def state(folder):
-    """The files of a folder and what they hold, with their rights and times."""
+    """The files of a folder and their contents, with their permissions and times."""
     found = {}
     for path in sorted(folder.rglob("*")):
         about = path.lstat()
@@ -37,12 +37,12 @@ def state(folder):
 
 
 def held(folder):
-    """What the files of a folder hold."""
+    """The contents of the files of a folder."""
     return {name: it[0] for name, it in state(folder).items()}
 
 
 def processes_of(group):
-    """The processes of a group that have not ended. One that has may stay listed, where nobody asks how it ended."""
+    """The processes of a group that have not ended. One that has may stay listed if nobody asks how it ended."""
     found = []
     for path in pathlib.Path("/proc").glob("[0-9]*/stat"):
         with contextlib.suppress(OSError):
@@ -72,7 +72,7 @@ class Site(Case):
             self.assertEqual((self.folder / name).read_text(), text, name)
 
     def is_clean(self):
-        """Nothing that was being written stays."""
+        """Nothing that was being written is left."""
         self.assertEqual([it for it in self.folder.rglob("*") if it.name.startswith(".latex2mathml")], [])
 
 
@@ -88,7 +88,7 @@ class Files(Site):
         self.is_clean()
 
     def test_a_second_run(self):
-        """It writes nothing, also with nothing remembered of the first."""
+        """It writes nothing, even with nothing remembered from the first."""
         self.put("a.html", "b/c.html")
         self.put("d.html", text="$\\foo$")
         said = b"d.html:1:2: \\foo: unknown command \\foo\n"
@@ -173,7 +173,7 @@ class Files(Site):
         self.assertFalse((self.folder.parent / "out").exists())
 
     def test_strict(self):
-        """Nothing is changed if a formula is refused, and all is if none is."""
+        """Nothing is changed if a formula is refused, and everything is if none is."""
         self.put("in/a.html", "in/b/c.html", "in/d.css")
         self.put("in/z.html", text="<p>\n  $\\foo$")
         before = state(self.folder)
@@ -190,7 +190,7 @@ class Files(Site):
         self.is_clean()
 
     def test_many_pages(self):
-        """Several processes make of them what one does, and name what is refused in the same order."""
+        """Several processes produce the same as one does, and report what is refused in the same order."""
         for number in range(200):
             self.put(f"in/{number % 7}/{number}.html", text=f"${number}$ $\\foo$" if number % 50 == 0 else f"${number}$")
         one = self.run_site("in", "one", "--jobs", "1", says=summary(200, 200, 200, 4), stderr=None)
@@ -199,7 +199,7 @@ class Files(Site):
         self.assertEqual(held(self.folder / "one"), held(self.folder / "four"))
 
     def test_rights(self):
-        """The page has those of the page before, and its owner."""
+        """The page has those of the previous page, and its owner."""
         self.put("a.html")
         (self.folder / "a.html").chmod(0o646)
         if not os.geteuid():
@@ -211,7 +211,7 @@ class Files(Site):
         self.holds(self.made, "a.html")
 
     def test_progress(self):
-        """A terminal shows how far a long run is, and nothing of that at its end. This run is long from its beginning."""
+        """A terminal shows the progress of a long run, and nothing of that at its end. This run counts as long from the start."""
         self.put(*(f"{number}.html" for number in range(3)))
         reader, writer = pty.openpty()
         impatient = "from latex2mathml_proved.site import command; command.PATIENCE = command.PERIOD = 0; command.script()"
@@ -226,7 +226,7 @@ class Files(Site):
 
 class Names(Site):
     def test_links_to_the_folder_itself(self):
-        """Each folder is visited once, so that cycles of links have an end."""
+        """Each folder is visited once, so that cycles of links end."""
         self.put("in/a.html", "in/b/c.html")
         for name, target in (("latest", "."), ("stable", "."), ("b/up", ".."), ("b/again", "../b"), ("whole", str(self.folder / "in"))):
             (self.folder / "in" / name).symlink_to(target)
@@ -303,7 +303,7 @@ class Hostile(Site):
         self.assertEqual((self.folder / "a.html").read_text(), part.replace("$x$", tex("x")[0], 1) * count)
 
     def test_pages_that_take_long(self):
-        """Time grows with the length of a page, whatever stands in it."""
+        """Time grows with the length of a page, whatever it contains."""
         for name, text in {
                 "comments": "<!-- $x$ ", "tags": '<a b=" $x$', "open": "<b>", "ends": "<b></i>", "dollars": "$x ", "brackets": "\\( ",
                 "signs": "<", "references": "&", "declarations": "<!", "instructions": "<?", "classes": "class=math", "attributes": "<a b=c ",
@@ -317,7 +317,7 @@ class Hostile(Site):
                 self.assertLess(after.ru_utime - before.ru_utime, 15)
 
     def test_what_may_only_be_read(self):
-        """It is named, stays as it is, and all else is converted."""
+        """It is reported, stays as it is, and everything else is converted."""
         self.put("a.html", "b/c.html", "d.html", "e/f.html")
         (self.folder / "a.html").chmod(0o444)
         (self.folder / "b").chmod(0o555)
@@ -338,8 +338,8 @@ class Hostile(Site):
         self.is_clean()
 
     def test_a_full_disk(self):
-        """Where this user may mount no device, a limit of what a file may hold takes its place. No page is lost, and a run with more room
-        converts the rest."""
+        """If this user may not mount devices, a limit on the size of a file replaces the device. No page is lost, and a run with
+        more room converts the rest."""
         device = self.folder / "device"
         device.mkdir()
         is_mounted = not run(["mount", "-t", "tmpfs", "-o", "size=400k", "tmpfs", device]).returncode
@@ -382,7 +382,7 @@ class Hostile(Site):
         return sum((self.folder / name).stat().st_size != len(text) for name in names)
 
     def waiting(self):
-        """How many new pages wait for their places."""
+        """How many new pages wait to be moved into place."""
         return sum(1 for _ in self.folder.rglob(".latex2mathml-*"))
 
     def test_killed_at_30_moments(self):
@@ -407,7 +407,7 @@ class Hostile(Site):
         self.is_clean()
 
     def wait_for_the_end_of(self, group):
-        """The processes that a run has begun end soon after it."""
+        """The processes that a run has started end soon after it."""
         end = time.monotonic() + 120
         while processes_of(group):
             if time.monotonic() > end:
@@ -416,15 +416,15 @@ class Hostile(Site):
             time.sleep(0.02)
 
     def test_interrupted(self):
-        """By Ctrl-C, which all processes of a terminal are told of, and by other signals. Nothing that was being written stays."""
+        """By Ctrl-C, which all processes of a terminal receive, and by other signals. Nothing that was being written is left."""
         for number, words in ((signal.SIGINT, []), (signal.SIGINT, ["--jobs", "1"]), (signal.SIGINT, ["--strict"]), (signal.SIGTERM, []),
                               (signal.SIGHUP, ["--jobs", "1"]), (signal.SIGINT, [f"{self.folder}.out"])):
             with self.subTest(words, number=number):
-                # where the run has ended before the signal, a longer one is tried
+                # if the run has ended before the signal, a longer one is tried
                 self.assertTrue(any(self.is_interrupted(number, words, length) for length in (300, 3_000, 15_000)))
 
     def is_interrupted(self, number, words, length):
-        """Ends a run over pages of so many lines by a signal, looks at what it leaves, and says whether it was under way."""
+        """Ends a run over pages of this many lines by a signal, looks at what it leaves, and says whether it was under way."""
         text, made = PAGE * length, self.made * length
         names = [f"{page}.html" for page in range(60)]
         out = pathlib.Path(f"{self.folder}.out")

@@ -20,7 +20,7 @@ RUN = hypothesis.settings(max_examples=COUNT, deadline=None, database=None, supp
 
 FORMULAS = ("x", "a+b", "x_1", "a &lt; b", "\\frac{1}{2}", "\\text{a b}", "a &amp;= b \\\\ c &amp;= d", "é", "\\{ x \\}")
 
-# What stands between formulas, and has none.
+# What comes between formulas, and contains none.
 OTHERS = (
     "&amp;", "&lt;", "&#36;", "&copy", "<b>", "</b>", "<p class='a'>", "</p>", '<img alt="$x$ \\(y\\)">', "<br/>", "<!-- $x$ \\(y\\) -->",
     "<code>$x$</code>", "<script>if (a < b) '$x$ \\(y\\)'</script>", "<pre>\\(x\\) <b>$y$</b></pre>", "<textarea>$x$</textarea>",
@@ -29,7 +29,7 @@ OTHERS = (
 
 PROSE = st.text("ab é\n>\"'=-/;5.\t", max_size=8)
 
-# A part of a page, with the formula that it is, if it is one: its LaTeX, and whether it stands in a block.
+# A part of a page, with the formula that it is, if it is one: its LaTeX, and whether it is in a block.
 PARTS = st.one_of(
     st.tuples(st.one_of(PROSE, st.sampled_from(OTHERS)), st.none()),
     st.builds(lambda latex: (f"\\({latex}\\)", (latex, False)), st.sampled_from(FORMULAS)),
@@ -45,7 +45,7 @@ SOUP = st.lists(st.sampled_from(
 MARKUP = re.compile(r"<math xmlns=.*?</math>|<code class=\"latex2mathml-refused\".*?</code>", re.DOTALL)
 FORMULA = r"(\\\(.+?\\\)|\\\[.+?\\\]|\$.+?\$\$?)"
 
-# In the text of these no formula is looked for.
+# No formula is looked for in the text of these.
 WITHOUT = {"script", "style", "pre", "code", "textarea", "math", "svg", "title", "option", "select", "iframe", "noscript", "xmp", "template"}
 
 
@@ -59,7 +59,7 @@ class Random(unittest.TestCase):
     @RUN
     @hypothesis.given(st.lists(PARTS, max_size=30))
     def test_formulas_alone_are_changed(self, parts):
-        # a full stop parts them, since a digit behind a dollar sign, or another one, says something of it
+        # a full stop separates them, since a digit or a dollar sign after a dollar sign affects its meaning
         page = ".".join(written for written, _ in parts) + "."
         wanted = ".".join(markup(*formula) if formula else written for written, formula in parts) + "."
         made, _, faults = convert(page)
@@ -78,7 +78,7 @@ class Random(unittest.TestCase):
 
 
 def texts_of(page):
-    """The texts of a page where formulas may stand, as html5lib reads it."""
+    """The texts of a page where formulas may be, as html5lib reads it."""
     import html5lib
     found = []
 

@@ -77,7 +77,7 @@ class Markup(Project):
                 self.assertLess(many, 8 * few + 0.05)
 
     def test_no_wrapping(self):
-        """A text that brings its environment stands as it is, and a blank line in it is nothing."""
+        """A text that brings its own environment is kept as it is, and a blank line in it is ignored."""
         for name, cells in [("align", "a &= b"), ("align*", "a &= b"), ("eqnarray", "a &=& b"), ("gather", "a"), ("multline", "a"),
                             ("flalign", "a &= b")]:
             with self.subTest(name):
@@ -88,7 +88,7 @@ class Markup(Project):
                 self.assertIn('href="#equation-one">(1)', page)
 
     def test_no_files(self):
-        """The pages of each builder ask for nothing that others without formulas do not, wherever the formulas stand."""
+        """The pages of each builder request nothing that others without formulas do not, wherever the formulas are."""
         for builder in ("html", "dirhtml", "singlehtml"):
             with self.subTest(builder):
                 self.out = self.folder / f"out-{builder}"
@@ -113,7 +113,7 @@ class Macros(Project):
         self.check('latex2mathml_macros = {"RR": r"\\mathbb{R}", r"\\norm": [r"\\lVert #1 \\rVert", 1]}\n')
 
     def test_macros_for_mathjax(self):
-        """They are taken where the project has none for this extension."""
+        """They are used if the project has none for this extension."""
         own = 'latex2mathml_macros = {"RR": r"\\mathbb{R}", "norm": r"\\lVert #1 \\rVert"}\n'
         theirs = 'mathjax3_config = {"tex": {"macros": {"RR": r"%s", "norm": [r"\\lVert #1 \\rVert", 1]}}}\n'
         self.check(theirs % r"\mathbb{R}")
@@ -121,7 +121,7 @@ class Macros(Project):
         self.check('mathjax3_config = {"loader": {}}\n' + own)
 
     def test_a_file(self):
-        """It is seen from the folder of conf.py, and pages are written anew where it has changed."""
+        """It is relative to the folder of conf.py, and pages are written anew if it has changed."""
         conf = 'latex2mathml_macros = "macros.tex"\n'
         file = self.folder / "macros.tex"
         file.write_text("\\newcommand{\\RR}{\\mathbb{C}}\n\\newcommand{\\norm}[1]{\\lVert #1 \\rVert}\n")
@@ -132,7 +132,7 @@ class Macros(Project):
         self.assertIn("ℝ", self.page())
 
     def test_what_is_no_macro(self):
-        """The build ends before it begins, and says which it is."""
+        """The build ends before it begins, and says which one it is."""
         (self.folder / "macros.tex").write_text("\n \\usepackage{bm}\n")
         for conf, said in [
             ('latex2mathml_macros = {"R2": "x"}', "latex2mathml_macros: macros: 'R2' is no name of a command"),
@@ -152,7 +152,7 @@ class Macros(Project):
         self.assertEqual((["".join(it.split()) for it in annotations], said), (["a&lt;b", "a\\\\b"], ""))
 
     def test_former_options(self):
-        """One that has no effect any more is told."""
+        """One that no longer has any effect is reported."""
         _, said = self.page_of(CONF + "latex2mathml_page = False\nlatex2mathml_strict = True\n", ":math:`x`")
         self.assertEqual(sorted(said.splitlines()), [
             "WARNING: latex2mathml_page has no effect any more: pages link no files",
@@ -291,8 +291,8 @@ class Faults(Project):
         self.assertRegex(said, r"module_of_ours\.py:docstring of module_of_ours\.f:3: WARNING: a \\foo: unknown command \\foo at line 2, column 1")
 
     def test_places(self):
-        """Where it stands in a title, a table, a note or an included file; docutils counts a title's line
-        from its end. A title has one warning, though the navigation has it too."""
+        """For a formula in a title, a table, a note or an included file; docutils counts a title's line
+        from its end. A title has one warning, although the navigation has it too."""
         (self.folder / "part.txt").write_text("Included\n:math:`{e`\n")
         _, said = self.page_of(CONF, "A :math:`{a`\n-----------\n\n========== =\n:math:`{b` c\n========== =\n\n[1]_\n\n"
                              ".. [1] A\n   :math:`{d`\n\n.. include:: part.txt")
@@ -300,7 +300,7 @@ class Faults(Project):
         self.assertEqual(places, [("index.rst", "5", "a"), ("index.rst", "8", "b"), ("index.rst", "14", "d"), ("part.txt", "2", "e")])
 
     def test_warnings_that_fail_the_build(self):
-        """Sphinx's own option names all formulas that are refused."""
+        """Sphinx's own option reports all formulas that are refused."""
         self.write(CONF, index="Title\n=====\n\n:math:`{a`\n\n.. toctree::\n\n   other\n", other="Other\n=====\n\n:math:`{b` :math:`{c`\n")
         done = self.build("-W", "--keep-going")
         self.assertEqual(done.returncode, 1)

@@ -81,12 +81,12 @@ class DeepMacros(support.Case):
         self.expect(ask(f"\\def\\a#1{{x}}\\a{{{self.OPENED}{self.CLOSED}}}"), stdout=X + b"\n")
 
     def test_body_that_is_put(self):
-        """It has more units than can be put."""
+        """It has more units than are allowed."""
         place = len("\\def\\a{}") + 2 * LEVELS
         self.expect(ask(f"\\def\\a{{{self.OPENED}{self.CLOSED}}}\\a"), 1, b"", f"tex2mathml: too many macros are expanded at {place}\n".encode())
 
     def test_cut_off(self):
-        """The outermost brace is told."""
+        """The outermost brace is reported."""
         for before in ("\\def\\a", "\\def\\a#1{x}\\a", "\\newcommand"):
             with self.subTest(before):
                 self.expect(ask(before + self.OPENED), 1, b"", f"tex2mathml: {OPEN_BRACE} at {len(before)}\n".encode())
@@ -100,7 +100,7 @@ class DeepMacros(support.Case):
 
 
 class Long(support.Case):
-    """A megabyte of each sign and of each command that needs no operand comes to an answer or a refusal."""
+    """A megabyte of each sign and of each command that needs no operand has an answer or a refusal."""
 
     def is_told(self, piece):
         done = ask(piece * (MEGABYTE // len(piece)))

@@ -15,11 +15,11 @@ MOST_TIMES = 4.1
 # what every run takes, whatever its input
 OWN_BYTES = 64 << 10
 # The text, its units, the answer, the elements and what is in them, the frames, and what is still to be written: each of these lists
-# asks once more where it doubles, which it does at most 17 times. So 100 kB of one text were counted with at most 131 requests.
+# asks again when it doubles, which it does at most 17 times. So 100 kB of one text were counted with at most 131 requests.
 MOST_REQUESTS = 150
-# how often a list doubles, up to so many members
+# how often a list doubles, up to this many members
 MOST_DOUBLINGS = 17
-# Of a second formula that is the same as the first only the input and the answers need more room, each once.
+# For a second formula that is the same as the first, only the input and the answers need more room, each once.
 MOST_FOR_ANOTHER = 3
 
 PIECES = ["x", "1", "1.5 ", "+", "x+", "\\alpha ", "x_1^2", "x''", "\\sin x", "\\frac12", "{ab}", "\\left(x\\right)", "\\text{a b}",
@@ -31,7 +31,7 @@ BETWEEN_DELIMITERS = ["x", "\\middle|", "\\frac12\\middle|"]
 # cells, rows, and rows of two cells
 IN_TABLES = ["x&", "&", "x\\\\", "\\\\", "x&y\\\\", "x\\\\[2pt]", "\\hline "]
 ENVIRONMENTS = ["matrix", "aligned", "cases"]
-# each of these looks for a mark, or for an operand, behind the white space
+# each of these looks for a mark, or for an operand, after the white space
 BEFORE_SPACES = ["\\hat ", "\\sqrt ", "\\frac1", "\\overset y"]
 
 
@@ -44,11 +44,11 @@ def nest(kind):
 
 
 def before_spaces(piece):
-    """Each piece is at the end of what ends before white space, and none may look through all of it again."""
+    """Each piece is at the end of what ends before white space, and none may scan all of the white space again."""
     return lambda count: piece * count + "x" + " " * (8 * count) + "y"
 
 
-# a name, and a text of so many pieces
+# a name, and a text of this many pieces
 TEXTS = {
     **{f"{piece} side by side": repeat("", piece, "") for piece in PIECES},
     **{f"{piece} in words": repeat("\\text{", piece, "}") for piece in IN_WORDS},
@@ -67,24 +67,24 @@ TEXTS = {
     "white space": repeat("x", " ", "y"),
     "a long name": repeat("\\operatorname{", "a", "}"),
 }
-# a case is named by its number, since a name has signs of all kinds
+# a case is named by its number, since its name may contain any sign
 NUMBERED = {str(number): row for number, row in enumerate(TEXTS.items())}
 
 
 def asked_for(text):
-    """What tables, lengths, colors and definitions may ask for, each for itself: the names of a table, the text of a length, the name
+    """What each table, length, color and definition may request: the names of a table, the text of a length, the name
     of a color, and the parts of a definition."""
     values = text.count("\\\\[") + text.count("{1em}") + text.count("{red}")
     return 2 * text.count("\\begin") + values + 3 * (text.count("\\def") + text.count("\\newcommand"))
 
 
 def asked_anew(text):
-    """What a second formula may ask for besides: the lists of a body, of an argument and of what is put are made for each formula."""
+    """What a second formula may also request: the lists of a body, an argument and a replacement are made for each formula."""
     return asked_for(text) + 3 * MOST_DOUBLINGS * ("\\def" in text)
 
 
 def pieces_in(text_of, size):
-    """How many pieces there are in a text of about so many bytes."""
+    """How many pieces there are in a text of about this many bytes."""
     few, many = (len(text_of(count).encode()) for count in (1, 1001))
     return max(size * 1000 // (many - few), 1)
 
@@ -119,7 +119,7 @@ class Instructions(Growth):
             self.assertLessEqual(many, MOST_TIMES * few, f"{few:,} for 2,000 pieces, {many:,} for 8,000")
 
     def test_rows_of_a_whole_text(self):
-        """What stands outside of tables is read as atoms up to its first `&` or `\\\\`, and then as rows: all of it at most twice."""
+        """What is outside of tables is read as atoms up to its first `&` or `\\\\`, and then as rows: all of it at most twice."""
         for text in ("x+" * 8_000 + "&", "x&" + "x&x\\\\" * 4_000, "\\frac12" * 4_000 + "\\\\x"):
             given = [text.encode(), b"\\begin{aligned}" + text.encode() + b"\\end{aligned}"]
             answers = [support.run([support.tex_program()], stdin=it) for it in given]
@@ -154,7 +154,7 @@ class Memory(Growth):
 
 @support.requires("cc")
 class Requests(Growth):
-    """Memory is asked for only where a text or a list is full, and for each table, length, color and definition."""
+    """Memory is requested only when a text or a list is full, and for each table, length, color and definition."""
 
     @support.each_row(NUMBERED)
     def judge(self, name, text_of):
@@ -165,7 +165,7 @@ class Requests(Growth):
 
 @support.requires("cc")
 class Another(Growth):
-    """A second formula is converted in the room of the first, and a third one in that of both."""
+    """A second formula is converted in the memory of the first, and a third one in that of both."""
 
     @support.each_row(NUMBERED)
     def judge(self, name, text_of):
@@ -183,7 +183,7 @@ class Another(Growth):
                 self.assertLessEqual(many - few, MOST_FOR_ANOTHER)
 
     def test_behind_a_refused_one(self):
-        """A formula that is refused leaves its room too."""
+        """A formula that is refused leaves its memory too."""
         text = "{" * 10_000
         few, many = (faulty.counts_of([support.tex_program(), "--null"], stdin="\0".join([text] * formulas + ["x"]).encode())
                      for formulas in (1, 20))

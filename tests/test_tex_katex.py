@@ -1,5 +1,5 @@
-"""The cases of `cases/tex/`, and usual names of LaTeX, against KaTeX: each is read as KaTeX reads it, but for those that `tests/katex`
-lists with the reason."""
+"""The cases of `cases/tex/`, and usual names of LaTeX, against KaTeX: each is read as KaTeX reads it, except for those that
+`tests/katex` lists with the reason."""
 import json
 import sys
 import unittest
@@ -16,10 +16,10 @@ import structure  # noqa: E402
 KATEX = Path("/usr/share/nodejs/katex")
 
 
-# the formulas that KaTeX reads otherwise, those that it refuses, and those that it reads in `aligned`
+# the formulas that KaTeX reads differently, those that it refuses, and those that it reads in `aligned`
 OTHERWISE, REFUSED, IN_ALIGNED = (cases.listed(ROOT / f"tests/katex/{name}.txt") for name in ("otherwise", "refused", "in_aligned"))
 
-# and those that it reads in a block alone
+# and those that it reads only in a block
 BLOCK_ALONE = {"\\begin{alignat*}{2}a&b\\end{alignat*}"}
 
 
@@ -31,7 +31,7 @@ def as_asked(formula):
 @requires("node")
 class AsKatexReads(Case):
     def structures(self, display, names):
-        """Of each formula of these files: the structure that is expected, and that of KaTeX, or None where it refuses it."""
+        """For each formula of these files: the expected structure, and that of KaTeX, or None if KaTeX refuses it."""
         pairs = [(case.input.decode(), case.answer) for name in names for case in cases.read(name)]
         theirs = self.structures_of_katex([as_asked(formula) for formula, _ in pairs], display)
         for (formula, contents), its in zip(pairs, theirs):
@@ -61,7 +61,7 @@ class AsKatexReads(Case):
                         self.compare(formula, ours, theirs)
 
     def test_usual_names(self):
-        """Each is read. The packages for tools took other commands in the place of these names before they used `tex_to_mathml`."""
+        """Each is read. The packages for tools replaced these names by other commands before they used `tex_to_mathml`."""
         formulas = (ROOT / "tests/katex/usual_names.txt").read_text(encoding="utf-8").splitlines()
         done = run([tex_program(), "--null"], stdin="\0".join(formulas).encode())
         self.expect(done, 0, None, b"")

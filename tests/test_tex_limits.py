@@ -1,6 +1,6 @@
 """What `tex2mathml` takes for macros: many definitions, and both limits of expansion, in instructions and in memory.
 
-A run whose answer is not the one that is due does not count: a program that gives up would count as cheap.
+A run whose answer is not the expected one does not count: a program that gives up would count as cheap.
 """
 import math
 
@@ -22,7 +22,7 @@ MOST_BYTES = 32 << 20
 
 
 class Limits(support.Case):
-    """Each comes to its answer or its refusal, in few instructions and little memory."""
+    """Each gives its answer or its refusal, with few instructions and little memory."""
 
     @support.requires("cc")
     @support.each_row(AT_LIMITS)
@@ -70,7 +70,7 @@ class Definitions(support.Case):
 
     @support.requires("valgrind")
     def test_instructions_of_one_name(self):
-        """Each takes the place of the one before it."""
+        """Each replaces the one before it."""
         self.judge(lambda count: ("\\def\\a{y}" * (count - 1) + "\\def\\a{x}", "\\a\\a"), instructions)
 
     @support.requires("cc")
@@ -79,7 +79,7 @@ class Definitions(support.Case):
 
     @support.requires("valgrind")
     def test_formulas(self):
-        """A formula takes hardly more where there are four times as many macros."""
+        """A formula takes hardly more if there are four times as many macros."""
         counts = []
         for count in (FEW, MANY):
             defined, formula = definitions(count)

@@ -1,4 +1,4 @@
-"""The program `tex2mathml`: its words, its streams, its statuses and its replies to many formulas."""
+"""The program `tex2mathml`: its arguments, its streams, its statuses and its replies to many formulas."""
 import itertools
 import os
 import re
@@ -107,7 +107,7 @@ class ManyFormulas(Case):
         self.expect(ask("--null", stdin=b"x\0\xff"), 1, b"", b"tex2mathml: The input is not UTF-8 text.\n")
 
 
-# definitions, and what may stand between them
+# definitions, and what may be between them
 WHOLE = ["\\newcommand{\\R}{\\mathbb{R}}", "\\newcommand*\\half[1]{\\frac{#1}{2}}", "\\def\\pair#1#2{(#1,#2)}", "\\DeclareMathOperator*{\\argmax}{arg\\,max}"]
 BETWEEN = "% é\n "
 
@@ -154,7 +154,7 @@ class Definitions(Case):
                     stdout=x + y + x + b"error\nunknown command \\b at 0\0")
 
     def test_nothing_defined(self):
-        """The usual macros hold, as they do behind any definitions."""
+        """The usual macros hold, as they do after any definitions."""
         for definitions in ("", " \n", "% nothing", "\\def\\a{x}"):
             with self.subTest(definitions):
                 self.answers(definitions, "x", "<mi>x</mi>")
@@ -163,7 +163,7 @@ class Definitions(Case):
                 self.assertEqual(usual.returncode, 0)
 
     def test_place_of_the_use(self):
-        """What stands in a body has the place of the macro's use, in the formula."""
+        """What comes from a body has the place of the macro's use, in the formula."""
         self.expect(self.ask("\\def\\a{\\foo}", "xy\\a"), 1, b"", b"tex2mathml: unknown command \\foo at 2\n")
 
     @each_row(cases.by_heading("tex_definition_refusals.txt"))
@@ -175,7 +175,7 @@ class Definitions(Case):
                 self.refuses(f"\n\n{definitions}", f":{int(told[0]) + 2}{told[1:]}")
 
     def test_beginnings(self):
-        """A text of definitions that is cut off is read if it is cut off between two of them, and else refused, at a place of its own."""
+        """A text of definitions that is cut off between two of them is read. Otherwise it is refused, at a place in it."""
         text, between = "", {0}
         for definition in WHOLE:
             between |= set(range(len(text + definition), len(text + definition + BETWEEN) + 1))
@@ -193,7 +193,7 @@ class Definitions(Case):
                 self.assertIn(column, range(1, len(lines[line - 1]) + 2))
 
     def test_input_is_left_alone(self):
-        """Where there are no macros, nothing is read of the input."""
+        """If there are no macros, nothing of the input is read."""
         for definitions in (b"x", b"\xff", None):
             with self.subTest(definitions), faulty.open_input(b"x") as given:
                 self.file.unlink(missing_ok=True)
@@ -253,7 +253,7 @@ class Annotations(Case):
         # white space, comments and macros too, but no character that XML forbids
         "as it was given": (
             b"\\def\\a{x} \\a % &$\1\n", b"<mi>x</mi>", "\\def\\a{x} \\a % &amp;&#x24;\ufffd\n".encode()),
-        # they are escaped in the alternative text alone
+        # they are escaped only in the alternative text
         "quotation marks": (b"x%\"'", b"<mi>x</mi>", b"x%\"'"),
     })
     def answers(self, formula, shown, tex, display=None):
@@ -269,7 +269,7 @@ class Annotations(Case):
         self.expect(ask("--annotation", stdin=b"x + \\foo"), 1, b"", b"tex2mathml: unknown command \\foo at 4\n")
 
     def test_each_case(self):
-        """An XML parser finds the formula in the annotation, and beside it what the case shows."""
+        """An XML parser finds the formula in the annotation, and next to it what the case shows."""
         of_tex = [case for name in cases.files("tex/*.txt") for case in cases.read(name)]
         done = ask("--null", "--annotation", stdin=b"".join(case.input + b"\0" for case in of_tex))
         replies = done.stdout.split(b"\0")[:-1]
@@ -294,12 +294,12 @@ ROOM = 4096
 
 @requires("cc")
 class Calls(faulty.OneByteAtATime):
-    """How often the program reads and writes, and what it does where one of these calls fails."""
+    """How often the program reads and writes, and what it does if one of these calls fails."""
 
     INPUTS = [([], b"a<\\frac12"), (["--display", "block"], "é".encode()), (["--null"], b"x\0{\0y")]
 
     def test_counted(self):
-        """A short input is read by two calls, of which one reports the end. What is put out is written by one."""
+        """A short input is read by two calls, one of which reports the end. The output is written by one."""
         for words, piece in (([], b"x"), (["--null"], b"x_1^2\0")):
             for size in (0, 1, ROOM - 1, ROOM, ROOM + 1, 1_000_000):
                 given = piece * (size // len(piece))

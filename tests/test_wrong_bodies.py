@@ -7,7 +7,7 @@ import unittest
 
 from tests.support import ROOT
 
-MOST, MOST_OF_A_CRATE = 100, 12
+MOST, MOST_OF_A_CRATE = 97, 12
 
 # a function of a module of laws: its name, and its body
 LAW = re.compile(r"^pub fn (\w+).*?(?:\{\}$|^\{\n(.*?)^\}$)", re.M | re.S)
@@ -22,7 +22,7 @@ def edits():
 
 
 def edit(path):
-    """The wrong body in this file: the function and the clause that it names, the source file, and what it replaces by what."""
+    """The wrong body in this file: the function and the clause that it names, the source file, and each replacement."""
     text = path.read_text()
     clause = re.match(r"# clause: (?:\w+::)?(\w+) (\w+) — \S.*\n", text)
     pairs = re.findall(r"^old: (.*)\nnew: (.*)$", text, re.M)

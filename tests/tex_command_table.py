@@ -1,5 +1,5 @@
-"""What `tex_to_mathml` reads: as docs/COMMANDS.md lists it, and as the tables of the code have it, which are written otherwise than
-the definitions that the page is printed from."""
+"""What `tex_to_mathml` reads: as docs/COMMANDS.md lists it, and as the tables of the code have it, which are written differently
+from the definitions that the page is printed from."""
 import functools
 import re
 
@@ -19,7 +19,7 @@ CHARACTER_DRAWN = re.compile(rf"(?:`(?P<name>[^`\\])`|a backquote) {DRAWN}")
 FUNCTION = re.compile(r"`\\([A-Za-z]+)`(?: `([^`]+)`)?")
 IN_A_BLOCK = re.compile(r"(\S) U\+([0-9A-F]{4,6})(?=\s)")
 
-# what stands behind these lines are no commands of their own, but what others take
+# what follows these lines are not commands of their own, but what others take
 TAKEN = {
     "Words": "In words, these are one character:", "Strokes": "these are one sign with a stroke:", "Delimiters": "These are delimiters:",
 }
@@ -40,7 +40,7 @@ def sections():
 
 
 def before(section):
-    """What a section says of commands of its own."""
+    """What a section says about commands of its own."""
     return sections()[section].partition(TAKEN.get(section, "\n### "))[0]
 
 
@@ -125,12 +125,12 @@ def lines_before_rows():
 
 
 def environments():
-    """What stands behind the name of each environment, and the delimiters around it."""
+    """What follows the name of each environment, and the delimiters around it."""
     found = {}
     for cells in rows(sections()["Tables"]):
         if len(cells) == 5:
             code = re.findall(r"`([^`]*)`", cells[4])
-            around = (code[0], "") if cells[4].endswith("before it") else ("", code[0]) if cells[4].endswith("behind it") else tuple(code)
+            around = (code[0], "") if cells[4].endswith("before it") else ("", code[0]) if cells[4].endswith("after it") else tuple(code)
             found.update({name: ("".join(re.findall(r"`([^`]*)`", cells[1])), around) for name in re.findall(r"`([^`]*)`", cells[0])})
     return found
 
@@ -157,7 +157,7 @@ def source(path):
 
 
 def entries(type_name, form, text):
-    """The groups of each entry of the tables of a type. There are as many as the tables say."""
+    """The groups of each entry of the tables of a type. Their number is the one that the tables state."""
     found = [match.groups() for match in re.finditer(rf"^    {type_name} \{{ {form} \}},$", text, re.M)]
     said = sum(map(int, re.findall(rf": \[{type_name}; (\d+)\] =", text)))
     assert len(found) == said > 0, f"{len(found)} of {said} {type_name} can be read"
@@ -202,7 +202,7 @@ def characters_in_the_code():
 
 
 def arms(function, file="delimiters.rt"):
-    """What a function of this file answers: its patterns, and the character of each."""
+    """The answers of a function of this file: its patterns, and the character for each."""
     body = re.search(rf"^(?:pub(?:\(crate\))? )?fn {function}\(.*?^}}$", source(file), re.M | re.S)[0]
     answers = {}
     for patterns, answer in re.findall(rf"^        ((?:(?:{TEXT}|{CHARACTER})(?: \| )?)+) => Some\((c|{CHARACTER})\),$", body, re.M):
@@ -213,7 +213,7 @@ def arms(function, file="delimiters.rt"):
 
 
 def environments_in_the_code():
-    """What stands in brackets behind the name of each environment, its argument, and the delimiters around it."""
+    """What follows the name of each environment in brackets, its argument, and the delimiters around it."""
     form = (rf"name: ({TEXT}), delimiters: (.*?), layout: [\w:]+, style: [\w:]+, bracket: Bracket::(\w+), "
             r"argument: (?:None|Some\(Argument::(\w+)\))")
     return {value(name): (bracket, argument, delimiters_around(delimiters))

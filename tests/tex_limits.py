@@ -1,8 +1,8 @@
-"""Formulas at the limits of what `tex2mathml` reads of macros, many definitions, and large tables: for the tests and for `bench/`."""
+"""Formulas at the limits of macros that `tex2mathml` reads, many definitions, and large tables: for the tests and for `bench/`."""
 import itertools
 import string
 
-# how many macros a text can use, and how many units can be put in place of them
+# how many macros a text can use, and how many units can replace them
 USES, UNITS = 1_000, 100_000
 TOO_MANY = "too many macros are expanded at {}"
 
@@ -24,12 +24,12 @@ AT_LIMITS = {
 
 
 def names(count):
-    """So many names of four letters, none of which is a word that defines."""
+    """This many names of four letters, none of which is a word that defines."""
     return ["".join(it) for it in itertools.islice(itertools.product(string.ascii_letters, repeat=4), count)]
 
 
 def definitions(count):
-    """A text of so many definitions, and a formula that uses the first and the last of them."""
+    """A text of this many definitions, and a formula that uses the first and the last of them."""
     every = names(count)
     return "".join(f"\\def\\{name}{{x}}" for name in every), f"\\{every[0]} \\{every[-1]}"
 
@@ -45,5 +45,5 @@ def column(rows):
 
 
 def nested(levels):
-    """Tables in one another."""
+    """Nested tables."""
     return "\\begin{matrix}" * levels + "x" + "\\end{matrix}" * levels

@@ -12,7 +12,7 @@ NOT_CREATED = "The file could not be created anew."
 BAD_ENTRY = "An entry of the directory could not be read."
 STOPPED = "The output stopped after {} bytes."
 UNPAIRED = "The number of dollar sings found is invalid."
-# what is due at the end of the text
+# what is expected at the end of the text
 OPEN = 'The token "{}" is expected, but the token "EOF" is found."'
 UNCLOSED = OPEN.format("RBrace")
 
@@ -24,7 +24,7 @@ def math(contents, display="inline"):
 
 
 def error(text):
-    """The line with which `latex2mathml` tells a fault."""
+    """The line with which `latex2mathml` reports a fault."""
     return ERROR + f"{text}\n".encode()
 
 

@@ -53,7 +53,7 @@ class Folder:
     def judge(self, case, lines, is_refused, is_one, is_wanting):
         """Checks the lines and the files after a walk in which a request was refused, or one and all that follow it.
 
-        `is_wanting` says that memory for the walk itself was not found; then there are no lines.
+        `is_wanting` says that the walk itself ran out of memory; then there are no lines.
         """
         case.assertEqual([name for name in FILES if not self.keeps(name) and not self.stands(name)], [], "broken files")
         if is_wanting:

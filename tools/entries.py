@@ -1,7 +1,7 @@
 """Tables of definitions as values.
 
-A word of a file in `specs/` is worth what it is defined as: other words, also those of files that it imports, are replaced by what
-they are defined as. Only what tables are made of is read: numbers, texts, lists, pairs, records, constructors, and words with one
+The value of a word of a file in `specs/` is its definition: other words, including those of files that it imports, are replaced
+by their definitions. Only what tables are made of is read: numbers, texts, lists, pairs, records, constructors, and words with one
 equation. Anything else is a `WrongForm`, which names the file.
 """
 import contextlib
@@ -23,7 +23,7 @@ class WrongForm(ValueError):
 
 @dataclass(frozen=True)
 class Made:
-    """What a constructor makes of values."""
+    """What a constructor makes from values."""
     name: str
     values: tuple = ()
 
@@ -41,7 +41,7 @@ def text_of(value):
 
 @dataclass
 class Parser:
-    """The tokens of an expression, from one place on."""
+    """The tokens of an expression, from some place on."""
     tokens: list
     at: int = 0
 
@@ -136,12 +136,12 @@ def parsed(text):
     return expression
 
 
-# Words and what they are defined as
+# Words and their definitions
 
 
 @functools.cache
 def definition(here, word):
-    """The parameters and the expression of the one equation of a word in a file of definitions."""
+    """The parameters and the expression of the only equation of a word in a file of definitions."""
     equations = re.findall(rf"^{re.escape(word)}((?: [\w-]+)*) =(?=\s)((?:.*\n?)(?:[ \t]+.*\n?|\n)*)", here.body, re.M)
     if len(equations) != 1:
         raise WrongForm(f"{here.path.name}: {word} has no equation, or more than one")
@@ -171,7 +171,7 @@ CONSTANTS = {"[]": [], "true": True, "false": False}
 
 
 def value(crate, module, word):
-    """What a word of a module is worth."""
+    """The value of a word of a module."""
     here = specs.spec(crate, module)
     if here is None:
         raise WrongForm(f"{module}.antt: {crate} has no such file")
@@ -179,7 +179,7 @@ def value(crate, module, word):
 
 
 def applied(here, word, values):
-    """What a word, as a file of definitions knows it, is worth with these values."""
+    """The value of a word, as a file of definitions knows it, for these arguments."""
     if word in BUILT_IN and len(values) == 1 and isinstance(values[0], str if word == "codes" else int):
         return BUILT_IN[word](*values)
     if word in CONSTANTS and not values:
@@ -230,7 +230,7 @@ def listed(operator, values):
 
 
 def choices(crate, module, word):
-    """What a function of a name answers, `if bytes_eq name (codes ".") then . else ..`: pairs of a name and a value."""
+    """The answers of a function of a name, `if bytes_eq name (codes ".") then . else ..`: pairs of a name and a value."""
     here = specs.spec(crate, module)
     _, expression = definition(here, word)
     while expression[0] == "if":

@@ -18,7 +18,7 @@ def by_name(names):
 
 
 def code(text):
-    """A text as code. A space stands alone in it, which keeps it."""
+    """A text as code. A space is the only thing in it, so it is kept."""
     return "a backquote" if text == "`" else f"`{text}`"
 
 
@@ -27,7 +27,7 @@ def command(name):
 
 
 def character(c):
-    """A character as it is seen: ASCII as code, a mark on a dotted circle. What cannot be seen is nothing."""
+    """A character as it is shown: ASCII as code, a mark on a dotted circle. An invisible one is nothing."""
     if c.isascii():
         return code(c)
     kind = unicodedata.category(c)[0]

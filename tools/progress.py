@@ -49,7 +49,7 @@ class Screen:
 
 
 def follow(words, log, *, on_start=lambda process: None, on_line=lambda line: None, on_second=lambda: None, **how):
-    """Runs a command to its end and returns its status. All that it prints goes to the file `log`. `on_start` is called with
+    """Runs a command to its end and returns its status. Everything that it prints goes to the file `log`. `on_start` is called with
     the process, `on_line` with each line that it prints, and `on_second` once a second meanwhile."""
     log = pathlib.Path(log)
     log.parent.mkdir(parents=True, exist_ok=True)

@@ -1,7 +1,7 @@
-"""What documents quote of the sources: lines of definitions, and signatures with their clauses.
+"""What documents quote from the sources: lines of definitions, and signatures with their clauses.
 
 A definition is linked by its line, as [`IsAnswer`](../crates/latex2mathml/specs/Documents.antt#L93). A signature is a block
-of Rust behind a comment that names its file: `<!-- quoted from crates/latex2mathml/src/lib.rt -->`.
+of Rust after a comment that names its file: `<!-- quoted from crates/latex2mathml/src/lib.rt -->`.
 """
 import re
 from dataclasses import dataclass
@@ -16,13 +16,13 @@ QUOTE = re.compile(r"<!-- quoted from (?P<path>\S+) -->\n```rust\n(?P<text>.*?)`
 LIBRARY = ("latex2mathml_tokens", "latex2mathml_trees", "latex2mathml_nodes", "latex2mathml_grammar", "latex2mathml_parser",
            "latex2mathml", "latex2mathml_elements", "latex2mathml_tex_grammar", "latex2mathml_tex")
 
-# a crate whose public calls are for the library's own crates, but for those of these files
+# a crate whose public calls are for the library's own crates, except for those of these files
 CALLED_OF = {"latex2mathml_tex_units": ("error.rt", "macros/table.rt", "position.rt")}
 
 # those of their functions that are for the library's own crates too
 OWN_FUNCTIONS = {"of_fault", "out_of_memory"}
 
-# the files whose public calls are for the library's own crates alone
+# the files whose public calls are only for the library's own crates
 OWN_CALLS = ("latex2mathml_tokens/lexeme.rt", "latex2mathml_tokens/names.rt", "latex2mathml_trees/append.rt", "latex2mathml_trees/text.rt",
              "latex2mathml_trees/width.rt", "latex2mathml_parser/formula.rt")
 

@@ -87,7 +87,7 @@ def resolve(path):
 
 
 def files_below(here):
-    """The files in which the words are defined that a file of definitions uses of others."""
+    """The files that define the words that a file of definitions uses from others."""
     words = set(WORD.findall(here.body))
     for word, path in {**here.used, **here.handed_on}.items():
         # a module under another name
@@ -99,7 +99,7 @@ def files_below(here):
 
 
 def in_order(paths):
-    """The files in which these words are defined and all that they use, crate by crate, each after those that it uses."""
+    """The files that define these words, and all that they use, crate by crate, each after those that it uses."""
     found = []
 
     def walk(here):
@@ -127,7 +127,7 @@ def library_words(specs, paths):
 
 
 def clauses(text):
-    """The contracts of the functions that a source makes public, by themselves or in a trait, and what is known of its values:
+    """The contracts of the functions that a source makes public, by themselves or in a trait, and what is known about its values:
     what `Display` prints, and the state of a stream or a site."""
     lines, in_trait = code_of(text, "//").split("\n"), False
     for at, line in enumerate(lines):
@@ -139,7 +139,7 @@ def clauses(text):
 
 
 def up_to(end, lines):
-    """The lines up to the first in which this is found, with that."""
+    """The lines up to and including the first in which this is found."""
     last = next(at for at, line in enumerate(lines) if re.search(end, line))
     return "\n".join(lines[:last + 1])
 

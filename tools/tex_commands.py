@@ -13,12 +13,12 @@ GRAMMAR = "latex2mathml_tex_grammar"
 
 ARROWS = "Arrows, which are relations"
 
-# the lists that stand first in their sections, in this order
+# the lists that come first in their sections, in this order
 FIRST = ("Italic", "Upright", "Ordinary", "Operators", "Binary operators", "Relations", ARROWS)
 
 
 def tables():
-    """The tables of tex_commands.txt, named by their headings: of each word the column behind it, or the columns."""
+    """The tables of tex_commands.txt, named by their headings: for each word the column after it, or the columns."""
     found = {}
     for line in (pathlib.Path(__file__).parent / "tex_commands.txt").read_text(encoding="utf-8").splitlines():
         if line.startswith("## "):
@@ -34,8 +34,8 @@ SAID = tables()
 
 @dataclass(frozen=True)
 class Place:
-    """Where a command stands on the page: its section, what it does, and an example in which @ is the command, if it takes anything.
-    What takes nothing stands in a list. A size stands in the column of a class."""
+    """The place of a command on the page: its section, what it does, and an example in which @ is the command, if it takes anything.
+    A command that takes nothing is in a list. A size is in the column of a class."""
     section: str
     what: str
     example: str = ""
@@ -43,7 +43,7 @@ class Place:
 
 
 def place_of(meaning):
-    """Where a command with this meaning stands, and what it draws, if that is always the same. A word that the tables do
+    """The place of a command with this meaning, and what it draws, if that is always the same. A word that the tables do
     not know is a `KeyError`."""
     match meaning:
         case Made("Shows", (symbol,)):
@@ -53,7 +53,7 @@ def place_of(meaning):
         case Made("Accent", (Made(side), int(mark), Made(width))):
             return Place("Marks, braces and stacks", f"Marks {SAID.sides[side]}, {SAID.widths[width]}"), chr(mark)
         case Made("Arrow", (int(sign),)):
-            return Place("Marks, braces and stacks", "Arrows as long as what stands above them, and below them in brackets"), chr(sign)
+            return Place("Marks, braces and stacks", "Arrows as long as what is above them and, in brackets, below them"), chr(sign)
         case Made("Brace", (Made(side), int(mark))):
             return Place("Marks, braces and stacks", f"Braces {SAID.sides[side]}, whose label is a script"), chr(mark)
     return Place(*example_of(meaning)), None
@@ -102,11 +102,11 @@ def example_of(meaning):
         case Made("Changes", (Made("ToAlphabet", (Made(alphabet),)),)):
             return "Up to the end of the group", f"letters and digits in {SAID.alphabets[alphabet]}", "{@ a}"
         case Made("Changes", (Made("ToStyle", (Made(style),)),)):
-            return "Up to the end of the group", f"all in the style of {SAID.styles[style]}", "{@ a}"
+            return "Up to the end of the group", f"everything in the style of {SAID.styles[style]}", "{@ a}"
         case Made("Changes", (Made("ToColor"),)):
-            return "Up to the end of the group", "all in a color", "{@{red} a}"
+            return "Up to the end of the group", "everything in a color", "{@{red} a}"
         case Made("Changes", (Made("Divides", (Made(rule),)),)):
-            return "Up to the end of the group", f"{SAID.fractions[rule]}, of what stands before it and behind it", "{a @ b}"
+            return "Up to the end of the group", f"{SAID.fractions[rule]}, of what precedes it and what follows it", "{a @ b}"
         case Made(name, ()):
             section, example, what = SAID.alone[name]
             return section, what, example
@@ -150,7 +150,7 @@ def usual_macros():
 
 @functools.cache
 def drawings():
-    """What each command draws, of those that always draw the same."""
+    """What each command draws, for those that always draw the same."""
     return {name: text for there in placed(commands()).values() for name, text in there.items() if text}
 
 
@@ -214,7 +214,7 @@ def cells(place, commands_there):
     return ", ".join(map(command, commands_there)), code(example), place.what
 
 
-# What is no command, or has tables of its own
+# What is not a command, or has tables of its own
 
 
 def word_lines():
@@ -223,7 +223,7 @@ def word_lines():
 
 
 def stroke_lines():
-    yield from ("", "Behind `\\not`, these are one sign with a stroke:", "")
+    yield from ("", "After `\\not`, these are one sign with a stroke:", "")
     yield from commands_drawn("Delimiters", "negated_commands")
     stroked = delimiters_by_character("negated_characters")
     yield from item("Characters", [f"{code(c)} {drawn(other)}" for c, other in sorted(stroked.items())])
@@ -243,14 +243,14 @@ def delimiter_lines():
 
 def character_lines():
     yield from ("", "### Characters", "")
-    yield from ("ASCII letters and digits stand as they are, and so do characters that are not listed here.", "")
+    yield from ("ASCII letters and digits are kept as they are, and so are characters that are not listed here.", "")
     found = placed(characters(), place_of_symbol)
     by_place = sorted(found.items(), key=lambda entry: (entry[0].section != "Letters", rank(entry[0])))
     yield from characters_drawn({f"{place.section}, {place.what[0].lower()}{place.what[1:]}": drawings for place, drawings in by_place})
 
 
 def characters_drawn(by_kind):
-    """A list of the characters that draw others, and of each kind a block of those that draw themselves."""
+    """A list of the characters that draw others, and for each kind a block of those that draw themselves."""
     others = {c: other for drawings in by_kind.values() for c, other in drawings.items() if c != other}
     yield from item("Characters that draw others", [f"{code(c)} {drawn(other)}" for c, other in sorted(others.items())])
     for kind, drawings in by_kind.items():
@@ -269,17 +269,17 @@ def environment_lines():
         except KeyError as word:
             raise WrongForm(f"the environment {name} is of a form that tools/tex_commands.py does not know: {word}") from None
     by_first = [(by_name(them), others) for others, them in rows.items()]
-    yield from table(("Environments", "Behind the name", "Columns", "Style", "Around it"),
+    yield from table(("Environments", "After the name", "Columns", "Style", "Around it"),
                      ((", ".join(map(code, them)), *others) for them, others in sorted(by_first, key=lambda row: order(row[0][0]))))
 
 
 def environment_cells(environment):
-    """The cells of the row of an environment, behind its name."""
+    """The cells of the row of an environment, after its name."""
     match environment:
         case {"delimiters": delimiters, "columns": columns, "style": Made(style), "bracket": Made(bracket), "argument": argument} \
                 if len(environment) == 5:
             behind, own = argument_text(argument), columns_text(columns)
-            said = "those said" if behind == SAID.arguments["ColumnList"] else own
+            said = "those given" if behind == SAID.arguments["ColumnList"] else own
             return ", ".join(filter(None, [SAID.brackets[bracket], behind])), said, SAID.styles[style], around(delimiters)
     raise KeyError(str(environment))
 
@@ -309,7 +309,7 @@ def around(delimiters):
         case Made("None"):
             return ""
         case Made("Some", (([], closing),)):
-            return f"{code(text_of(closing))} behind it"
+            return f"{code(text_of(closing))} after it"
         case Made("Some", ((opening, []),)):
             return f"{code(text_of(opening))} before it"
         case Made("Some", ((opening, closing),)):
@@ -321,8 +321,8 @@ def macro_lines():
     yield from ("", "### Words that define", "", "[TEX.md](TEX.md) says where macros hold, and what is refused.", "")
     found = placed(choices(GRAMMAR, "Definitions", "word_named"), place_of_word)
     yield from section_lines(found)
-    yield from ("", "### Usual macros", "", "`#1` is what the macro takes. A definition of the same name comes first.", "")
-    yield from table(("Macro", "It stands for"), map(macro_cells, sorted(usual_macros(), key=lambda macro: order(macro[0]))))
+    yield from ("", "### Usual macros", "", "`#1` is an argument of the macro. A definition of the same name takes precedence.", "")
+    yield from table(("Macro", "It expands to"), map(macro_cells, sorted(usual_macros(), key=lambda macro: order(macro[0]))))
 
 
 def macro_cells(macro):

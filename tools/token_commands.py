@@ -28,11 +28,11 @@ The characters are escaped: `\\&` and `\\And` print `<mi mathvariant="normal">&a
 `Right` and `End` have a meaning only if they end a group. Where a core is due, each is `Undefined` of its text, and
 `\\right` prints `<mtext>[PARSE ERROR: Undefined("Right")]</mtext>`.
 
-The environments are {environments}. A code point stands here only where `tex_to_mathml` draws another character, or has no such
+The environments are {environments}. A code point is given only where `tex_to_mathml` draws another character, or has no such
 command.
 """
 
-# the tokens that hold a character, and those that hold a text
+# the tokens that contain a character, and those that contain a text
 CHARACTERS = ("Letter", "Operator", "Integral", "BigOp", "Over", "Under", "Overbrace", "Underbrace")
 TEXTS = {"Paren": "p", "Function": "f", "Lim": "s", "Big": "s"}
 VALUES = {"Style": "v", "Binom": "d", "Space": "n"}
@@ -51,7 +51,7 @@ def counts():
 
 
 def place_of(name, token):
-    """The item in which a command stands, and what stands there behind it."""
+    """The item that lists a command, and what follows the command there."""
     match token:
         case Made(kind, (int(c), *others)) if kind in CHARACTERS and all(isinstance(it, Made) and not it.values for it in others):
             arrows = ", arrows" if kind == "Operator" and is_arrow(chr(c)) else ""
@@ -71,7 +71,7 @@ def drawn_here(name, text):
 
 
 def text_drawn(name, kind, text):
-    """What stands behind a command whose token holds a text: nothing, if it is the name of a function."""
+    """What follows a command whose token contains a text: nothing, if it is the name of a function."""
     if kind == "Function" and text == name:
         return ""
     return drawn_here(name, text) if len(text) == 1 else code(text)

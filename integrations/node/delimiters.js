@@ -1,8 +1,8 @@
 'use strict';
 // The rules by which markdown-it finds formulas between delimiters.
 
-// The type of a formula's token. Its `content` is the formula. Its `meta` has `isBlock`, the `source` with its delimiters and, in a
-// line, the place where the formula starts.
+// The type of a formula's token. The token's `content` is the formula. Its `meta` has `isBlock`, the `source`, which has the
+// delimiters if there are any, and, for a formula in a line, the place where it starts.
 const FORMULA = 'latex2mathml';
 
 const DOLLARS = [
@@ -14,8 +14,8 @@ const BRACKETS = [
     { open: '\\[', close: '\\]', isBlock: true },
 ];
 
-// Where the delimiter that closes a formula stands, or -1 with the place up to which none does. A backslash takes the next character
-// with it. Code that begins in a formula is code.
+// The place of the delimiter that closes a formula, or -1 with the place up to which there is none. The character after a backslash
+// is skipped. Code that begins in a formula is code.
 function findEnd(text, start, close) {
     let i = start;
     for (; i < text.length && text[i] !== '`'; i++) {
@@ -25,7 +25,7 @@ function findEnd(text, start, close) {
     return { end: -1, limit: i };
 }
 
-// The searches without a result, by the state of the parser. None is repeated, so that the time stays linear.
+// The searches without a result, for each state of the parser. None is repeated, so that the time stays linear.
 const failures = new WeakMap();
 
 function failuresOf(state) {
@@ -33,7 +33,7 @@ function failuresOf(state) {
     return failures.get(state);
 }
 
-// The end that `findEnd` finds. What does not stand between one place and the next code does not stand behind a later place there.
+// The end that `findEnd` finds. If there is none between a place and the next code, there is none after a later place there.
 function findEndOnce(state, text, start, close) {
     const found = failuresOf(state);
     const search = `${close} ${text.length}`;
@@ -45,7 +45,7 @@ function findEndOnce(state, text, start, close) {
 
 const isBlank = text => text.trim() === '';
 
-// Whether what stands between single dollar signs is no prose between two prices.
+// Whether the text between single dollar signs is not just prose between two prices.
 const isBetweenDollars = (latex, next) => latex === latex.trim() && !/[0-9]/.test(next);
 
 function addFormula(state, { open, close, isBlock }, written, meta) {
@@ -55,7 +55,7 @@ function addFormula(state, { open, close, isBlock }, written, meta) {
     return token;
 }
 
-// A formula amid other text.
+// The rule for a formula within other text.
 function inlineRule(delimiters) {
     return (state, silent) => {
         const text = state.src.slice(0, state.posMax);
@@ -81,16 +81,16 @@ function skipDollars(state, silent, open) {
     return true;
 }
 
-// The text of a line, without what stands before it in the block.
+// The text of a line, without what precedes it in the block.
 function lineOf(state, line) {
     return state.src.slice(state.bMarks[line] + state.tShift[line], state.eMarks[line]).trimEnd();
 }
 
-// A line with code, or one that opens a fence of code.
+// A line with code, or one that opens a code fence.
 const CODE = /`|^ *~~~/;
 
-// The first line, from `startLine` on, that closes the block, with whether nothing stands behind; or the line at which the block
-// ends without that. No line of a formula is blank or has code.
+// The first line from `startLine` on that closes the block, and whether nothing follows there; or the line at which the block ends
+// without being closed. No line of a formula is blank or has code.
 function findClosingLine(state, startLine, endLine, { open, close }) {
     let line = startLine;
     for (; line < endLine && !state.isEmpty(line) && state.sCount[line] >= state.blkIndent; line++) {
@@ -113,7 +113,7 @@ function closingLine(state, startLine, endLine, delimiter) {
     return -1;
 }
 
-// A formula with lines to itself. Signs at the beginning of a line make no list or heading there.
+// The rule for a formula on lines of its own. Signs at the beginning of a line make no list or heading there.
 function blockRule(delimiters) {
     return (state, startLine, endLine, silent) => {
         const indent = state.sCount[startLine];
@@ -134,10 +134,10 @@ function blockRule(delimiters) {
     };
 }
 
-// The fences of code that are formulas.
+// Whether a token is a code fence that is a formula.
 const isMathFence = token => token.type === 'fence' && /^math(\s|$)/.test(token.info.trim());
 
-// Makes formulas of the fences of code in the language `math`.
+// Turns the code fences of the language `math` into formulas.
 function fenceRule(state) {
     for (const token of state.tokens.filter(isMathFence)) {
         token.type = FORMULA;
@@ -145,7 +145,7 @@ function fenceRule(state) {
     }
 }
 
-/** Has the parser find formulas between dollar signs, in fences, and between brackets with backslashes if they are wanted. */
+/** Makes the parser find formulas between dollar signs, in fences and, if `brackets` is true, between brackets with backslashes. */
 function findFormulas(md, { brackets = true } = {}) {
     const delimiters = brackets ? [...DOLLARS, ...BRACKETS] : DOLLARS;
     md.inline.ruler.before('escape', FORMULA, inlineRule(delimiters));

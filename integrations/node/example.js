@@ -1,4 +1,4 @@
-// Prints a page of example.md.
+// Prints a page made from example.md.
 const { readFileSync } = require('node:fs');
 const markdownIt = require('markdown-it');
 const latex2mathml = require('./markdown-it.js');

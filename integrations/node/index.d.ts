@@ -1,20 +1,20 @@
 import type { Macros } from './options';
 
 /**
- * A formula, a document or a definition is refused. The message is the reason. It may quote the formula, so escape it in HTML.
+ * The error for a refused formula, document or definition. The message is the reason. It may quote the formula: escape it in HTML.
  */
 export class Refused extends Error {
-    /** The byte of the text where what is refused begins, if that is known. */
+    /** The byte of the text where the refused part begins, if it is known. */
     place?: number;
-    /** The line of that byte, if it is known, counted from 1. */
+    /** The line of that byte, counted from 1, if it is known. */
     line?: number;
-    /** Its column in characters, if it is known, counted from 1. */
+    /** The column of that byte in characters, counted from 1, if it is known. */
     column?: number;
 }
 
 /** Options of `tex`. */
 export interface TexOptions {
-    /** Whether the element also has the formula itself, as an annotation, so that a copy of it takes the LaTeX along. */
+    /** Whether the element also contains the formula itself, as an annotation, so that a copy of it includes the LaTeX. */
     annotation?: boolean;
 }
 
@@ -28,7 +28,8 @@ export function tex(formula: string, block?: boolean, definitions?: string, opti
 /**
  * Returns a text of definitions for `tex`.
  * @throws {Refused} if one of the definitions is refused
- * @throws {TypeError} if a name is no name of a command
+ * @throws {TypeError} if the macros are neither a mapping nor a text, a name is not the name of a command, a body is not a string,
+ *     or a number of arguments is not from 0 to 9
  */
 export function definitionsOf(macros: Macros): string;
 

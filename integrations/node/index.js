@@ -9,9 +9,9 @@ const addon = require(fs.existsSync(built) ? built : './prebuilt/latex2mathml.no
 const { macroDefinitions } = require('./macros.js');
 
 /**
- * A formula, a document or a definition is refused. The message is the reason. It may quote the formula, so escape it in HTML.
- * `place` is the byte of the text where what is refused begins, if that is known. `line` and `column` are the same place, in
- * characters, and count from 1.
+ * The error for a refused formula, document or definition. The message is the reason. It may quote the formula: escape it in HTML.
+ * `place` is the byte of the text where the refused part begins, if it is known. `line` and `column` are the same place, in
+ * characters, counted from 1.
  */
 class Refused extends Error {
     get name() {
@@ -29,7 +29,7 @@ function call(convert, ...words) {
     }
 }
 
-/** The place of a byte of a text, with its line and column. */
+/** Returns the place of a byte in a text, with its line and column. */
 function positionOf(text, place) {
     const lines = Buffer.from(text).toString('utf8', 0, place).split('\n');
     return { place, line: lines.length, column: Array.from(lines.at(-1)).length + 1 };
@@ -37,7 +37,7 @@ function positionOf(text, place) {
 
 /**
  * Returns the `math` element of a formula in LaTeX as authors write it, which may use the macros of a text of definitions. With the
- * option `annotation` it also has the formula itself, as an annotation.
+ * option `annotation`, the element also contains the formula itself, as an annotation.
  */
 function tex(formula, block = false, definitions = '', { annotation = false } = {}) {
     try {
@@ -49,7 +49,7 @@ function tex(formula, block = false, definitions = '', { annotation = false } = 
     }
 }
 
-/** Returns a text of definitions for `tex`, by the option `macros` of the plugins. */
+/** Returns a text of definitions for `tex`, from the option `macros` of the plugins. */
 function definitionsOf(macros) {
     if (typeof macros === 'string') {
         tex('', false, macros);

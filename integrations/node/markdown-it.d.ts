@@ -2,9 +2,9 @@ import type { Options } from './options';
 
 declare namespace latex2mathml {
     interface MarkdownItOptions extends Options {
-        /** Whether formulas also stand between `\(` and `\)` and between `\[` and `\]`, as they do without it. */
+        /** Whether formulas may also be between `\(` and `\)` and between `\[` and `\]`. The default is true. */
         brackets?: boolean;
-        /** What is called with each warning: `console.warn` without it. */
+        /** The function that is called with each warning. The default is `console.warn`. */
         warn?: (message: string) => void;
     }
 }

@@ -10,7 +10,7 @@ const escape = text => text.replace(/[&<>"$]/g, character => REFERENCES[characte
 
 const isFormula = token => token.type === FORMULA;
 
-// The formulas of a page, each with the number of its line where that is known.
+// The formulas of a page, each with the number of its line if that is known.
 function* formulas(tokens) {
     for (const token of tokens) {
         let line = token.map ? token.map[0] + 1 : NaN;
@@ -24,7 +24,7 @@ function* formulas(tokens) {
     }
 }
 
-// The text that tells what an image shows has formulas as they were written, since it holds no markup.
+// Restores the formulas in the alternative texts of images as they were written: such a text cannot contain markup.
 function restoreImageTexts(tokens) {
     for (const image of tokens.flatMap(token => token.children ?? []).filter(token => token.type === 'image')) {
         for (const child of image.children.filter(isFormula)) {
@@ -34,7 +34,7 @@ function restoreImageTexts(tokens) {
     }
 }
 
-// Where a formula stands, as far as that is known: VitePress and Eleventy tell which file it is.
+// The place of a formula, as far as it is known: VitePress and Eleventy say which file it is in.
 function place(env, line) {
     const file = env.path ?? env.page?.inputPath ?? 'Markdown';
     return Number.isNaN(line) ? file : `${file}:${line}`;

@@ -8,7 +8,7 @@ const classesOf = node => [node.properties?.className ?? []].flat();
 
 const isMath = node => classesOf(node).some(name => MATH.includes(name));
 
-// The element with the class of a formula: this one, or the code in it if it is a fence.
+// The element that has the class of a formula: this one, or the code in it if it is a fence.
 function mathIn(node) {
     const [code, ...others] = node.tagName === 'pre' ? node.children : [];
     const isFence = code?.tagName === 'code' && others.length === 0;

@@ -4,7 +4,7 @@ const { rendererOf, walk } = require('./tree.js');
 
 const isBlock = node => node.type === 'math' || node.type === 'code' && node.lang === 'math';
 
-/** The plugin, for `use(remarkLatex2mathml, options)` behind remark-math. */
+/** The plugin, for `use(remarkLatex2mathml, options)` after remark-math. */
 module.exports = function remarkLatex2mathml(options) {
     const render = rendererOf(options);
     return (tree, file) => walk(tree, node => {

@@ -1,17 +1,17 @@
 'use strict';
-// What the plugins share: their options, and what a page shows of a formula.
+// What the plugins share: their options, and what a page shows for a formula.
 const { tex, definitionsOf, Refused } = require('./index.js');
 
 // The class of a refused formula.
 const REFUSED = 'latex2mathml-refused';
 
-/** Throws an error if an option is none of these. */
+/** Throws an error if an option has none of these names. */
 function checkOptions(options, names) {
     const unknown = Object.keys(options).find(name => !names.includes(name));
     if (unknown !== undefined) throw new TypeError(`latex2mathml: there is no option ${JSON.stringify(unknown)}`);
 }
 
-/** Returns a function that converts a formula, by the options: to its markup, or to the reason why it is refused. */
+/** Returns a function that converts a formula, as the options say, to its markup or to the reason why it is refused. */
 function converterOf({ macros = {}, annotation = false }) {
     const definitions = definitionsOf(macros);
     return (latex, isBlock) => {
@@ -24,7 +24,7 @@ function converterOf({ macros = {}, annotation = false }) {
     };
 }
 
-/** Returns what a warning says of a refused formula, in one line. */
+/** Returns what a warning says about a refused formula, on one line. */
 function warningOf(latex, reason) {
     return `${latex.trim().replace(/\s+/g, ' ')}: ${reason}`;
 }

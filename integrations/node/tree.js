@@ -2,7 +2,7 @@
 // Formulas in the syntax trees of unified, for the plugins of remark and rehype.
 const { REFUSED, checkOptions, converterOf, warningOf } = require('./rendering.js');
 
-// What a message of a file says of where it comes from.
+// What a message of a file says about its origin.
 const ORIGIN = 'latex2mathml:refused';
 
 const REFERENCES = { amp: '&', lt: '<', gt: '>', quot: '"' };
@@ -25,7 +25,7 @@ const text = value => ({ type: 'text', value });
 // A tag that opens or closes an element, or the text between two tags.
 const PIECE = /<(?<end>\/?)(?<name>[a-z]+)(?<attributes>[^>]*?)(?<isEmpty>\/?)>|(?<text>[^<]+)/g;
 
-/** Returns the element that the library's markup of a formula is. */
+/** Returns the element that the library's markup of a formula describes. */
 function elementOf(markup) {
     const root = { children: [] };
     const open = [root];
@@ -49,7 +49,7 @@ function refusedElement(latex, reason) {
     return element('code', { className: [REFUSED], title: reason }, [text(latex)]);
 }
 
-/** Calls `visit` with each node of a tree and its parent, the outermost first. Where it returns true, it goes no deeper. */
+/** Calls `visit` with each node of a tree and its parent, the outermost first. Where it returns true, the walk goes no deeper. */
 function walk(tree, visit) {
     const pending = [{ node: tree }];
     while (pending.length > 0) {
@@ -68,7 +68,7 @@ function textOf(node) {
     return found;
 }
 
-/** Returns a function that renders a formula as an element, by the options of the plugins, and reports it if it is refused. */
+/** Returns a function that renders a formula as an element, as the plugins' options say, and reports it if it is refused. */
 function rendererOf(options = {}) {
     checkOptions(options, ['macros', 'annotation', 'strict']);
     const convert = converterOf(options);

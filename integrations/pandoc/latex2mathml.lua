@@ -1,13 +1,13 @@
---- Turns the formulas of a document into MathML, where pandoc writes HTML or EPUB.
+--- Converts the formulas of a document to MathML if pandoc writes HTML or EPUB.
 --
 --     pandoc --lua-filter latex2mathml.lua -s a.md -o a.html
 --
--- The document is walked twice. The first walk gathers formulas, definitions and labels. Then the program `tex2mathml` converts the
--- formulas, all in one run; it runs once more if a definition is refused. The second walk puts the results in.
+-- The filter walks the document twice. The first walk gathers formulas, definitions and labels. Then the program `tex2mathml`
+-- converts all formulas in one run; it runs once more if a definition is refused. The second walk inserts the results.
 
 local re = require 're'
 
--- groups may be nested deeper than the few hundred levels that are the default
+-- groups may be nested more deeply than the default of a few hundred levels allows
 require('lpeg').setmaxstack(1000000)
 
 local function fail(message, ...)
@@ -16,8 +16,8 @@ end
 
 -- Raw TeX ------------------------------------------------------------------------------------------------------------
 
---- The parts of raw TeX that matter here, in turn, up to a brace that is not closed. Anything else is passed over. What fails at one
---- place stops early, so that the time stays linear.
+--- The parts of raw TeX that matter here, in order, up to a brace that is not closed. Everything else is skipped. A rule that fails
+--- at a place stops early, so that the time stays linear.
 local RAW_TEX = re.compile([=[
   parts       <- {| (definition / environment / reference / command / group / comment / [^{])* |}
   definition  <- {| {:kind: '' -> 'definition' :} {:text: { (new / def / operator) } :} |}
@@ -48,12 +48,12 @@ local function defined_name(definition)
   return definition:match('^\\%a+%*?[%s{]*(\\%a+)') or definition:match('^\\%a+%*?[%s{]*(\\?.)')
 end
 
---- A formula without comments, which hide what they hold.
+--- A formula without its comments, whose contents do not count.
 local function without_comments(source)
   return (source:gsub('\\%%', '  '):gsub('%%[^\n]*', ''))
 end
 
---- The labels of a formula, in turn.
+--- The labels of a formula, in order.
 local function labels_of(source)
   local labels = {}
   for label in without_comments(source):gmatch('\\label%s*{([^{}]+)}') do
@@ -64,20 +64,20 @@ end
 
 -- Options ------------------------------------------------------------------------------------------------------------
 
---- What holds if the metadata do not say otherwise.
+--- The options that hold unless the metadata say otherwise.
 local function default_options()
   return {
-    program = 'tex2mathml', -- the program's path, or its name if it is on the path
+    program = 'tex2mathml', -- the program's path, or its name if it is on the search path
     strict = false, -- whether a refused formula ends the run
     definitions = false, -- a file of definitions, for the program
     macros = {}, -- definitions, each with its name
-    annotation = false, -- whether the MathML also has the formula itself
+    annotation = false, -- whether the MathML also contains the formula itself
   }
 end
 
 local type_of = pandoc.utils.type
 
---- The one element of a value, or nil: blocks may hold it in a paragraph.
+--- The only element of a value, or nil. In blocks, it may be inside a paragraph.
 local function only_element(value)
   local only = #value == 1 and value[1] or nil
   if only and (only.t == 'Para' or only.t == 'Plain') then
@@ -86,7 +86,7 @@ local function only_element(value)
   return only
 end
 
---- The TeX that a value of the metadata stands for, or nil if pandoc has not kept it as it was written. It reads metadata as
+--- The TeX that a value of the metadata represents, or nil if pandoc has not kept it as it was written. Pandoc reads metadata as
 --- Markdown, where a backslash before a comma disappears.
 local function tex_of(value)
   if type_of(value) == 'string' then
@@ -103,7 +103,7 @@ local function tex_of(value)
   return only.text
 end
 
---- The number of arguments of a macro: the highest behind a `#`.
+--- The number of arguments of a macro: the highest digit after a `#`.
 local function count_arguments(body)
   local count = 0
   for digit in body:gsub('##', ''):gmatch('#(%d)') do
@@ -112,7 +112,7 @@ local function count_arguments(body)
   return count
 end
 
---- A definition of a macro, by its name and what it stands for: TeX, or a list of TeX and the number of arguments.
+--- The definition of a macro, from its name and its value: TeX, or a list of TeX and the number of arguments.
 local function definition_of(name, value)
   local is_list = type_of(value) == 'List'
   local body = tex_of(is_list and value[1] or value)
@@ -121,7 +121,7 @@ local function definition_of(name, value)
   end
   local count = is_list and value[2] and tonumber(pandoc.utils.stringify(value[2])) or count_arguments(body)
   local command = name:match('^\\') and name or '\\' .. name
-  -- a comment at the end of the body does not reach the brace
+  -- a comment at the end of the body must not reach the brace
   local last = body:find('%%') and '\n' or ''
   local arguments = count > 0 and ('[%d]'):format(count) or ''
   return {name = command, text = ('\\newcommand{%s}%s{%s%s}'):format(command, arguments, body, last), is_option = true}
@@ -142,7 +142,7 @@ local function definitions_in(value)
   return definitions
 end
 
---- The definitions of the option `macros`, in the order of their names.
+--- The definitions of the option `macros`: those of a mapping in the order of their names, those of a text in its own order.
 local function macros_of(value)
   if type_of(value) ~= 'table' then
     return definitions_in(value)
@@ -171,7 +171,7 @@ local READERS = {
   macros = function(_, value) return macros_of(value) end,
 }
 
---- Takes the options out of the metadata: those in `latex2mathml`, and those that are written `latex2mathml-NAME`.
+--- Takes the options out of the metadata: those in `latex2mathml`, and those named `latex2mathml-NAME`.
 local function take_options(meta)
   local given = {}
   local mapping = meta.latex2mathml or {}
@@ -199,14 +199,14 @@ local function take_options(meta)
   return options
 end
 
--- What is wrong ------------------------------------------------------------------------------------------------------
+-- Warnings and errors ------------------------------------------------------------------------------------------------
 
---- The text in one line.
+--- The text on one line.
 local function in_one_line(text)
   return text:gsub('%s+', ' '):match('^ ?(.-) ?$')
 end
 
---- Says what is wrong, as a warning of one line, or as an error that ends the run.
+--- Reports what is wrong, as a warning of one line, or as an error that ends the run.
 local function report(options, source, reason)
   local files = table.concat(PANDOC_STATE.input_files, ', '):gsub('^%-?$', 'standard input')
   local message = ('%s: %s: %s'):format(files, in_one_line(source), reason)
@@ -218,8 +218,8 @@ end
 
 -- The first walk -----------------------------------------------------------------------------------------------------
 
---- Gathers the formulas of a document with the number of definitions before each, the definitions, the numbers of labels, and the
---- references in raw TeX.
+--- Gathers the formulas of a document (each with the number of definitions before it), the definitions, the numbers of labels, and
+--- the references in raw TeX.
 local function gather(document, definitions)
   local formulas, numbers, last_number, references = {}, {}, 0, {}
 
@@ -256,7 +256,7 @@ local function gather(document, definitions)
   return formulas, numbers, references
 end
 
---- Says which references find no formula. A `\ref` may be to something else.
+--- Reports each `\eqref` that finds no formula. A `\ref` may refer to something else.
 local function check_references(options, references, numbers)
   for _, reference in ipairs(references) do
     if reference.type == 'eqref' and not numbers[reference.label] then
@@ -267,8 +267,8 @@ end
 
 -- The program --------------------------------------------------------------------------------------------------------
 
---- The program's reply to each text, in turn: whether it is markup, and the markup or the reason why there is none. The first line of
---- a text says whether the formula stands in a line or in a block.
+--- The program's reply to each text, in order: whether it is markup, and the markup or the reason why there is none. The first line
+--- of a text says whether the formula is for a line of text or for a block of its own.
 local function ask(options, texts)
   local words = pandoc.List {'--null', '--display', 'each'}
   if options.definitions then
@@ -289,7 +289,7 @@ local function ask(options, texts)
   return replies
 end
 
---- The texts of the first definitions, a line for each.
+--- The texts of the first `count` definitions, each followed by a line feed. An empty one is left out.
 local function texts_of(definitions, count)
   local texts = {}
   for i = 1, count do
@@ -298,7 +298,7 @@ local function texts_of(definitions, count)
   return table.concat(texts)
 end
 
---- The replies to the definitions, each alone, and then to the formulas, each behind the definitions that stand before it.
+--- The replies to the definitions, each alone, and then to the formulas, each after the definitions that precede it.
 local function ask_about(options, definitions, formulas)
   local texts = {}
   for i, definition in ipairs(definitions) do
@@ -306,20 +306,20 @@ local function ask_about(options, definitions, formulas)
   end
   for _, formula in ipairs(formulas) do
     formula.before = texts_of(definitions, formula.definitions)
-    -- a NUL would end the formula, and Markdown reads one as this character too
+    -- a NUL would end the formula, and Markdown also reads it as this character
     local source = formula.source:gsub('\0', '\u{FFFD}')
     texts[#texts + 1] = (formula.is_block and 'block\n' or 'inline\n') .. formula.before .. source
   end
   return ask(options, texts)
 end
 
---- Whether nothing is drawn, as of a definition.
+--- Whether the markup draws nothing, like that of a definition.
 local function is_empty(markup)
   return markup:match('^<math[^>]*></math>$') or markup:match('^<math[^>]*><semantics><mrow></mrow><annotation')
 end
 
---- Keeps the definitions that define something and are nothing else, and says what is wrong with the others. Returns whether all are
---- kept.
+--- Keeps the definitions that define something and do nothing else, and reports what is wrong with the others. Returns whether all
+--- are kept.
 local function check_definitions(options, definitions, replies)
   local all = true
   for i, definition in ipairs(definitions) do
@@ -336,12 +336,12 @@ local function check_definitions(options, definitions, replies)
   return all
 end
 
---- The reason with its place in the formula, before which the program read definitions.
+--- The reason with its place in the formula alone: the program read the definitions before it.
 local function without_definitions(reason, definitions)
   return (reason:gsub(' at (%d+)$', function(place) return (' at %d'):format(tonumber(place) - #definitions) end))
 end
 
---- The markup with an annotation of the formula alone, where it has one that begins with the definitions, a line for each.
+--- The markup with an annotation of the formula alone, if it has one that begins with the definitions, a line for each.
 local function without_annotated_definitions(markup, definitions)
   local _, count = definitions:gsub('\n', '')
   local function formula_of(start, text)
@@ -382,7 +382,7 @@ local function markup_of(formula)
   return formula.markup
 end
 
---- The formula with its numbers beside it. It is the target of its labels.
+--- The formula with its numbers next to it. It is the target of its labels.
 local function with_numbers(formula, numbers)
   local shown, targets = {}, pandoc.Inlines {}
   for i, label in ipairs(formula.labels) do
@@ -437,7 +437,7 @@ local function put(document, formulas, numbers)
     return #inlines > 0 and inlines or nil
   end
 
-  --- Gives a reference of pandoc's LaTeX reader, which shows the label in brackets, the number in place of it.
+  --- Replaces the text of a reference from pandoc's LaTeX reader, which is the label in brackets, by the number.
   local function number_link(link)
     local label, kind = link.attributes.reference, link.attributes['reference-type']
     local number = label and numbers[label]
@@ -447,7 +447,7 @@ local function put(document, formulas, numbers)
     end
   end
 
-  --- Gives an image the text that stands for it, in which formulas stand as they were written: no markup stands there.
+  --- Sets the alternative text of an image, in which formulas appear as they were written: it cannot contain markup.
   local function keep_alt(image)
     local has_math = false
     image.caption:walk {Math = function() has_math = true end}
@@ -472,7 +472,7 @@ end
 
 -- The document -------------------------------------------------------------------------------------------------------
 
---- Gives the page the title's text, in which formulas stand as they were written: no markup stands there.
+--- Sets the page's title to the text of the document's, in which formulas appear as they were written: it cannot contain markup.
 local function keep_title(meta)
   if meta.title and not meta.pagetitle then
     meta.pagetitle = pandoc.utils.stringify(meta.title)

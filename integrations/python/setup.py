@@ -1,4 +1,4 @@
-"""Makes a wheel for the machines that the shared library runs on. What it is and where it stands, pyproject.toml says."""
+"""Makes a wheel for the machines that the shared library runs on. pyproject.toml says what the package is and where it is."""
 import pathlib
 import re
 import subprocess
@@ -10,13 +10,13 @@ LIBRARY = pathlib.Path("src/latex2mathml_proved/liblatex2mathml.so")
 
 
 def wanted_glibc():
-    """The version of the GNU C library that the shared library asks for, as (2, 14)."""
+    """Returns the version of the GNU C library that the shared library requires, such as (2, 14)."""
     symbols = subprocess.run(["objdump", "-T", LIBRARY], check=True, capture_output=True, text=True).stdout
     return max(tuple(map(int, version)) for version in re.findall(r"GLIBC_(\d+)\.(\d+)", symbols))
 
 
 class PlatformDistribution(Distribution):
-    """One that holds more than Python, though it has nothing to compile."""
+    """A distribution that contains more than Python, though it has nothing to compile."""
 
     def has_ext_modules(self):
         return True

@@ -1,4 +1,4 @@
-//! Finds `liblatex2mathml.a`: in the folder that LATEX2MATHML_LIB names, or else in the folder `lib` beside this file.
+//! Finds `liblatex2mathml.a`: in the folder that LATEX2MATHML_LIB names, or else in the folder `lib` next to this file.
 
 use std::env;
 use std::path::PathBuf;

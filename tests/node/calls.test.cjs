@@ -51,7 +51,7 @@ for (const latex of ['', 'x_i^2', '\\frac12', 'é𝑥', '\\text{if } x', 'x'.rep
     });
 }
 
-// the place is that of the byte, and é has two
+// the place counts bytes, and é has two
 for (const [call, message, place, line, column] of [
     [() => tex('é + \\foo'), 'unknown command \\foo at 5', 5, 1, 5],
     [() => tex('x', false, '\\def\\a{y} x'), 'not a definition at 10', 10, 1, 11],
@@ -77,7 +77,7 @@ for (const latex of ['x<y', 'x', '\\def\\a{x} \\a % é &']) {
 
 test('definitions', () => assert.equal(tex('\\a', true, '\\def\\a{x}\n'), texAnswerOf('x', 'block')));
 
-// macros, and what a formula with them means without
+// macros, a formula that uses them, and one without macros that means the same
 for (const [macros, latex, meaning] of [
     [{ '\\RR': '\\mathbb{R}' }, 'x \\in \\RR', 'x \\in \\mathbb{R}'],
     [{ RR: '\\mathbb{R}' }, '\\RR', '\\mathbb{R}'],

@@ -22,7 +22,7 @@ function rendered(source, options = {}, env = {}) {
     return [md.render(source, env), warnings];
 }
 
-// Tests pages without warnings, in which `<i>x</i>` and `<b>x</b>` stand for the markup of x in a line and in a block.
+// Tests pages without warnings, in which `<i>x</i>` and `<b>x</b>` represent the markup of x in a line and in a block.
 function testPages(pages, options) {
     for (const [source, page] of pages) {
         test(source, () => {

@@ -14,7 +14,7 @@ const element = (tagName, className, ...children) => ({
 });
 const root = (...children) => ({ type: 'root', children });
 
-// The file of a run, which keeps the messages.
+// A file for a run, which keeps the messages.
 function fileOf() {
     const messages = [];
     return {
@@ -82,7 +82,7 @@ test('remark: code', () => {
     assert.deepEqual([other, inline], [{ type: 'code', lang: 'js', value: 'x' }, { type: 'inlineCode', value: 'x' }]);
 });
 
-// elements, and how their formula is shown
+// elements, and how the formula in each is shown
 for (const [of, node, word] of [
     ['remark-math 6, in a block', element('pre', undefined, element('code', ['language-math', 'math-display'], text('x'))), 'block'],
     ['a fence', element('pre', undefined, element('code', ['language-math'], text('x'))), 'block'],

@@ -1,4 +1,4 @@
-// What the pages of cases share: each tells what it found, and sends it to the test that opened it.
+// What the pages of cases share: each page records what it found, and sends it to the test that opened it.
 'use strict';
 const judgements = [];
 function is(name, found, due) {
@@ -12,7 +12,7 @@ const box = element => element.getBoundingClientRect();
 const style = element => getComputedStyle(element);
 const values = (id, selector, name) => all(id, selector).map(element => element.getAttribute(name)).join(' ');
 
-// What is drawn of a token, without the spaces that it has.
+// The box of what is drawn of a token, without the token's own spaces.
 function glyphs(token) {
     const range = document.createRange();
     range.selectNodeContents(token);
@@ -21,7 +21,7 @@ function glyphs(token) {
 
 const isFirefox = CSS.supports('-moz-appearance', 'none');
 
-// Judges the page, and sends what was found. What a function throws is a judgement that failed.
+// Judges the page, and sends what was found. If a function throws an error, that is a judgement that failed.
 function judgeNow(...judges) {
     for (const each of judges) {
         try { each(); } catch (fault) { is(each.name + ' goes to its end', fault, 'no fault'); }
@@ -29,12 +29,12 @@ function judgeNow(...judges) {
     fetch(location.pathname, {method: 'POST', body: JSON.stringify(judgements)});
 }
 
-// The same once all of the page is there.
+// Does the same once all of the page is there.
 function judge(...judges) {
     addEventListener('load', () => judgeNow(...judges));
 }
 
-// That the script has run: one formula for each of the things that it mends.
+// Judges that the script has run, with one formula for each of the things that it mends.
 function judgeMended() {
     is('a letter is mended', one('letter', 'math').textContent, 'ℝ');
     is('a sign is mended', one('sign', 'mo').textContent, '\u2212');

@@ -6,7 +6,7 @@ use Rattle.latex2mathml.specs.Documents.{Piece, IsCut, HasCut, HasNoCut, PieceAn
 use Rattle.latex2mathml_tokens.specs.Refusal.{Refusal, InvalidNumberOfDollarSigns}
 use Rattle.latex2mathml.proofs.Cuts.{first_forced}
 
--- what follows from each refusal follows from the one that an error tells
+-- what follows from each refusal follows from the one that an error reports
 refused_more : (told : Option Refusal) (P Q : Refusal → Type 0) → ((refusal : Refusal) → P refusal → Q refusal) → IfSome told P → IfSome told Q
 refused_more None P Q more h = tt
 refused_more (Some refusal) P Q more h = more refusal h
@@ -40,11 +40,11 @@ module _ (document : List ℕ) (given : List Piece) (text : List ℕ) (piece : P
       let is : given ++ piece ∷ next.0 ≡ cut.0 = sym (behind.1 ∙ ap (λ l. given ++ l) next.1) in
       inr (cut.0, cut.1, subst (λ l. FirstRefused l refusal) is (first_refused given piece next.0 answer refusal answered r))
 
-  -- as an error tells it
+  -- the same for the refusal that an error reports, if any
   pub refused : (told : Option Refusal) → IfSome told (PieceRefuses piece) → IfSome told (IsRefusal document)
   refused told r = refused_more told (PieceRefuses piece) (IsRefusal document) refused_with r
 
--- the refusal that is reported where the first error, of a formula, tells another: dollar signs come first
+-- the refusal that is reported if the first error, of a formula, may report another: dollar signs take precedence
 pub dollars_first : (document : List ℕ) (reported told : Option Refusal) → (HasNoCut document × (reported ≡ Some InvalidNumberOfDollarSigns)) ⊎ (HasCut document × (reported ≡ told)) → (HasCut document → IfSome told (IsRefusal document)) → IfSome reported (IsRefusal document)
 dollars_first document reported told (inl (none, is)) refused = rw is (no_cut_refused document none)
 dollars_first document reported told (inr (cut, is)) refused = rw is (refused cut)

@@ -6,14 +6,14 @@ use Rattle.latex2mathml.specs.Pieces.{BeginsWithPiece, EndsBefore, IsFront, IsLo
 use Rattle.latex2mathml.specs.Documents.{Piece, prose, inline, display, piece_text, spelling, IsPlain, IsPiece, MayFollow, ArePieces, IsCut, HasCut}
 use Rattle.latex2mathml.proofs.PlainTexts.{plain_begins, plain_ends_once, body_plain, body_ends, ends_before_head}
 
--- what may follow prose begins with a dollar sign, or is nothing
+-- what may follow prose begins with a dollar sign, or is empty
 pub stops_after : (t : List ℕ) (ps : List Piece) → MayFollow (prose t) ps → EndsBefore t (spelling ps)
 stops_after t [] f = tt
 stops_after t (prose u ∷ ps) f = absurd f
 stops_after t (inline b ∷ ps) f = (refl, f)
 stops_after t (display b ∷ ps) f = (refl, f)
 
--- a piece and a cut of what is left are a cut
+-- a piece and a cut of the rest form a cut
 pub more_cut : (text : List ℕ) (p : Piece) (rest : List ℕ) (ps : List Piece) → BeginsWithPiece text p rest → IsCut rest ps → IsCut text (p ∷ ps)
 more_cut text p rest ps b c = record {
   well_formed = (b.is_piece, follows p ps b.longest c.well_formed (sym c.spelled), c.well_formed);
@@ -29,7 +29,7 @@ more_cut text p rest ps b c = record {
     follows (inline t) ps e w s = tt
     follows (display t) ps e w s = tt
 
--- what every cut of the text looks like, where it begins with this piece
+-- what every cut of a text looks like if the text begins with this piece
 abbrev pub GoesOn : List Piece → Piece → List ℕ → Type 0
 GoesOn ps p rest = (tail : List Piece) × (ps ≡ p ∷ tail) × IsCut rest tail
 
@@ -65,7 +65,7 @@ forced (display (a ∷ t)) rest (display u ∷ ps) i s w e =
 pub first_forced : (text : List ℕ) (p : Piece) (rest : List ℕ) (ps : List Piece) → BeginsWithPiece text p rest → IsCut text ps → GoesOn ps p rest
 first_forced text p rest ps b c = forced p rest ps b.is_piece b.longest c.well_formed (c.spelled ∙ sym b.split)
 
--- the empty document has the cut of no pieces alone
+-- the only cut of the empty document has no pieces
 pub cut_of_nothing : (ps : List Piece) → IsCut [] ps → ps ≡ []
 cut_of_nothing [] c = refl
 cut_of_nothing (prose [] ∷ ps) c = absurd (c.well_formed.0.0 refl)
@@ -86,7 +86,7 @@ one_cut_lem (p ∷ ps) qs text c d =
     let on = first_forced text p (spelling ps) qs (begins_with_first text p ps c) d in
     ap (λ l. p ∷ l) (one_cut_lem ps on.0 (spelling ps) (record { well_formed = c.well_formed.2; spelled = refl }) on.2) ∙ sym on.1
 
--- after two dollar signs stands no body that two dollar signs end
+-- no body that ends at two dollar signs follows the first two
 pub no_display : (text inside body end : List ℕ) → text ≡ 36 ∷ 36 ∷ inside → body ++ end ≡ inside → IsPlain body → EndsBefore body end → (body ≡ []) ⊎ ((rest : List ℕ) → end ≢ 36 ∷ 36 ∷ rest) → HasCut text → ⊥
 no_display text inside body end e j p s n (ps, c) = go ps c.well_formed (c.spelled ∙ e)
   where
@@ -101,7 +101,7 @@ no_display text inside body end e j p s n (ps, c) = go ps c.well_formed (c.spell
         let ends = plain_ends_once u body (36 ∷ 36 ∷ spelling ps) end (body_plain u w.0) p (body_ends u (36 ∷ spelling ps) w.0) s (sym (append_assoc u (36 ∷ 36 ∷ []) (spelling ps)) ∙ q' ∙ sym j) in
         ⊎_elim (λ nothing. w.0.0 (ends.0 ∙ nothing)) (λ other. other (spelling ps) (sym ends.1)) n
 
--- after a lone dollar sign stands no body that a dollar sign ends
+-- no body that ends at a dollar sign follows a lone dollar sign
 pub no_inline : (text inside body end : List ℕ) → text ≡ 36 ∷ inside → ((rest : List ℕ) → text ≢ 36 ∷ 36 ∷ rest) → body ++ end ≡ inside → IsPlain body → EndsBefore body end → ((rest : List ℕ) → end ≢ 36 ∷ rest) → HasCut text → ⊥
 no_inline text inside body end e lone j p s n (ps, c) = go ps c.well_formed (c.spelled ∙ e)
   where
@@ -128,7 +128,7 @@ pub if_none : {X : Type 0} {P : Type 0} (r : Option X) → P → IfNone r P
 if_none None p = p
 if_none (Some x) p = tt
 
--- what `strip_prefix` at two dollar signs answers
+-- what `strip_prefix` returns for two dollar signs
 pub strip_two : (s : List ℕ) (r : Option (Bor (List ℕ))) → MatchOption r (FindsTextPrefix (36 ∷ 36 ∷ []) s None) (λ x. (n : ℕ) × FindsTextPrefix (36 ∷ 36 ∷ []) s (Some n) × (x.now ≡ drop n s) × (length x.now + n ≡ length s)) → MatchOption r ((rest : List ℕ) → s ≢ 36 ∷ 36 ∷ rest) (λ x. s ≡ 36 ∷ 36 ∷ x.now)
 strip_two s None h = λ rest e. h rest e
 strip_two s (Some x) (n, f, is, len) = f.1 ∙ ap (λ l. 36 ∷ 36 ∷ l) (sym is)

@@ -1,4 +1,4 @@
--- One entry more of a directory: its name, or that it was not read.
+-- One more entry of a directory: its name, or that it was not read.
 use Rattle.std.proofs.Common.{◌≡◌, ℕ, ◌+◌, List, [], ◌∷◌, ◌++◌, Result, Ok, Err, String, refl, sym, ap, ◌∙◌, map, string_bytes}
 use Rattle.std.proofs.lemmas.List.{map-append}
 use Rattle.std.specs.{declared.alloc.Global.Global, Fs.dir_entry_name, declared.fs.dir.DirEntry.DirEntry}

@@ -1,4 +1,4 @@
--- What is given piece by piece stands at the front of the document.
+-- The pieces given so far are the front of the document.
 use Rattle.std.proofs.Common.{◌≡◌, ℕ, List, [], ◌∷◌, ◌++◌, Some, Ok, Err, refl, sym, subst}
 use Rattle.std.specs.Iterator.{Yields}
 use Rattle.latex2mathml.specs.Pieces.{piece_of, BeginsWithPiece, Item, GivesPiece, GivenBehind, IsFront}
@@ -16,7 +16,7 @@ nothing_begins p rest b = go p b.is_piece b.split
     go (inline t) i e = cc
     go (display t) i e = cc
 
--- after the last item nothing is given
+-- nothing is given after the last item
 nothing_after : (item : Item) (s t : code.Pieces) → s.rest.now ≡ [] → GivesPiece s (Some item) t → ⊥
 nothing_after (Ok piece) s t e b = nothing_begins (piece_of piece) t.rest.now (subst (λ text. BeginsWithPiece text (piece_of piece) t.rest.now) e b)
 nothing_after (Err no_cut) s t e b = b.0 ([], record { well_formed = tt; spelled = sym e })

@@ -1,5 +1,5 @@
--- Documents joined: prose that ends the first and prose that begins the second become one piece. What no lone backslash
--- ends is open to what follows it.
+-- Joined documents: prose at the end of the first and prose at the start of the second become one piece. Text that does not
+-- end in a lone backslash is open to what follows it.
 use Rattle.std.proofs.Common.{◌≡◌, ◌≢◌, ◌==◌, ◌+◌, ◌%◌, ℕ, List, [], ◌∷◌, ◌++◌, cond, ⊎_elim, refl, sym, ap, ◌∙◌, append_assoc, append-nil, subst, arith}
 use Rattle.std.specs.List.{prefix_len, suffix_len}
 use Rattle.std.proofs.{lemmas.Bool.eq-eqb, lemmas.Bool.Decides.eqb_tells, lemmas.List.reverse-append}
@@ -41,14 +41,14 @@ odd_one x e = ap (λ n. n % 2) (count_push_yes x 92 refl) ∙ one_more (count x)
     one_more : (n : ℕ) → n % 2 ≡ 0 → (1 + n) % 2 ≡ 1
     one_more n h = omega arith
 
--- whole units leave the number even or odd as it is, or make it even
+-- after a text that ends in an even number of backslashes, whole units leave that number even
 even_whole : (front text : List ℕ) → IsEven front → IsWhole text → IsEven (front ++ text)
 even_whole front [] e nothing = subst IsEven (sym (append-nil front)) e
 even_whole front (b ∷ text) e (single n m w) = subst IsEven (append_assoc front (b ∷ []) text) (even_whole (front ++ b ∷ []) text (even_no front b m) w)
 even_whole front (b ∷ c ∷ text) e (pair is w) =
     subst IsEven (append_assoc (front ++ b ∷ []) (c ∷ []) text ∙ append_assoc front (b ∷ []) (c ∷ text)) (even_whole ((front ++ b ∷ []) ++ c ∷ []) text (even_two front b c is e) w)
 
--- a piece after which another unit may stand
+-- a piece after which another unit may come
 abbrev IsOpen : Piece → Type 0
 IsOpen (prose t) = IsWhole t
 IsOpen p = Unit {0}

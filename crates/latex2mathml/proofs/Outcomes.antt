@@ -69,7 +69,7 @@ found (b ∷ c ∷ text) some =
     (λ other. found_inline (c ∷ text) (λ more e. other (let k : c ≡ dollar = cc in k))) (dollar_or_other c)))
     (found_prose b (c ∷ text)) (dollar_or_other b)
 
--- a piece takes something
+-- a piece is not empty
 taken : (piece : Piece) (rest : List ℕ) → IsPiece piece → length rest < length (piece_text piece ++ rest)
 taken (prose []) rest is = absurd (is.0 refl)
 taken (prose (a ∷ text)) rest is = omega (arith, length-append text rest)

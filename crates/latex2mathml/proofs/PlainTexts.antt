@@ -57,7 +57,7 @@ never_whole (a ∷ x) (b ∷ c ∷ y) v (single n m w) (pair is w') e = m (let k
 never_whole (a ∷ c ∷ x) (b ∷ y) v (pair is w) (single n m w') e = m (let k : a ≡ b = cc in sym k ∙ is)
 never_whole (a ∷ c ∷ x) (b ∷ d ∷ y) v (pair is w) (pair is' w') e = never_whole x y v w w' (cc)
 
--- nor do those with a lone backslash after them
+-- whole units with a lone backslash after them hold no dollar sign after whole units
 never_lone : (x y v : List ℕ) → IsWhole x → IsWhole y → x ++ 92 ∷ [] ≡ y ++ 36 ∷ v → ⊥
 never_lone [] [] v nothing nothing e = let k : ◌≡◌ {A = ℕ} 92 36 = cc in omega arith
 never_lone [] (b ∷ []) v nothing w e = cc
@@ -82,7 +82,7 @@ plain_ends_once x y (c ∷ u) (d ∷ v) p q s t e =
     let l : (c ∷ u) ≡ (d ∷ v) = (λ i. (s.0 ∙ sym t.0) i ∷ both.1 i) in
     (both.0, l)
 
--- units side by side
+-- joined whole units are whole
 pub whole_append : (x y : List ℕ) → IsWhole x → IsWhole y → IsWhole (x ++ y)
 whole_append [] y nothing v = v
 whole_append (b ∷ x) y (single n m w) v = single n m (whole_append x y w v)
@@ -92,7 +92,7 @@ pub plain_append : (x y : List ℕ) → IsWhole x → IsPlain y → IsPlain (x +
 plain_append x y w (whole v) = whole (whole_append x y w v)
 plain_append x y w (lone {front} v is) = lone (whole_append x front w v) (ap (λ l. x ++ l) is ∙ sym (append_assoc x front (92 ∷ [])))
 
--- one more unit in front
+-- plain text with one more unit in front is plain
 pub more_single : (b : ℕ) (text : List ℕ) → b ≢ dollar → b ≢ backslash → IsPlain text → IsPlain (b ∷ text)
 more_single b text n m p = plain_append (b ∷ []) text (single n m nothing) p
 
@@ -108,7 +108,7 @@ dollar_or_other b = same_or_other b dollar
 pub backslash_or_other : (b : ℕ) → (b ≡ backslash) ⊎ (b ≢ backslash)
 backslash_or_other b = same_or_other b backslash
 
--- and one less
+-- plain text without its first unit is plain
 pub behind_single : (b : ℕ) (text : List ℕ) → b ≢ backslash → IsPlain (b ∷ text) → IsPlain text
 behind_single b text m (whole (single n m' w)) = whole w
 behind_single b text m (whole (pair is w)) = absurd (m is)
@@ -150,7 +150,7 @@ plain_front (b ∷ c ∷ text) =
     ⊎_elim (λ sign. ([], b ∷ c ∷ text, refl, whole nothing, (sign, nothing)))
     (λ n. ⊎_elim (λ is. longer (b ∷ c ∷ []) text (pair is nothing) (plain_front text)) (λ m. longer (b ∷ []) (c ∷ text) (single n m nothing) (plain_front (c ∷ text))) (backslash_or_other b)) (dollar_or_other b)
 
--- the front of a text that was passed: no unit of it is a dollar sign
+-- the front of a text that a loop passed: no unit of it is a dollar sign
 pub record Passed (text : List ℕ) (place : ℕ) : Type 0 where
   pub in_range : place ≤ length text
   pub plain : IsPlain (take place text)
@@ -194,7 +194,7 @@ none_before text place none =
 pub no_dollar : (c : ℕ) → is_other c ≡ true → c ≢ dollar
 no_dollar c h = grind (arith, nat_tests)
 
--- text of which one is
+-- text of which a byte is a dollar sign
 not_free : (text : List ℕ) (place : ℕ) → place < length text → get_or text place 0 ≡ dollar → IsDollarFree text → ⊥
 not_free [] place inside e h = omega arith
 not_free (b ∷ text) zero inside e h = no_dollar b (free_first b text h) e
@@ -205,7 +205,7 @@ pub tells_dollars : (text : List ℕ) (found : Bool) → (found ≡ true → (k 
 tells_dollars text true h = let at = h.0 refl in not_free text at.0 at.1 at.2
 tells_dollars text false h = free_text text (λ i inside e. (let k : false ≡ true = h.1 i inside e in cc))
 
--- text without dollar signs is whole, unless a backslash ends it
+-- text without dollar signs is whole, unless it ends in a backslash
 free_whole : (text : List ℕ) → IsDollarFree text → ((front : List ℕ) → text ≢ front ++ 92 ∷ []) → IsWhole text
 free_whole [] h m = nothing
 free_whole (b ∷ []) h m = single (no_dollar b (free_first b [] h)) (λ is. m [] (ap (λ c. c ∷ []) is)) nothing
@@ -213,7 +213,7 @@ free_whole (b ∷ c ∷ text) h m =
     ⊎_elim (λ is. pair is (free_whole text (free_rest c text (free_rest b (c ∷ text) h)) (λ front e. m (b ∷ c ∷ front) (ap (λ l. b ∷ c ∷ l) e))))
     (λ other. single (no_dollar b (free_first b (c ∷ text) h)) other (free_whole (c ∷ text) (free_rest b (c ∷ text) h) (λ front e. m (b ∷ front) (ap (λ l. b ∷ l) e)))) (backslash_or_other b)
 
--- .. as a test of its end tells
+-- text without dollar signs is whole if a test of its end finds no backslash
 pub unended : (text : List ℕ) (r : Bool) → ((front : List ℕ) → text ≡ front ++ 92 ∷ [] → r ≡ true) → r ≡ false → IsDollarFree text → IsWhole text
 unended text r ends is h = free_whole text h (λ front e. (let k : true ≡ false = sym (ends front e) ∙ is in cc))
 

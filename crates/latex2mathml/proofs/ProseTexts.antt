@@ -46,7 +46,7 @@ free_prose text (whole w) = free_whole text w
 free_prose text (lone {front} w is) =
     subst (λ l. IsDollarFree (prose_answer l)) (sym is) (subst IsDollarFree (sym (prose_append front (92 ∷ []) w)) (free_both (prose_answer front) (92 ∷ []) (free_whole front w) refl))
 
--- Text without a dollar sign is prose that stays.
+-- Text without a dollar sign is prose that stays unchanged.
 pub free_plain : (text : List ℕ) → IsDollarFree text → IsPlain text
 free_plain [] h = whole nothing
 free_plain (b ∷ []) h =
@@ -63,11 +63,11 @@ free_stays (b ∷ c ∷ text) h =
     ⊎_elim (λ is. answer_pair_other b c text is (no_dollar c (free_first c text more)) ∙ ap (λ l. b ∷ c ∷ l) (free_stays text (free_rest c text more)))
     (λ m. answer_single b (c ∷ text) m ∙ ap (λ l. b ∷ l) (free_stays (c ∷ text) more)) (backslash_or_other b)
 
--- before the place n stands no backslash with a dollar sign after it
+-- before the place n, no backslash has a dollar sign after it
 abbrev Lacks : ℕ → List ℕ → Type 0
 Lacks n text = (i : ℕ) → i < n → (rest : List ℕ) → drop i text ≢ 92 ∷ 36 ∷ rest
 
--- text with none stays
+-- text without such a backslash stays unchanged
 lacks_second : (b c : ℕ) (text : List ℕ) → b ≡ backslash → ((rest : List ℕ) → b ∷ c ∷ text ≢ 92 ∷ 36 ∷ rest) → c ≢ dollar
 lacks_second b c text is h q = h text (λ i. is i ∷ q i ∷ text)
 
@@ -78,7 +78,7 @@ stays (b ∷ c ∷ text) h =
     ⊎_elim (λ is. answer_pair_other b c text is (lacks_second b c text is (h 0 (omega arith))) ∙ ap (λ l. b ∷ c ∷ l) (stays text (λ i lt. h (suc (suc i)) (omega arith))))
     (λ m. answer_single b (c ∷ text) m ∙ ap (λ l. b ∷ l) (stays (c ∷ text) (λ i lt. h (suc i) (omega arith)))) (backslash_or_other b)
 
--- plain text up to its first backslash with a dollar sign after it stays
+-- plain text stays unchanged up to its first backslash with a dollar sign after it
 abbrev GoesOnAt : List ℕ → List ℕ → Type 0
 GoesOnAt x y = IsPlain y × (prose_answer (x ++ 92 ∷ 36 ∷ y) ≡ x ++ (codes "&#x24;" ++ prose_answer y))
 
@@ -92,7 +92,7 @@ at_dollar (a ∷ d ∷ x) y p h =
     ⊎_elim (λ is. (let on = at_dollar x y (behind_pair a d rest is p) (λ i lt. h (suc (suc i)) (omega arith)) in (on.0, answer_pair_other a d rest is (lacks_second a d rest is (h 0 (omega arith))) ∙ ap (λ l. a ∷ d ∷ l) on.1)))
     (λ m. (let on = at_dollar (d ∷ x) y (behind_single a (d ∷ rest) m p) (λ i lt. h (suc i) (omega arith)) in (on.0, answer_single a (d ∷ rest) m ∙ ap (λ l. a ∷ l) on.1))) (backslash_or_other a)
 
--- what was put so far, and the prose that is left
+-- what was appended so far, and the prose that is left
 pub record IsPutSoFar (prose old text rest : List ℕ) : Type 0 where
   pub plain : IsPlain rest
   pub put : text ++ prose_answer rest ≡ old ++ prose_answer prose
@@ -108,7 +108,7 @@ more_put prose old text rest x y so e h =
 pub all_put : (prose old text rest : List ℕ) → IsPutSoFar prose old text rest → Lacks (length rest) rest → text ++ rest ≡ old ++ prose_answer prose
 all_put prose old text rest so h = ap (λ l. text ++ l) (sym (stays rest h)) ∙ so.put
 
--- text that is pushed where there is memory
+-- text that is pushed if there is memory
 pub on_ok : {T E : Type 0} (r : Result T E) (new more old due : List ℕ) → new ≡ cond (is_ok r) more old → more ≡ due → OnOk r (new ≡ due)
 on_ok (Ok x) new more old due e p = e ∙ p
 on_ok (Err x) new more old due e p = tt

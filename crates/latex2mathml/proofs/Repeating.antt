@@ -48,7 +48,7 @@ pub own_answer : (text : List ℕ) → IsDollarFree text → IsAnswer text text
 unfolding IsAnswer
 own_answer text free = (pieces_of_free text, cut_of_free text free, answer_of_free text free)
 
--- a document with one is not
+-- a document with a dollar sign is not its own answer
 pub differs : (text answer : List ℕ) → ¬ IsDollarFree text → IsDollarFree answer → answer ≢ text
 differs text answer signs free e = signs (subst IsDollarFree e free)
 
@@ -63,7 +63,7 @@ repeated hold document answer a =
     let free = answer_free hold document answer a in
     record { dollar_free = free; own = own_answer answer free; no_other = λ other b. no_other_answer answer other free b }
 
--- nor is it refused
+-- a document without a dollar sign is not refused
 no_formula : (text : List ℕ) (refusal : Refusal) → FirstRefused (pieces_of_free text) refusal → ⊥
 unfolding pieces_of_free
 no_formula [] refusal r = r
@@ -75,7 +75,7 @@ never_refused text refusal free r =
     ⊎_elim (λ none. none.0 (pieces_of_free text, cut_of_free text free))
     (λ formula. no_formula text refusal (subst (λ ps. FirstRefused ps refusal) (one_cut_lem formula.0 (pieces_of_free text) text formula.1 (cut_of_free text free)) formula.2)) r
 
--- what `replace` promises beside its answer and its refusal
+-- what `replace` promises in addition to its answer and its refusal
 pub free_result : RenderingsHold → (document : List ℕ) (result : Result (String Global) LatexError) → IfOk result (λ answer. IsAnswer document (string_bytes answer)) → IfOk result (λ answer. IsDollarFree (string_bytes answer))
 free_result hold document (Ok answer) a = answer_free hold document (string_bytes answer) a
 free_result hold document (Err error) a = tt

@@ -30,19 +30,19 @@ writing_fault text old new (Err NotText) is = absurd is
 writing_fault text old new (Err (Refused error)) is = absurd is
 writing_fault text old new (Err Create) is = absurd is
 
--- a site that was asked nothing
+-- a site that was asked nothing: no answer is added
 pub asked_nothing : (state : Option (List Answer)) → Answered state state []
 asked_nothing None = tt
 asked_nothing (Some answers) = sym (append-nil answers)
 
--- a site that was asked for some, and then for others
+-- a site that gave some answers, and then others
 pub asked_more : (a b c : Option (List Answer)) (first then : List Answer) → Answered a b first → Answered b c then → Answered a c (first ++ then)
 asked_more None b c first then p q = tt
 asked_more (Some before) None c first then p q = absurd p
 asked_more (Some before) (Some between) None first then p q = absurd q
 asked_more (Some before) (Some between) (Some after) first then p q = q ∙ ap (λ l. l ++ then) p ∙ append_assoc before first then
 
--- one entry more was walked
+-- one more entry was walked
 one_more : (levels : ℕ) (path : List ℕ) (names : List (String Global)) (name : String Global) (answers last : List Answer) (walked here : List Unconverted)
     → ListsEach levels path names answers walked → Lists levels (entry_path path (string_bytes name)) last here
     → ListsEach levels path (names ++ (name ∷ [])) (answers ++ last) (walked ++ here)
@@ -52,7 +52,7 @@ one_more levels path _ name _ last _ here (Next {names = names} first others sta
     (ap (λ l. l ++ last) answered ∙ append_assoc first others last)
     (ap (λ l. l ++ here) all ∙ append_assoc start rest here)
 
--- what one fault more in the list comes to
+-- the effect of one more fault in the list
 pub one_listed : {A : Type 0} (levels : ℕ) (path : List ℕ) (fault : FileFault) (before after : Option (List Answer)) (answers : List Answer) (old new : List Unconverted) (result : Result Unit A)
     → Answered before after answers
     → OnOk result ((one : Unconverted) × (new ≡ old ++ (one ∷ [])) × IsListed path fault one)

@@ -1,4 +1,4 @@
--- What a text is converted as, what becomes of it, and how it is refused.
+-- What a text is converted as, what it becomes, and how it is refused.
 use Rattle.std.specs.Prelude.{◌≡◌, ℕ, List, MatchResult, None, Result, String, string_bytes}
 use Rattle.std.specs.declared.alloc.Global.{Global}
 use Rattle.latex2mathml.specs.Documents.{IsAnswer, IsRefusal}
@@ -6,7 +6,7 @@ use Rattle.latex2mathml_grammar.specs.{Dollars.IsDollarFree, Rendering.IsFormula
 use Rattle.latex2mathml_trees.specs.MathSchema.{IsMathElement}
 use Rattle.latex2mathml_tokens.specs.{Refusal.Refusal, Refusal.refusal_of, declared.DisplayStyle.DisplayStyle, declared.error.LatexError.LatexError}
 
--- one formula, set so, or a document
+-- one formula with its display style, or a document
 pub data Conversion : Type 0 where
   formula : DisplayStyle → Conversion
   document : Conversion
@@ -16,7 +16,7 @@ abbrev pub IsConverted : Conversion → List ℕ → List ℕ → Type 0
 IsConverted (formula display) text markup = IsRendering text display markup × IsMathElement markup × IsDollarFree markup
 IsConverted document text markup = IsAnswer text markup × IsDollarFree markup
 
--- the text is refused so
+-- the text is refused with this refusal
 abbrev pub IsRefusedAs : Conversion → List ℕ → Refusal → Type 0
 IsRefusedAs (formula display) text refusal = IsFormulaRefusal text refusal
 IsRefusedAs document text refusal = IsRefusal text refusal

@@ -8,7 +8,7 @@ use Rattle.latex2mathml_trees.specs.{Markup.IsBalanced, MathSchema.IsMathElement
 use Rattle.latex2mathml_tokens.specs.Refusal.{Refusal, InvalidNumberOfDollarSigns}
 use Rattle.latex2mathml_tokens.specs.declared.DisplayStyle.TheVariants.{Block, Inline}
 
--- two cuts of the document are the same pieces
+-- any two cuts of the document have the same pieces
 abbrev pub HasOneCut : List ℕ → Type 0
 HasOneCut document = (pieces others : List Piece) → IsCut document pieces → IsCut document others → pieces ≡ others
 
@@ -16,8 +16,8 @@ HasOneCut document = (pieces others : List Piece) → IsCut document pieces → 
 abbrev pub EndsInOddBackslashes : List ℕ → Type 0
 EndsInOddBackslashes text = suffix_len (λ b. b == backslash) text % 2 ≡ 1
 
--- where both documents have answers, and no backslash that ends the first takes from the second, the documents joined
--- have the answers joined
+-- where both documents have answers, and no backslash at the end of the first takes from the second, the joined documents
+-- have the joined answers
 abbrev pub JoinsAnswers : List ℕ → List ℕ → Type 0
 JoinsAnswers first second =
     (¬ EndsInOddBackslashes first)
@@ -52,13 +52,13 @@ pub record IsForDollars (document : List ℕ) : Type 0 where
   pub refused : (refusal : Refusal) → IsRefusal document refusal → (refusal ≡ InvalidNumberOfDollarSigns) ↔ HasNoCut document
   pub answered : (answer : List ℕ) → IsAnswer document answer → HasCut document
 
--- what becomes of a piece: the answer of prose, or the rendering of a formula, which is one `math` element
+-- what a piece becomes: the answer of prose, or the rendering of a formula, which is one `math` element
 abbrev pub IsPieceMarkup : Piece → List ℕ → Type 0
 IsPieceMarkup (prose text) markup = ProseAnswer text markup
 IsPieceMarkup (inline body) markup = IsRendering body Inline markup × IsMathElement markup
 IsPieceMarkup (display body) markup = IsRendering body Block markup × IsMathElement markup
 
--- the answer is that of the document's prose, with one `math` element in the place of each formula
+-- the answer is that of the document's prose, with one `math` element in place of each formula
 abbrev pub HasElements : List ℕ → List ℕ → Type 0
 HasElements document answer = (pieces : List Piece) × IsCut document pieces × AreJoined IsPieceMarkup pieces answer
 
@@ -71,6 +71,6 @@ pub record AnswersHold : Type 0 where
   pub joined : (first second : List ℕ) → JoinsAnswers first second
   pub elements : (document answer : List ℕ) → IsAnswer document answer → HasElements document answer
   -- where the prose is balanced around the formulas, so is the answer, and where it is that of a page, each `math`
-  -- element stands where it may and obeys the child table
+  -- element is where it may be and obeys the child table
   pub balanced : (document answer : List ℕ) → HasBalancedProse document → IsAnswer document answer → IsBalanced answer
   pub page : (document answer : List ℕ) → HasPageProse document → IsAnswer document answer → IsPage answer

@@ -1,10 +1,10 @@
--- Documents: prose with formulas between dollar signs. From top to bottom this is what `replace` answers for one: it
--- cuts the document into pieces, keeps the prose byte for byte but for `\$`, and puts the rendering of each formula,
--- alone, in its place; or it refuses the document, for its dollar signs first, and then for its first refused formula.
+-- Documents: prose with formulas between dollar signs. From top to bottom, this file defines what `replace` answers for a
+-- document. It cuts the document into pieces, keeps the prose byte for byte except for `\$`, and replaces each formula by
+-- its own rendering. Or it refuses the document, for its dollar signs first, and then for its first refused formula.
 -- `replace` answers nothing else, unless memory runs out, and each document has exactly one answer or exactly one
 -- refusal (`laws::one_outcome`).
 --
--- A text is its bytes here.
+-- Here a text is its bytes.
 use Rattle.std.specs.Prelude.{◌≡◌, ◌≢◌, ◌⊎◌, ◌==◌, ℕ, List, [], ◌∷◌, ◌++◌, codes, if◌then◌else◌}
 use Rattle.latex2mathml_grammar.specs.{Dollars.dollar, Dollars.backslash, Rendering.IsFormulaRefusal, Rendering.IsRendering}
 use Rattle.latex2mathml_tokens.specs.Refusal.{Refusal, InvalidNumberOfDollarSigns}
@@ -18,7 +18,7 @@ pub data Piece : Type 0 where
   inline : List ℕ → Piece
   display : List ℕ → Piece
 
--- how a piece stands in a document
+-- how a piece is written in a document
 abbrev pub piece_text : Piece → List ℕ
 piece_text (prose text) = text
 piece_text (inline body) = codes "$" ++ (body ++ codes "$")
@@ -29,9 +29,9 @@ abbrev pub spelling : List Piece → List ℕ
 spelling [] = []
 spelling (piece ∷ pieces) = piece_text piece ++ spelling pieces
 
--- Text is read unit by unit, from left to right: a backslash takes the character after it with it, whatever that is, and
--- any other character is a unit by itself. A dollar sign begins or ends a formula where it is a unit. A backslash may take
--- the first byte of a longer character here, since no further byte of that is a dollar sign or a backslash.
+-- Text is read unit by unit, from left to right: a backslash forms a unit with the character after it, whatever that is,
+-- and any other character is a unit by itself. A dollar sign begins or ends a formula where it is a unit. Here a backslash
+-- may take just the first byte of a longer character, since no further byte of it is a dollar sign or a backslash.
 
 -- whole units, none of them a dollar sign
 pub data IsWhole : List ℕ → Type 0 where
@@ -39,12 +39,12 @@ pub data IsWhole : List ℕ → Type 0 where
   single : {b : ℕ} {text : List ℕ} → b ≢ dollar → b ≢ backslash → IsWhole text → IsWhole (b ∷ text)
   pair : {b c : ℕ} {text : List ℕ} → b ≡ backslash → IsWhole text → IsWhole (b ∷ c ∷ text)
 
--- text in which no formula begins or ends: whole units, and then a backslash or none
+-- text in which no formula begins or ends: whole units, and then at most one backslash
 pub data IsPlain : List ℕ → Type 0 where
   whole : {text : List ℕ} → IsWhole text → IsPlain text
   lone : {front text : List ℕ} → IsWhole front → text ≡ front ++ codes "\\" → IsPlain text
 
--- what may stand between dollar signs: its last unit is whole, so a dollar sign may follow
+-- what may be between dollar signs: its last unit is whole, so a dollar sign may follow
 abbrev pub IsBody : List ℕ → Type 0
 IsBody text = (text ≢ []) × IsWhole text
 
@@ -54,14 +54,14 @@ IsPiece (prose text) = (text ≢ []) × IsPlain text
 IsPiece (inline body) = IsBody body
 IsPiece (display body) = IsBody body
 
--- the piece may stand before these: prose never stands beside prose, and before a formula its last unit is whole
+-- the piece may come before these pieces: prose never comes before prose, and before a formula its last unit is whole
 abbrev pub MayFollow : Piece → List Piece → Type 0
 MayFollow (prose text) [] = Unit {0}
 MayFollow (prose text) (prose next ∷ pieces) = ⊥
 MayFollow (prose text) (formula ∷ pieces) = IsWhole text
 MayFollow piece pieces = Unit {0}
 
--- each is a piece that may stand before the ones after it
+-- each is a piece that may come before the ones after it
 abbrev pub ArePieces : List Piece → Type 0
 ArePieces [] = Unit {0}
 ArePieces (piece ∷ pieces) = IsPiece piece × MayFollow piece pieces × ArePieces pieces
@@ -75,17 +75,17 @@ pub record IsCut (document : List ℕ) (pieces : List Piece) : Type 0 where
 abbrev pub HasCut : List ℕ → Type 0
 HasCut document = (pieces : List Piece) × IsCut document pieces
 
--- it has none
+-- the document has no cut
 abbrev pub HasNoCut : List ℕ → Type 0
 HasNoCut document = ¬ HasCut document
 
 -- The answer.
 
--- a backslash with the byte that it takes: a dollar sign becomes a reference, and loses its backslash
+-- the answer of a backslash and the byte that it takes: a dollar sign becomes a reference, and loses its backslash
 abbrev pub pair_answer : ℕ → List ℕ
 pair_answer c = if c == dollar then codes "&#x24;" else backslash ∷ c ∷ []
 
--- prose, unit by unit
+-- the answer of prose, unit by unit
 abbrev pub prose_answer : List ℕ → List ℕ
 prose_answer [] = []
 prose_answer (b ∷ []) = b ∷ []
@@ -129,7 +129,7 @@ FirstRefused [] refusal = ⊥
 FirstRefused (piece ∷ pieces) refusal =
     PieceRefuses piece refusal ⊎ (((answer : List ℕ) × PieceAnswer piece answer) × FirstRefused pieces refusal)
 
--- the refusal of a document: its dollar signs do not pair; or they do, and it is that of the first refused formula
+-- the refusal of a document: that its dollar signs do not pair or, where they do, the refusal of its first refused formula
 unfoldable pub IsRefusal : List ℕ → Refusal → Type 0
 IsRefusal document refusal =
     (HasNoCut document × (refusal ≡ InvalidNumberOfDollarSigns)) ⊎ ((pieces : List Piece) × IsCut document pieces × FirstRefused pieces refusal)

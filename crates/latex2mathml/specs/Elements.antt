@@ -1,4 +1,4 @@
--- The words of the promise that markup is one element and balanced, and of markup that is put together.
+-- The definitions that the contracts use which say that markup is one element and balanced, and those for joined markup.
 pub use Rattle.latex2mathml_trees.specs.Markup.{Name, Attribute, Event, OpenElements, Schema, Runs, IsBalanced, IsElement, any_element, at_start, lowest, above, add, open_tag, close_tag, empty_tag, spell_event}
 pub use Rattle.latex2mathml_trees.specs.MathSchema.{IsOneElement, child_table}
 unfoldable pub use Rattle.latex2mathml_trees.specs.MathSchema.{IsMathElement}

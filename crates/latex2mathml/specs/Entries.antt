@@ -1,11 +1,11 @@
--- What the system gives of a path and of a directory: the kind of what stands there, the names of its entries, and how many could
--- not be read.
+-- What the system returns for a path and for a directory: the kind of what is there, the names of the entries, and how many
+-- could not be read.
 use Rattle.std.specs.Prelude.{ℕ, ◌+◌, List, [], ◌∷◌, Result, Ok, Err}
 use Rattle.std.specs.{Fs.IsDir, Fs.IsFile, Fs.dir_entry_name, declared.fs.dir.DirEntry.DirEntry, declared.fs.FileType.FileType}
 use Rattle.latex2mathml.specs.declared.files.site.PathKind.{PathKind}
 use Rattle.latex2mathml.specs.declared.files.site.PathKind.TheVariants.{Directory, File, Other}
 
--- the kind of what the system says is of this type
+-- the kind that this file type of the system means
 abbrev pub IsKind : FileType → PathKind → Type 0
 IsKind found Directory = IsDir found
 IsKind found File = IsFile found

@@ -1,4 +1,4 @@
--- What a document is called, what a walk asks of a site, and which list it answers.
+-- What a document is called, what a walk asks of a site, and which list the walk returns.
 use Rattle.std.specs.Prelude.{◌≡◌, ◌≢◌, ◌⊎◌, ◌==◌, ◌-◌, ⊤, ℕ, List, [], ◌∷◌, ◌++◌, All, IsPermutation, Option, None, Some, Result, Ok, Err, length, slice_index, String, codes, string_bytes, if◌then◌else◌}
 use Rattle.std.specs.{Cmp.Lexicographic.slice_cmp, List.Sorted.IsSortedByKey, Ordering.nat_cmp, Str.byte, declared.alloc.Global.Global}
 use Rattle.latex2mathml.specs.{declared.error.FileFault.FileFault, declared.files.Unconverted.Unconverted}
@@ -12,7 +12,7 @@ slash = byte "/"
 abbrev pub last_byte : List ℕ → ℕ
 last_byte path = slice_index path (length path - 1)
 
--- the path of a document: its name, which is what follows the last slash, ends in `.html` and is longer
+-- the path of a document: its name, which is what follows the last slash, ends in `.html` and is longer than that
 abbrev pub IsDocumentPath : List ℕ → Type 0
 IsDocumentPath path =
     (stem : List ℕ)
@@ -20,7 +20,7 @@ IsDocumentPath path =
     × (stem ≢ [])
     × (last_byte stem ≢ slash)
 
--- the path of an entry of a directory: a slash stands between both, and none is added where there is one
+-- the path of an entry of a directory: a slash separates the two, and none is added after a path that ends in one
 abbrev pub entry_path : List ℕ → List ℕ → List ℕ
 entry_path directory name =
     if last_byte directory == slash then directory ++ name else directory ++ (slash ∷ name)
@@ -46,37 +46,37 @@ IsDocumentFault fault = IsReadingFault fault ⊎ IsWritingFault fault
 abbrev pub Ascend : List (String Global) → Type 0
 Ascend names = IsSortedByKey string_bytes (slice_cmp nat_cmp) names
 
--- the fault of a file or directory
+-- the member of the list has this path and this fault
 abbrev pub IsListed : List ℕ → FileFault → Unconverted → Type 0
 IsListed path fault unconverted = (string_bytes unconverted.path ≡ path) × (unconverted.fault ≡ fault)
 
--- what a site was asked of a path, and what it answered
+-- what a site was asked about a path, and what it answered
 pub data Answer : Type 0 where
-  -- what stands there
+  -- the kind of what is at the path
   Stands : List ℕ → PathKind → Answer
   -- what the directory holds, or that it cannot be listed
   Holds : List ℕ → Option Listing → Answer
   -- the document was converted, or why it was not
   Comes : List ℕ → Result Unit FileFault → Answer
 
--- between two states, in which these answers are known, the site was asked for these and for no others
+-- between two states in which the answers are known, the site gave these answers and no others
 abbrev pub Answered : Option (List Answer) → Option (List Answer) → List Answer → Type 0
 Answered None new answers = ⊤
 Answered (Some before) None answers = ⊥
 Answered (Some before) (Some after) answers = after ≡ before ++ answers
 
--- it was asked for this one, and for no other
+-- the site gave this answer and no other
 abbrev pub IsAsked : Option (List Answer) → Option (List Answer) → Answer → Type 0
 IsAsked old new answer = Answered old new (answer ∷ [])
 
--- what is left alone: what is neither a file nor a directory, and a file that is no document
+-- what is left alone: anything that is neither a file nor a directory, and a file that is not a document
 abbrev pub IsLeftAlone : List ℕ → PathKind → Type 0
 IsLeftAlone path Directory = ⊥
 IsLeftAlone path File = ¬ IsDocumentPath path
 IsLeftAlone path Other = ⊤
 
 mutual
-  -- what a walk of a path lists, that reads so many levels of directories, by what the site answers
+  -- what a walk of a path lists if it reads the given number of levels of directories and gets these answers from the site
   pub data Lists : ℕ → List ℕ → List Answer → List Unconverted → Type 0 where
     -- what is left alone
     Left : {levels : ℕ} {path : List ℕ} {kind : PathKind}
@@ -102,7 +102,7 @@ mutual
         → levels ≢ 0
         → IsListed path Unlisted one
         → Lists levels path (Stands path Directory ∷ Holds path None ∷ []) (one ∷ [])
-    -- a directory: each of its entries that were not read, and the walks of all others in the order of their names
+    -- a directory: each of its entries that was not read, then the walks of all others in the order of their names
     Listed : {levels : ℕ} {path : List ℕ} {listing : Listing} {answers : List Answer} {all : List Unconverted}
         → levels ≢ 0
         → (unread walked : List Unconverted)
@@ -127,7 +127,7 @@ mutual
         → all ≡ here ++ rest
         → ListsEach levels path (name ∷ names) answers all
 
--- between two states of the site, a walk of the path added to the list what is due for all that it was answered
+-- between two states of the site, a walk of the path added to the list what is due for all answers that it got
 abbrev pub IsWalked : ℕ → List ℕ → Option (List Answer) → Option (List Answer) → List Unconverted → List Unconverted → Type 0
 IsWalked levels path before after old new =
     (answers : List Answer)
@@ -136,7 +136,7 @@ IsWalked levels path before after old new =
     × (new ≡ old ++ found)
     × Lists levels path answers found
 
--- what a walk of the path lists, by some answers
+-- what a walk of the path lists, given some answers
 abbrev pub IsWalk : ℕ → List ℕ → List Unconverted → Type 0
 IsWalk levels path unconverted = (answers : List Answer) × Lists levels path answers unconverted
 

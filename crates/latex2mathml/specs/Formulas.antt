@@ -1,4 +1,4 @@
--- The words of a formula's promise: its rendering, its refusal, and the laws of both.
+-- The definitions that the contract of a formula uses: its rendering, its refusal, and the laws of both.
 unfoldable pub use Rattle.latex2mathml_grammar.specs.Rendering.{IsRendering, IsFormulaRefusal}
 pub use Rattle.latex2mathml_grammar.specs.RenderingLaws.{RendersElements, RendersDollarFree, IsNeverForDollars, HasOneRendering, ReadsNoArgument, RenderingsHold}
 pub use Rattle.latex2mathml_grammar.specs.TokenLists.{HasOneTokenList, TextHasOneReading}

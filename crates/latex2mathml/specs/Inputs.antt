@@ -1,4 +1,4 @@
--- What is made of the bytes that a source gave, where `state` says what is known of it then.
+-- What is made of the bytes that a source gave. `state` is what is known of the source afterwards.
 use Rattle.std.specs.Prelude.{◌≡◌, ◌≢◌, ℕ, List, None, Result, Ok, Err, IfSome, IsFalse, IsTrue, IsUtf8, string_bytes, ⊤}
 use Rattle.latex2mathml.specs.Conversions.{Conversion, document, IsConverted, IsRefusedAs}
 use Rattle.latex2mathml.specs.{Documents.IsAnswer, Streams.StreamState, Streams.HasEnded, declared.error.FileFault.FileFault}
@@ -14,28 +14,28 @@ pub record IsWholeText (bytes : List ℕ) (state : StreamState) : Type 0 where
   pub is_ended : IsTrue state.ended
   pub is_text : IsUtf8 bytes
 
--- the source failed, its bytes are no text, or there is an error of this kind
+-- the source failed, its bytes are not text, or there is an error of this kind
 abbrev pub IsFault : (LatexError → Type 0) → List ℕ → StreamState → FileFault → Type 0
 IsFault IsError bytes state Read = IsTrue state.failed
 IsFault IsError bytes state NotText = HasEnded state × (¬ IsUtf8 bytes)
 IsFault IsError bytes state (Refused error) = IsFalse state.failed × IsError error
 IsFault IsError bytes state _ = ⊥
 
--- why no text was read; the error is that memory was not found
+-- why no text was read; the only error is that memory ran out
 abbrev pub IsReadFault : List ℕ → StreamState → FileFault → Type 0
 IsReadFault = IsFault (λ error. refusal_of error ≡ None)
 
--- why nothing was made of the bytes; if memory runs out, it may be that in place of anything
+-- why the bytes were not converted; if memory runs out, that may take the place of anything else
 abbrev pub IsMissed : Conversion → List ℕ → StreamState → FileFault → Type 0
 IsMissed conversion bytes state =
     IsFault (λ error. IfSome (refusal_of error) (λ refusal. IsWholeText bytes state × IsRefusedAs conversion bytes refusal)) bytes state
 
--- the fault tells no refusal
+-- the fault reports no refusal
 abbrev pub IsNoRefusal : FileFault → Type 0
 IsNoRefusal (Refused error) = refusal_of error ≡ None
 IsNoRefusal fault = ⊤
 
--- What is read of a document. It is unchanged where the text holds no dollar sign, and nowhere else.
+-- the result of reading a document: unchanged exactly where the text holds no dollar sign
 abbrev pub IsReadingOf : List ℕ → StreamState → Result Reading FileFault → Type 0
 IsReadingOf bytes state (Ok (Changed answer)) =
     IsWholeText bytes state

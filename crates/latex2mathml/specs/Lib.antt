@@ -14,8 +14,7 @@ pub mod Surroundings
 pub mod Tree
 -- texts without a dollar sign
 pub use Rattle.latex2mathml_grammar.specs.Dollars
--- the words that the laws of formulas speak of: the spelling, the grammar, the slices that it reads, and the places between
--- tokens
+-- the terms of the laws of formulas: the spelling, the grammar, the slices that it reads, and the places between tokens
 pub use Rattle.latex2mathml_grammar.specs.Characters
 pub use Rattle.latex2mathml_grammar.specs.Grammar
 pub use Rattle.latex2mathml_grammar.specs.Places

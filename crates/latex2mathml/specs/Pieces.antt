@@ -1,4 +1,4 @@
--- What the cutter's functions answer, in the words of documents: the pieces, one at a time.
+-- What the cutter's functions return, in terms of the definitions of documents: the pieces, one at a time.
 use Rattle.std.specs.Prelude.{◌≡◌, ℕ, List, [], ◌∷◌, ◌++◌, Option, Some, None, Result, Ok, Err}
 use Rattle.latex2mathml.specs.Documents.{Piece, prose, inline, display, piece_text, spelling, IsWhole, IsPiece, IsCut, HasNoCut}
 use Rattle.latex2mathml_grammar.specs.Dollars.{dollar}
@@ -13,17 +13,17 @@ piece_of (Prose plain) = prose plain.text.now
 piece_of (Inline body) = inline body.now
 piece_of (Display body) = display body.now
 
--- this byte stands at the front of the text, or nothing does
+-- this byte is the first of the text, or the text is empty
 abbrev pub EndsAt : ℕ → List ℕ → Type 0
 EndsAt b [] = Unit {0}
 EndsAt b (c ∷ rest) = c ≡ b
 
--- plain text before this rest can be no longer: the rest is nothing, or begins with a dollar sign that is a unit
+-- the plain text before this rest can be no longer: the rest is empty, or begins with a dollar sign that is a unit
 abbrev pub EndsBefore : List ℕ → List ℕ → Type 0
 EndsBefore text [] = Unit {0}
 EndsBefore text (b ∷ rest) = (b ≡ dollar) × IsWhole text
 
--- the same, of prose; a formula ends with its dollar signs
+-- a piece before this rest can be no longer: prose ends as plain text does, and a formula ends with its dollar signs
 abbrev pub IsLongest : Piece → List ℕ → Type 0
 IsLongest (prose text) rest = EndsBefore text rest
 IsLongest piece rest = Unit {0}
@@ -34,22 +34,22 @@ pub record BeginsWithPiece (text : List ℕ) (piece : Piece) (rest : List ℕ) :
   pub split : piece_text piece ++ rest ≡ text
   pub longest : IsLongest piece rest
 
--- .. where the piece is one of the code
+-- the text is this piece of the code and then the rest
 abbrev pub BeginsWith : List ℕ → code.Piece → List ℕ → Type 0
 BeginsWith text piece rest = BeginsWithPiece text (piece_of piece) rest
 
--- a piece, or that the document has no cut
+-- a piece, or the report that the document has no cut
 abbrev pub Item : Type 0
 Item = Result code.Piece NoCut
 
--- what a call gives: the piece at the front; or that what is left has no cut, and then nothing is left; or the end
+-- what a call gives: the piece at the front; or that the rest has no cut, after which nothing is left; or the end
 abbrev pub GivesPiece : Pieces → Option Item → Pieces → Type 0
 GivesPiece before None after = (before.rest.now ≡ []) × (after.rest.now ≡ [])
 GivesPiece before (Some (Ok piece)) after = BeginsWith before.rest.now piece after.rest.now
 GivesPiece before (Some (Err no_cut)) after = HasNoCut before.rest.now × (after.rest.now ≡ [])
 
--- the pieces spell the document up to the rest, every cut of the document begins with them, and with them in front a
--- cut of the rest is one of the document
+-- the pieces spell the document up to the rest, every cut of the document begins with them, and they make a cut of the
+-- rest a cut of the document
 pub record IsFront (document : List ℕ) (given : List Piece) (rest : List ℕ) : Type 0 where
   pub spelled : spelling given ++ rest ≡ document
   pub goes_on : (later : List Piece) → IsCut rest later → IsCut document (given ++ later)

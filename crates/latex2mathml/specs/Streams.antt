@@ -1,11 +1,11 @@
--- What is known of a source or a sink, how a call of either may end, and how a writing may stop.
+-- What is known of a source or a sink, how a call of either may end, and how writing may stop.
 use Rattle.std.specs.Prelude.{ℕ, ◌<◌, ◌==◌, ◌&&◌, nat_lt, List, Bool, false, Option, None, Some, length, take, IsFalse, IsTrue}
 use Rattle.std.specs.Io.KnownBytes.{Appends, Consumes}
 use Rattle.latex2mathml.specs.{declared.error.FileFault.FileFault, declared.error.FileFault.TheVariants.Write}
 use Rattle.latex2mathml.specs.declared.error.WriteCause.{WriteCause}
 use Rattle.latex2mathml.specs.declared.error.WriteCause.TheVariants.{Failed, TookNothing}
 
--- the call moved no byte, though there were so many to move
+-- the call moved no byte, though the given number was due and is not zero
 abbrev pub meets_end : Option ℕ → ℕ → Bool
 meets_end None due = false
 meets_end (Some moved) due = (moved == 0) && nat_lt 0 due
@@ -19,11 +19,11 @@ pub record StreamState : Type 0 where
   -- whether a call has moved no byte, though some were due
   pub ended : Bool
 
--- it has neither failed nor ended, and may be asked
+-- it has neither failed nor ended, and may be called
 abbrev pub CanGoOn : StreamState → Type 0
 CanGoOn state = IsFalse state.failed × IsFalse state.ended
 
--- it has not failed, and has ended: all was moved
+-- it has not failed, and has ended: everything was moved
 abbrev pub HasEnded : StreamState → Type 0
 HasEnded state = IsFalse state.failed × IsTrue state.ended
 
@@ -31,7 +31,7 @@ HasEnded state = IsFalse state.failed × IsTrue state.ended
 abbrev pub Gives : StreamState → StreamState → List ℕ → Type 0
 Gives old new bytes = Consumes old.bytes new.bytes bytes
 
--- .. and has ended
+-- between the two states the source gave these bytes and ended
 abbrev pub GivesAll : StreamState → StreamState → List ℕ → Type 0
 GivesAll old new bytes = Gives old new bytes × HasEnded new
 
@@ -39,12 +39,12 @@ GivesAll old new bytes = Gives old new bytes × HasEnded new
 abbrev pub Takes : StreamState → StreamState → List ℕ → Type 0
 Takes old new bytes = Appends old.bytes new.bytes bytes
 
--- the sink tells this cause, and not the other
+-- the state shows this cause, and not the other
 abbrev pub IsCause : WriteCause → StreamState → Type 0
 IsCause Failed state = IsTrue state.failed × IsFalse state.ended
 IsCause TookNothing state = HasEnded state
 
--- the sink took the first bytes of the text, as many as the fault says and not all of them, and no more
+-- the sink took only the first bytes of the text, as many as the fault says and not all of them
 abbrev pub IsStopped : FileFault → List ℕ → StreamState → StreamState → Type 0
 IsStopped (Write written cause) text old new =
     (written < length text)

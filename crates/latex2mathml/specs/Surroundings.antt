@@ -4,11 +4,11 @@ use Rattle.latex2mathml.specs.Documents.{Piece, prose, inline, display, prose_an
 use Rattle.latex2mathml_trees.specs.Markup.{Name, OpenElements, Schema, Runs, any_element, at_start, empty_tag, lowest, step}
 use Rattle.latex2mathml_trees.specs.Pages.{page_schema}
 
--- a formula may stand at these levels, and leads to those: it counts as a `math` element that holds nothing
+-- a formula may appear at these levels, and leads to those: it counts as a `math` element that holds nothing
 abbrev pub TakesFormula : Schema → OpenElements → OpenElements → Type 0
 TakesFormula schema start end = step schema (empty_tag (codes "math") []) start ≡ Some end
 
--- the prose of the pieces, as it stands in the answer, leads from some levels to others
+-- the prose of the pieces, as it is in the answer, leads from some levels to others
 abbrev pub ProseRuns : Schema → List Piece → OpenElements → OpenElements → Type 0
 ProseRuns schema [] start end = start ≡ end
 ProseRuns schema (prose text ∷ pieces) start end =
@@ -18,7 +18,7 @@ ProseRuns schema (inline body ∷ pieces) start end =
 ProseRuns schema (display body ∷ pieces) start end =
     (middle : OpenElements) × TakesFormula schema start middle × ProseRuns schema pieces middle end
 
--- and it closes what it opens
+-- the prose closes the elements that it opens
 abbrev pub HasClosedProse : Schema → List ℕ → Type 0
 HasClosedProse schema document =
     (pieces : List Piece) × IsCut document pieces × ((children : List Name) × ((has_text : Bool) × ProseRuns schema pieces at_start (lowest children has_text)))
@@ -27,6 +27,6 @@ HasClosedProse schema document =
 abbrev pub HasBalancedProse : List ℕ → Type 0
 HasBalancedProse document = HasClosedProse any_element document
 
--- and it is that of a page
+-- the prose around the formulas is that of a page
 abbrev pub HasPageProse : List ℕ → Type 0
 HasPageProse document = HasClosedProse page_schema document

@@ -19,11 +19,11 @@ pub(crate) enum Piece<'a> {
     Display(&'a str),
 }
 
-/// Says that a document has no cut into pieces.
+/// Reports that a document has no cut into pieces.
 #[derive(Debug, Clone, Copy)]
 pub(crate) struct NoCut;
 
-/// The pieces of a document, one at a time. Where it has no cut, `NoCut` comes once, and nothing after it.
+/// The pieces of a document, one at a time. If the document has no cut, `NoCut` comes once, and nothing follows it.
 #[derive(Debug, Drop)]
 pub(crate) struct Pieces<'a> {
     rest: &'a str,
@@ -34,7 +34,7 @@ impl<'a> Pieces<'a> {
     ghost use Rattle.std.specs.Iterator.{Yields};
     ghost use Rattle.latex2mathml.specs.Pieces.{GivesPiece, IsGiven, Item};
 
-    /// The pieces given so far spell the document up to the place.
+    /// Returns the pieces of the document. Those given so far spell the document up to the place.
     pub(crate) fn new(document: &'a str) -> Self
         ensures rest { result.rest.now ≡ document.now }
         ensures so_far { (given : List Item) (place : _) →
@@ -73,7 +73,7 @@ impl<'a> Iterator for Pieces<'a> {
     }
 }
 
-/// The piece at the front of a text that is not empty, and the rest.
+/// Returns the piece at the front of a text that is not empty, and the rest.
 #[inline(always)]
 fn first_piece(text: &str) -> Option<(Piece<'_>, &str)>
     requires { text.now ≢ [] }
@@ -97,7 +97,7 @@ fn first_piece(text: &str) -> Option<(Piece<'_>, &str)>
     }
 }
 
-/// The text up to its first dollar sign that no backslash takes, and the text from there on.
+/// Splits a text at its first dollar sign that no backslash takes, or at its end.
 #[inline(always)]
 fn until_dollar(text: &str) -> (Plain<'_>, &str)
     ensures joined { result.0.text.now ++ result.1.now ≡ text.now }
@@ -116,7 +116,7 @@ fn until_dollar(text: &str) -> (Plain<'_>, &str)
     (plain, rest)
 }
 
-/// The text up to its first dollar sign, and the text from there on.
+/// Splits a text at its first dollar sign, or at its end.
 #[inline(always)]
 fn up_to_dollar(text: &str) -> (&str, &str)
     ensures joined { result.0.now ++ result.1.now ≡ text.now }
@@ -129,7 +129,7 @@ fn up_to_dollar(text: &str) -> (&str, &str)
     }
 }
 
-/// As `until_dollar` answers, unit by unit.
+/// Splits a text as `until_dollar` does, unit by unit.
 fn by_units(text: &str) -> (Plain<'_>, &str)
     ensures joined { result.0.text.now ++ result.1.now ≡ text.now }
     ensures plain { IsPlain result.0.text.now }

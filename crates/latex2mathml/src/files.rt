@@ -1,4 +1,4 @@
-//! The documents under a path, converted in place.
+//! Converts the documents under a path in place.
 ghost use Rattle.std.specs.Prelude.{◌≡◌, ◌↔◌, ◌∷◌, ◌++◌, [], List, All, IfOk, IsTrue, OnOk, length, string_bytes};
 ghost use Rattle.latex2mathml.specs.Files.{IsDocumentPath, IsListed, IsWalk, IsWalked, IsWhollyWalked, entry_path, levels_read};
 ghost use Rattle.latex2mathml.specs.declared.error.FileFault.TheVariants.{Entry};
@@ -15,7 +15,7 @@ use std::rt::Files;
 /// A file or a directory that was not converted, and why.
 #[derive(Debug, Drop, PartialEq)]
 pub struct Unconverted {
-    /// The path that was handed in, and after it the names that lead to the file or the directory.
+    /// The path that the caller passed, followed by the names that lead to the file or the directory.
     pub path: String,
     pub fault: FileFault,
 }
@@ -23,28 +23,28 @@ pub struct Unconverted {
 /// How many levels of directories are read.
 const LEVELS: u32 = 64;
 
-/// Converts the documents under a path in place, as [`replace`](crate::replace) does, and answers what it could not
-/// convert: the list is empty where it could convert all.
+/// Converts the documents under a path in place, as [`replace`](crate::replace) does, and returns what it could not
+/// convert. The list is empty if it could convert everything.
 ///
-/// A directory is walked with all that lies under it, links are followed, and a file is a document where its name ends
-/// in `.html` and is longer. Any other file, and a path where nothing stands, is left alone and not listed. A document is
-/// written only where its answer differs from what it holds.
+/// A directory is walked with everything under it, and links are followed. A file is a document if its name ends in
+/// `.html` and is longer than that. Any other file is left alone and not listed, and so is a path where nothing exists. A
+/// document is written only if its answer differs from what it holds.
 ///
-/// The entries of a directory are taken in the order of their names' bytes, and each subdirectory is walked whole in its
-/// place; the list has the same order. A fault does not end the walk. Its path is the one handed in and the names that
-/// lead from there, with slashes between:
+/// The entries of a directory are visited in the order of their names' bytes, and each subdirectory is walked completely
+/// in its turn. The list has the same order. A fault does not end the walk. Its path is the one passed in, followed by the
+/// names that lead to it, with slashes between them:
 ///
 /// - [`FileFault::List`]: the directory could not be listed.
-/// - [`FileFault::Entry`]: an entry of this directory could not be read, or its name is no text. It comes before the
+/// - [`FileFault::Entry`]: an entry of this directory could not be read, or its name is not text. It comes before the
 ///   other entries of the directory, once for each such entry.
-/// - [`FileFault::TooDeep`]: the directory lies below 64 others, the one handed in among them, and was not read.
+/// - [`FileFault::TooDeep`]: the directory is below 64 others, including the one passed in, and was not read.
 /// - [`FileFault::Read`], [`FileFault::NotText`], [`FileFault::Refused`]: the document could not be opened or read, is
-///   not UTF-8, or is refused, also when out of memory. It holds what it held.
-/// - [`FileFault::Create`]: the document could not be opened to be written anew.
-/// - [`FileFault::Write`]: it was opened and emptied, and then took only the first `written` bytes of its answer. The
-///   rest of what it held is lost.
+///   not UTF-8, or is refused or memory ran out for it. It is unchanged.
+/// - [`FileFault::Create`]: the document could not be opened for writing.
+/// - [`FileFault::Write`]: the document was opened and emptied, and then took only the first `written` bytes of its
+///   answer. The rest of what it held is lost.
 ///
-/// `AllocError` comes where memory is not found for the walk itself: its names, a path, or the list. What was converted
+/// Returns `AllocError` if memory runs out for the walk itself: for its names, a path, or the list. What was converted
 /// until then stays converted.
 pub fn convert_html<R: Files + Alloc + Clone + Drop>(
     rt: &R,
@@ -58,10 +58,10 @@ pub fn convert_html<R: Files + Alloc + Clone + Drop>(
 
 /// Converts the documents under a path of a site, as [`convert_html`] does with those of the system.
 ///
-/// The site is asked once what stands at a path, then, of a directory among the 64 levels, what it holds, and, of a
-/// document, to convert it. Nothing else is asked, and each entry of a directory is walked. The list has a member for
-/// each answer that is a fault, for each entry that a listing could not read, and for each directory below the levels,
-/// and no other.
+/// The site is asked once what is at a path. It is then asked what a directory within the 64 levels holds, and to convert
+/// a document. It is asked for nothing else, and each entry of a directory is walked. The list has a member for each
+/// answer that is a fault, for each entry that a listing could not read, and for each directory below the levels, and no
+/// other.
 pub fn convert_site<S: Site>(
     site: &mut S,
     alloc: Global,
@@ -75,8 +75,8 @@ pub fn convert_site<S: Site>(
     Ok(unconverted)
 }
 
-/// Converts what lies under a path, down to so many levels of directories, and adds to the list what it could not
-/// convert.
+/// Converts what is under a path, down to the given number of levels of directories, and adds to the list what it could
+/// not convert.
 fn walk<S: Site>(
     site: &mut S,
     alloc: Global,
@@ -115,7 +115,7 @@ fn walk<S: Site>(
     Ok(())
 }
 
-/// Whether a file of this path is a document: its name ends in `.html` and is longer.
+/// Whether a file of this path is a document: its name ends in `.html` and is longer than that.
 fn is_document(path: &str) -> bool
     ensures document { IsTrue result ↔ IsDocumentPath path.now }
 {
@@ -125,7 +125,7 @@ fn is_document(path: &str) -> bool
     }
 }
 
-/// The path of an entry: one slash stands between the directory's path and the name.
+/// Returns the path of an entry: the directory's path and the name, with one slash between them.
 fn join(alloc: Global, path: &str, name: &str) -> Result<String, AllocError>
     ensures entry { IfOk result (λ entry. string_bytes entry ≡ entry_path path.now name.now) }
 {

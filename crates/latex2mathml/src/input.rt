@@ -1,4 +1,4 @@
-//! Texts and documents from sources.
+//! Reads texts and documents from sources.
 ghost use Rattle.std.specs.Prelude.{ℕ, List, IfErr, IfOk, IsTrue, MatchBool, string_bytes};
 ghost use Rattle.std.specs.Io.KnownBytes.{IsAtEnd};
 ghost use Rattle.latex2mathml.specs.{Inputs.IsReadFault, Inputs.IsReadingOf, Streams.CanGoOn, Streams.Gives, Streams.GivesAll};
@@ -43,7 +43,7 @@ pub fn read_document<S: Source>(alloc: Global, source: &mut S) -> Result<Reading
     ensures all_read { IsTrue (S.state source.new).ended → IsAtEnd (S.state source.new).bytes }
 {
     let text = read_text(alloc, source)?;
-    // Such a document is its own answer, and need not be copied.
+    // A document without a dollar sign is its own answer, and need not be copied.
     if !holds_dollar(text.as_str()) {
         return Ok(Reading::Unchanged(text));
     }

@@ -20,7 +20,7 @@ pub fn one_cut(document: &str)
 ///
 /// - A document has at most one cut.
 /// - Each document has exactly one answer or exactly one refusal. The refusal is for dollar signs exactly if there is no cut.
-/// - An answer is its own answer, and has one `math` element in the place of each formula.
+/// - An answer is its own answer, and has one `math` element in place of each formula.
 /// - Answers are joined as their documents are, under the condition of [`joined`].
 /// - If the prose around the formulas is balanced markup, so is the answer.
 pub fn answers()

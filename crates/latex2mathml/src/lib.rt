@@ -1,11 +1,11 @@
-//! LaTeX formulas to MathML, proved.
+//! A proved converter of LaTeX formulas to MathML.
 //!
 //! - [`latex_to_mathml`] converts one formula to one `math` element.
 //! - [`replace`] converts each formula of a document.
 //! - [`convert_html`] converts the documents under a path.
 //!
-//! Every call that may allocate takes the allocator: as its first argument, or after `self`, the runtime or the site. It returns
-//! a `Result`, and [`latex_to_mathml_counted`] returns one beside the counts.
+//! Every call that may allocate takes the allocator: as its first argument, or after `self`, the runtime or the site. It
+//! returns a `Result`, and [`latex_to_mathml_counted`] returns one together with the counts.
 #![tactic(auto)]
 
 ghost use Rattle.std.specs.Prelude.{IfOk, string_bytes};

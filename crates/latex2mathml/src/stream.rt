@@ -11,10 +11,10 @@ pub trait Source {
     /// What is known of the source: the bytes that later calls give, and whether it has failed or ended.
     ghost state: { Self → StreamState };
 
-    /// Puts bytes at the start of `room` and returns how many, or returns `None` if the source fails.
+    /// Writes bytes to the start of `room` and returns how many, or returns `None` if the source fails.
     ///
-    /// The source must not have failed or ended. It has failed exactly if the result is `None`, and no byte is then lost. It has
-    /// ended exactly if the result is `Some(0)` and `room` is not empty.
+    /// The source must not have failed or ended. It has failed exactly if the result is `None`, and no byte is then lost. It
+    /// has ended exactly if the result is `Some(0)` and `room` is not empty.
     fn take_in(&mut self, room: &mut [u8]) -> Option<usize>
         requires { CanGoOn (state self.old) }
         ensures bound { IfSome result (λ n. n ≤ length room.new) }
@@ -33,8 +33,8 @@ pub trait Sink {
 
     /// Takes the first of the bytes and returns how many, or returns `None` if the sink fails.
     ///
-    /// The sink must not have failed or ended. It has failed exactly if the result is `None`, and the call then took no byte. It
-    /// has ended exactly if the result is `Some(0)` and `bytes` is not empty.
+    /// The sink must not have failed or ended. It has failed exactly if the result is `None`, and the call then took no byte.
+    /// It has ended exactly if the result is `Some(0)` and `bytes` is not empty.
     fn put_out(&mut self, bytes: &[u8]) -> Option<usize>
         requires { CanGoOn (state self.old) }
         ensures bound { IfSome result (λ n. n ≤ length bytes.now) }

@@ -24,7 +24,7 @@ listed_there (c ∷ cs) zero k d h i = absurd (omega arith)
 listed_there (c ∷ cs) (suc len) zero d h i = refl
 listed_there (c ∷ cs) (suc len) (suc k) d h i = listed_there cs len k d (omega arith) (omega arith)
 
--- .. up to the end of them
+-- a place after the listed columns
 pub none_behind : (cs : List Own) (len k : ℕ) → len ≤ k → column_at (Listed (map column_of (take len cs))) k ≡ Centered
 none_behind [] zero k h = refl
 none_behind [] (suc len) k h = refl
@@ -32,7 +32,7 @@ none_behind (c ∷ cs) zero k h = refl
 none_behind (c ∷ cs) (suc len) zero h = absurd (omega arith)
 none_behind (c ∷ cs) (suc len) (suc k) h = none_behind cs len k (omega arith)
 
--- .. or of the room for them
+-- a place beyond the room for listed columns
 pub none_beyond : (cs : List Own) (len k : ℕ) → length cs ≤ k → column_at (Listed (map column_of (take len cs))) k ≡ Centered
 none_beyond [] zero k h = refl
 none_beyond [] (suc len) k h = refl

@@ -1,4 +1,4 @@
--- Elements around one other, and rectangles, as the definitions have them.
+-- Elements around one other element, and rectangles, as values of the definitions.
 use Rattle.std.specs.Prelude.{[], ◌∷◌, Some}
 use Rattle.latex2mathml_elements.specs.Attributes as attributes
 use Rattle.latex2mathml_elements.specs.Attributes.{Attributes, boxed, plain}

@@ -1,4 +1,4 @@
--- The columns of the code, as the definitions have them.
+-- The columns of the code, as values of the definitions.
 use Rattle.std.specs.Prelude.{Bool, false, nat_lt, List, [], ◌∷◌, ◌++◌, length, map, take, if◌then◌else◌}
 use Rattle.latex2mathml_elements.specs.Columns as defined
 use Rattle.latex2mathml_attributes.specs.declared.columns.Column.{Column}
@@ -15,7 +15,7 @@ column_of column.FirstOfPair = defined.FirstOfPair
 column_of column.SecondOfPair = defined.SecondOfPair
 column_of column.Dense = defined.Dense
 
--- columns of this kind, of which these are listed
+-- columns of this kind; the list is that of listed columns
 abbrev pub columns_with : Kind → List defined.Column → defined.Columns
 columns_with (kind.Alike column) listed = defined.Alike (column_of column)
 columns_with kind.InPairs listed = defined.InPairs
@@ -24,7 +24,7 @@ columns_with kind.Listed listed = defined.Listed listed
 abbrev pub columns_of : Columns → defined.Columns
 columns_of c = columns_with c.kind (map column_of (take c.len c.listed))
 
--- columns are listed, and fewer than 16
+-- the columns are a list of fewer than 16
 abbrev pub has_room : defined.Columns → Bool
 has_room (defined.Listed columns) = nat_lt (length columns) 16
 has_room columns = false

@@ -1,4 +1,4 @@
--- The names and attributes of the code, as the definitions have them.
+-- The names and attributes of the code, as values of the definitions.
 use Rattle.std.specs.Prelude.{ℕ, List, None, option_map, pos}
 use Rattle.latex2mathml_elements.specs.Attributes as attributes
 use Rattle.latex2mathml_elements.specs.Element as element

@@ -1,4 +1,4 @@
-//! Elements around one other.
+//! Elements around one other element.
 ghost use Rattle.std.specs.Prelude.{◌≡◌, ◌<◌, ◌++◌, OnOk, codes, string_bytes};
 ghost use Rattle.latex2mathml_elements.specs.Attributes.{boxed};
 ghost use Rattle.latex2mathml_elements.specs.Colors.{color_code, hexadecimal, two_digits};
@@ -9,7 +9,7 @@ ghost use Rattle.latex2mathml_attributes.specs.Arounds.{around_attributes, aroun
 use crate::extent::append_if_any;
 use std::alloc::AllocError;
 
-/// How much there is of each color.
+/// A color: how much of each primary color there is.
 #[derive(Debug, Clone, Copy)]
 pub struct Color {
     pub red: u8,
@@ -17,7 +17,7 @@ pub struct Color {
     pub blue: u8,
 }
 
-/// What is made of the box around an element.
+/// A change to the box around an element.
 #[derive(Debug, Clone, Copy)]
 pub enum Boxing {
     NoWidth,
@@ -25,35 +25,35 @@ pub enum Boxing {
     Flat,
     NoHeight,
     NoDepth,
-    /// It stands to the left of its place, by its width.
+    /// The box is moved to the left, by its width.
     ByItsWidth,
-    /// By half its width.
+    /// The box is moved to the left, by half its width.
     ByHalfItsWidth,
-    /// A line stands around it.
+    /// The box has a line around it.
     Framed,
-    /// A line goes through it, from its lower left.
+    /// A line crosses the box from its lower left.
     StruckUp,
-    /// From its upper left.
+    /// A line crosses the box from its upper left.
     StruckDown,
-    /// Both.
+    /// Both lines cross the box.
     StruckTwice,
 }
 
 /// What an element does with the one in it.
 #[derive(Debug, Clone, Copy)]
 pub enum Around {
-    /// It is not seen.
+    /// The inner element is invisible.
     Unseen,
     Boxed(Boxing),
-    /// It stands so many thousandths of an em above its place.
+    /// The inner element is raised above its place by this number of thousandths of an em.
     Raised(i32),
     Colored(Color),
-    /// This color lies behind it.
+    /// The inner element has this background color.
     Before(Color),
 }
 
 impl Boxing {
-    /// The start tag.
+    /// Returns the start tag.
     fn start_tag(self) -> &'static str
         ensures { result.now ≡ start_tag (codes "mpadded") (boxed (boxing_of self)) }
     {
@@ -97,7 +97,7 @@ impl Around {
         }
     }
 
-    /// The end tag.
+    /// Returns the end tag.
     pub fn end(self) -> &'static str
         ensures { result.now ≡ end_tag (container_name (around_name self)) }
     {
@@ -109,7 +109,7 @@ impl Around {
     }
 }
 
-/// Appends the start tag of what is raised by this length.
+/// Appends the start tag of an element that raises its child by this length.
 fn append_raised(length: i32, out: &mut String) -> Result<(), AllocError>
     ensures { OnOk result (string_bytes out.new ≡ string_bytes out.old
         ++ (codes "<mpadded" ++ (length_if_any (codes "voffset") length ++ codes ">"))) }
@@ -120,7 +120,7 @@ fn append_raised(length: i32, out: &mut String) -> Result<(), AllocError>
     Ok(())
 }
 
-/// Appends a start tag that begins so and whose last attribute is a color.
+/// Appends a start tag: `beginning`, then the color as the value of the last attribute.
 fn append_colored(beginning: &'static str, color: Color, out: &mut String) -> Result<(), AllocError>
     ensures { OnOk result (string_bytes out.new ≡ string_bytes out.old
         ++ (beginning.now ++ (color_code (color_of color) ++ codes "\">"))) }
@@ -134,7 +134,7 @@ fn append_colored(beginning: &'static str, color: Color, out: &mut String) -> Re
     Ok(())
 }
 
-/// Appends a byte in hexadecimal.
+/// Appends a byte as two hexadecimal digits.
 fn append_two_digits(byte: u8, out: &mut String) -> Result<(), AllocError>
     ensures { OnOk result (string_bytes out.new ≡ string_bytes out.old ++ two_digits byte) }
 {
@@ -143,7 +143,7 @@ fn append_two_digits(byte: u8, out: &mut String) -> Result<(), AllocError>
     Ok(())
 }
 
-/// A digit in hexadecimal.
+/// Returns a hexadecimal digit.
 fn hexadecimal(digit: u8) -> char
     requires { digit < 16 }
     ensures value { result ≡ hexadecimal digit }

@@ -6,14 +6,14 @@ ghost use Rattle.latex2mathml_attributes.specs.Names.{attributes_of, form_of, ma
 
 use std::alloc::AllocError;
 
-/// The side of its base on which a mark stands.
+/// The side of its base on which a mark is.
 #[derive(Debug, Clone, Copy)]
 pub enum Side {
     Above,
     Below,
 }
 
-/// Where an operator stands among others.
+/// The position of an operator among other elements.
 #[derive(Debug, Clone, Copy)]
 pub enum Form {
     Prefix,
@@ -21,7 +21,7 @@ pub enum Form {
     Postfix,
 }
 
-/// Whether an operator is as high or as wide as what stands beside it.
+/// Whether an operator grows as high or as wide as what is next to it.
 #[derive(Debug, Clone, Copy)]
 pub enum Stretch {
     Stretching,
@@ -74,12 +74,12 @@ pub struct Attributes {
     pub accent: Option<Side>,
     /// A fraction without its line.
     pub no_line: bool,
-    /// The style of what stands in it, whatever the style around it is.
+    /// The style of what is in it, whatever the style around it is.
     pub style: Option<MathStyle>,
 }
 
 impl Attributes {
-    /// No attributes.
+    /// Returns no attributes.
     pub fn plain() -> Attributes
         ensures { attributes_of result ≡ plain }
     {
@@ -98,7 +98,7 @@ impl Attributes {
         }
     }
 
-    /// Those of a single letter that is not italic.
+    /// Returns the attributes of a single letter that is not italic.
     pub fn upright() -> Attributes
         ensures { attributes_of result ≡ record plain { upright = true } }
     {
@@ -108,7 +108,7 @@ impl Attributes {
         }
     }
 
-    /// Those of an element with a style of its own, where it has one.
+    /// Returns the attributes of an element with this style of its own, if any.
     pub fn styled(style: Option<MathStyle>) -> Attributes
         ensures { attributes_of result ≡ styled (option_map math_style_of style) }
     {

@@ -4,25 +4,25 @@ ghost use Rattle.latex2mathml_elements.specs.Print.{column_text};
 ghost use Rattle.latex2mathml_elements.specs.Columns.{Alike, Centered, InPairs, LeftAligned, Listed, RightAligned, column_at};
 ghost use Rattle.latex2mathml_attributes.specs.Columns.{column_of, columns_of, has_room, listed_behind};
 
-/// How the cells of a column stand in it.
+/// How the cells of a column are aligned.
 #[derive(Debug, Clone, Copy)]
 pub enum Column {
     Centered,
     LeftAligned,
     RightAligned,
-    /// The first of two columns that meet with no space between them: at its right end.
+    /// The first of two columns with no space between them. It is aligned right.
     FirstOfPair,
-    /// The second of them: at its left end.
+    /// The second of two columns with no space between them. It is aligned left.
     SecondOfPair,
-    /// In the middle, with little space around.
+    /// Centered, with little space around.
     Dense,
 }
 
-/// All columns of a table, however many there are. By `columns_of`, contracts speak of them as the definitions have them.
+/// All columns of a table, however many there are. Contracts refer to them as `columns_of`, as the definitions have them.
 #[derive(Debug, Clone, Copy)]
 pub struct Columns {
     kind: Kind,
-    /// An array and its length, since parts are copied: a list that allocates is not.
+    /// An array and its length, since parts are copied, and a list that allocates cannot be.
     listed: [Column; 16],
     len: u8,
 }
@@ -35,7 +35,7 @@ enum Kind {
 }
 
 impl Column {
-    /// The attributes of a cell.
+    /// Returns the attributes of a cell.
     pub fn text(self) -> &'static str
         ensures { result.now ≡ column_text (column_of self) }
     {
@@ -54,7 +54,7 @@ impl Column {
 }
 
 impl Columns {
-    /// Each like this one.
+    /// Returns columns that are all like this one.
     pub fn alike(column: Column) -> Columns
         ensures { columns_of result ≡ Alike (column_of column) }
     {
@@ -64,7 +64,7 @@ impl Columns {
         }
     }
 
-    /// Pairs, side by side.
+    /// Returns pairs of columns, next to each other.
     pub fn in_pairs() -> Columns
         ensures { columns_of result ≡ InPairs }
     {
@@ -74,7 +74,7 @@ impl Columns {
         }
     }
 
-    /// One that is right-aligned, one that is centered and one that is left-aligned, and centered ones behind them.
+    /// Returns a right-aligned, a centered and a left-aligned column, followed by centered ones.
     pub fn right_center_left() -> Columns
         ensures { columns_of result ≡ Listed (RightAligned ∷ Centered ∷ LeftAligned ∷ []) }
     {
@@ -88,7 +88,7 @@ impl Columns {
         }
     }
 
-    /// None that is listed so far. Centered ones stand behind those that are listed.
+    /// Returns an empty list of columns. The listed columns are followed by centered ones.
     pub fn none() -> Columns
         ensures { columns_of result ≡ Listed [] }
     {
@@ -99,8 +99,8 @@ impl Columns {
         }
     }
 
-    /// Puts a column behind those that are listed, of which there can be 16. Returns whether there is room, and changes nothing
-    /// where there is none. There is none behind columns that are not listed.
+    /// Adds a column to the listed ones, of which there can be 16. Returns whether there is room, and changes nothing if there
+    /// is none. Columns that are not a list have no room.
     pub fn push(&mut self, column: Column) -> bool
         ensures columns { columns_of self.new
             ≡ listed_behind (column_of column) (columns_of self.old) }
@@ -114,7 +114,7 @@ impl Columns {
         true
     }
 
-    /// The column behind so many others.
+    /// Returns the column that follows `place` others.
     pub fn column_at(&self, place: usize) -> Column
         ensures { column_of result ≡ column_at (columns_of self.now) place }
     {

@@ -6,19 +6,19 @@ ghost use Rattle.latex2mathml_attributes.specs.Arounds.{extent_of};
 
 use std::alloc::AllocError;
 
-/// How wide and how high a rectangle is, in thousandths of an em.
+/// The width, height and depth of a rectangle, in thousandths of an em.
 #[derive(Debug, Clone, Copy)]
 pub struct Extent {
     pub width: i32,
     /// Above the line.
     pub height: i32,
-    /// Below it.
+    /// Below the line.
     pub depth: i32,
     pub is_black: bool,
 }
 
 impl Extent {
-    /// Nothing but a width.
+    /// Returns an empty rectangle with a width only.
     pub fn wide(width: i32) -> Extent
         ensures { extent_of result ≡ wide width }
     {
@@ -45,7 +45,7 @@ impl Extent {
     }
 }
 
-/// Appends a length behind what stands before it, unless it is none.
+/// Appends the beginning of an attribute and its length, unless the length is zero.
 pub fn append_if_any(
     beginning: &'static str,
     length: i32,
@@ -60,7 +60,7 @@ pub fn append_if_any(
     append_length(beginning, length, out)
 }
 
-/// Appends a length and its quotation mark behind what stands before it.
+/// Appends the beginning of an attribute, then its length and the closing quotation mark.
 fn append_length(beginning: &'static str, length: i32, out: &mut String) -> Result<(), AllocError>
     ensures { OnOk result (string_bytes out.new
         ≡ string_bytes out.old ++ (beginning.now ++ (ems length ++ codes "em\""))) }

@@ -1,4 +1,4 @@
-//! Names and attributes of elements, and the text that each of them is in markup.
+//! Names and attributes of elements, and the text of each in markup.
 //!
 //! They are those of the definitions in `latex2mathml_elements`. The crate `latex2mathml_builder` makes elements with them.
 #![tactic(auto)]

@@ -20,7 +20,7 @@ pub enum Container {
     Mstyle,
 }
 
-/// The elements that hold two.
+/// The elements that hold two elements.
 #[derive(Debug, Clone, Copy)]
 pub enum Pair {
     Mfrac,
@@ -31,7 +31,7 @@ pub enum Pair {
     Mover,
 }
 
-/// The elements that hold three.
+/// The elements that hold three elements.
 #[derive(Debug, Clone, Copy)]
 pub enum Triple {
     Msubsup,
@@ -39,7 +39,7 @@ pub enum Triple {
 }
 
 impl Token {
-    /// What the start tag begins with.
+    /// Returns the beginning of the start tag: `<` and the name.
     pub fn start(self) -> &'static str
         ensures { result.now ≡ codes "<" ++ token_name (token_of self) }
     {
@@ -51,7 +51,7 @@ impl Token {
         }
     }
 
-    /// The start tag without attributes.
+    /// Returns the start tag without attributes.
     pub fn start_tag(self) -> &'static str
         ensures { result.now ≡ (codes "<" ++ token_name (token_of self)) ++ codes ">" }
     {
@@ -63,7 +63,7 @@ impl Token {
         }
     }
 
-    /// The end tag.
+    /// Returns the end tag.
     pub fn end(self) -> &'static str
         ensures { result.now ≡ end_tag (token_name (token_of self)) }
     {
@@ -77,7 +77,7 @@ impl Token {
 }
 
 impl Container {
-    /// What the start tag begins with.
+    /// Returns the beginning of the start tag: `<` and the name.
     pub fn start(self) -> &'static str
         ensures { result.now ≡ codes "<" ++ container_name (container_of self) }
     {
@@ -88,7 +88,7 @@ impl Container {
         }
     }
 
-    /// The start tag without attributes.
+    /// Returns the start tag without attributes.
     pub fn start_tag(self) -> &'static str
         ensures { result.now ≡ (codes "<" ++ container_name (container_of self)) ++ codes ">" }
     {
@@ -99,7 +99,7 @@ impl Container {
         }
     }
 
-    /// The end tag.
+    /// Returns the end tag.
     pub fn end(self) -> &'static str
         ensures { result.now ≡ end_tag (container_name (container_of self)) }
     {
@@ -112,7 +112,7 @@ impl Container {
 }
 
 impl Pair {
-    /// What the start tag begins with.
+    /// Returns the beginning of the start tag: `<` and the name.
     pub fn start(self) -> &'static str
         ensures { result.now ≡ codes "<" ++ pair_name (pair_of self) }
     {
@@ -126,7 +126,7 @@ impl Pair {
         }
     }
 
-    /// The start tag without attributes.
+    /// Returns the start tag without attributes.
     pub fn start_tag(self) -> &'static str
         ensures { result.now ≡ (codes "<" ++ pair_name (pair_of self)) ++ codes ">" }
     {
@@ -140,7 +140,7 @@ impl Pair {
         }
     }
 
-    /// The end tag.
+    /// Returns the end tag.
     pub fn end(self) -> &'static str
         ensures { result.now ≡ end_tag (pair_name (pair_of self)) }
     {
@@ -156,7 +156,7 @@ impl Pair {
 }
 
 impl Triple {
-    /// What the start tag begins with.
+    /// Returns the beginning of the start tag: `<` and the name.
     pub fn start(self) -> &'static str
         ensures { result.now ≡ codes "<" ++ triple_name (triple_of self) }
     {
@@ -166,7 +166,7 @@ impl Triple {
         }
     }
 
-    /// The start tag without attributes.
+    /// Returns the start tag without attributes.
     pub fn start_tag(self) -> &'static str
         ensures { result.now ≡ (codes "<" ++ triple_name (triple_of self)) ++ codes ">" }
     {
@@ -176,7 +176,7 @@ impl Triple {
         }
     }
 
-    /// The end tag.
+    /// Returns the end tag.
     pub fn end(self) -> &'static str
         ensures { result.now ≡ end_tag (triple_name (triple_of self)) }
     {

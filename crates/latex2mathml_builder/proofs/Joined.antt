@@ -83,12 +83,12 @@ module _ (texts : List ℕ) (settled stack : List Part) (t u : Token) (a b none 
   pub are_joined : are_tokens (elements texts settled stack) ≡ true
   are_joined = ap are_tokens (ap (elements texts settled) was ∙ stacked-append (element texts settled) base (x ∷ y ∷ []))
 
--- Where one of the two is no token
+-- Nothing is joined if one of the two is not a token
 
 abbrev Same : List Element → Type 0
 Same xs = (joined xs ≡ xs) × (are_tokens xs ≡ false)
 
--- the uppermost one
+-- the uppermost one is not a token
 pub no_upper : (x : Element) (xs : List Element) → token_of_element x ≡ None → Same (x ∷ xs)
 no_upper (token t a text) xs h = cc
 no_upper (space width) xs h = (refl, refl)
@@ -98,7 +98,7 @@ no_upper (pair p a y z) xs h = (refl, refl)
 no_upper (triple t a w y z) xs h = (refl, refl)
 no_upper (table a rows) xs h = (refl, refl)
 
--- .. or the one below
+-- the one below is not a token
 pub no_lower : (x y : Element) (xs : List Element) → token_of_element y ≡ None → Same (x ∷ y ∷ xs)
 no_lower (token t a text) (token u b other) xs h = cc
 no_lower (token t a text) (space width) xs h = (refl, refl)
@@ -114,7 +114,7 @@ no_lower (pair p a w z) y xs h = (refl, refl)
 no_lower (triple t a v w z) y xs h = (refl, refl)
 no_lower (table a rows) y xs h = (refl, refl)
 
--- .. or there are no two
+-- there are fewer than two
 pub no_two : (xs : List Element) → length xs < 2 → Same xs
 no_two [] h = (refl, refl)
 no_two (x ∷ y ∷ xs) h = absurd (omega arith)

@@ -53,7 +53,7 @@ pub given_split : (a : Attributes) (xs ys : List Element) (x : Element) → give
 given_split a [] ys x = refl
 given_split a (z ∷ xs) ys x = ap (λ l. z ∷ l) (given_split a xs ys x)
 
--- no element is so far below
+-- no element has `depth` others above it
 pub none_at : (depth : ℕ) (xs : List Element) → length xs ≤ depth → token_at depth xs ≡ None
 none_at depth [] h = refl
 none_at zero (x ∷ xs) h = absurd (omega arith)

@@ -1,4 +1,4 @@
--- Parts fit as well where texts and settled elements are added, and their elements stay.
+-- Parts still fit after texts and settled elements are added, and their elements stay the same.
 use Rattle.std.proofs.Common.{◌≡◌, ℕ, suc, ◌+◌, ◌-◌, ◌≤◌, false, List, [], ◌∷◌, ◌++◌, length, length-append, append-nil, append_assoc, length-drop, take, drop, map, option_map, refl, sym, ap, ◌∙◌, arith, subst}
 use Rattle.std.specs.Str.{IsUtf8, IsCharBoundary}
 use Rattle.std.proofs.lemmas.Str.{IsCharBoundary-from_take}
@@ -60,7 +60,7 @@ between_more text more start end h e =
 
 -- Parts
 
--- so many elements from one on
+-- the `count` elements from `first` on
 same_children : (xs ys : List Element) (first count n : ℕ) → first + count ≤ n → n ≤ length xs → take count (drop first (xs ++ ys)) ≡ take count (drop first xs)
 same_children xs ys first count n h k =
     ap (take count) (drop-append-le first xs ys (omega arith)) ∙ take-append-le count (drop first xs) ys (omega (arith, length-drop first xs))
@@ -107,7 +107,7 @@ pub elements_kept : (texts more : List ℕ) (xs ys : List Element) (n : ℕ) (ps
 elements_kept texts more xs ys n [] h f = refl
 elements_kept texts more xs ys n (p ∷ ps) h f = cc (element_kept texts more xs ys n p h f.0, elements_kept texts more xs ys n ps h f.1)
 
--- each fits among those before it, if all fit among the first
+-- each part fits among the elements before it, if all fit among the first `n`
 pub each_fits : (texts : List ℕ) (n m : ℕ) (ps : List Part) → n ≤ m → AllFit texts n ps → EachFits texts m ps
 each_fits texts n m [] h f = tt
 each_fits texts n m (p ∷ ps) h f = (subst (λ t. Fits t m p) (append-nil texts) (fits_more texts [] n m p h f.0), each_fits texts n (suc m) ps (omega arith) f.1)
@@ -124,9 +124,9 @@ pub each_right : (texts : List ℕ) (n : ℕ) (ps qs : List Part) → EachFits t
 each_right texts n [] qs f = subst (λ m. EachFits texts m qs) (omega arith) f
 each_right texts n (p ∷ ps) qs f = subst (λ m. EachFits texts m qs) (omega arith) (each_right texts (suc n) ps qs f.1)
 
--- Texts side by side
+-- Adjoining texts
 
--- a text begins here, if the part has one
+-- the text of the part begins at this place, if it has one
 abbrev pub StartsAt : ℕ → Part → Type 0
 StartsAt n (part.Token t a start end) = start ≡ n
 StartsAt n p = Unit {0}
@@ -146,7 +146,7 @@ adjoin_last n [] p s = s
 adjoin_last n (q ∷ []) p s = s.1
 adjoin_last n (q ∷ r ∷ ps) p s = adjoin_last n (r ∷ ps) p s.1
 
--- another part in place of one, which meets what that one met
+-- a part replaced by another one, which meets what the old one met
 pub adjoin_replaced : (n m : ℕ) (ps qs rs : List Part) (p q : Part) → ((o : Part) → Meets o p → Meets o q) → (Adjoin n (p ∷ qs) → Adjoin m (q ∷ rs)) → Adjoin n (ps ++ (p ∷ qs)) → Adjoin m (ps ++ (q ∷ rs))
 adjoin_replaced n m [] qs rs p q before behind s = behind s
 adjoin_replaced n m (o ∷ []) qs rs p q before behind s = (before o s.0, behind s.1)
@@ -168,13 +168,13 @@ pub ends_no_token : (n : ℕ) (p : Part) → is_token_part p ≡ false → EndsA
 ends_no_token n (part.Token t a start end) e = cc
 ends_no_token n p e = tt
 
--- a part without a text in place of the last ones
+-- the last parts replaced by a part without a text
 pub adjoin_cut : (n m : ℕ) (ps qs : List Part) (p : Part) → is_token_part p ≡ false → Adjoin n (ps ++ qs) → Adjoin m (ps ++ p ∷ [])
 adjoin_cut n m [] qs p e s = ends_no_token m p e
 adjoin_cut n m (o ∷ []) qs p e s = (meets_no_token o p e, ends_no_token m p e)
 adjoin_cut n m (o ∷ r ∷ ps) qs p e s = (s.0, adjoin_cut n m (r ∷ ps) qs p e s.1)
 
--- a token that begins where another one begins, and one that ends where it ends
+-- a token that begins where another one begins, and a token that ends where another one ends
 pub same_before : (t u : Token) (a b : Attributes) (start end to : ℕ) (o : Part) → Meets o (part.Token t a start end) → Meets o (part.Token u b start to)
 same_before t u a b start end to (part.Token v d i j) e = e
 same_before t u a b start end to o e = tt
@@ -205,7 +205,7 @@ settled_length texts xs (p ∷ ps) = omega (arith, settled_length texts (xs ++ e
 pub settled_count : (texts : List ℕ) (ps : List Part) → length (settled_on texts [] ps) ≡ length ps
 settled_count texts ps = omega (arith, settled_length texts [] ps)
 
--- the elements that were there stay the first ones
+-- the elements that were there stay first
 pub settled_behind : (texts : List ℕ) (xs : List Element) (ps : List Part) → (ys : List Element) × (settled_on texts xs ps ≡ xs ++ ys)
 settled_behind texts xs [] = ([], sym (append-nil xs))
 settled_behind texts xs (p ∷ ps) =

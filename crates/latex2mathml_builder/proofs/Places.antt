@@ -1,4 +1,4 @@
--- A settled element and an open one, and those behind it.
+-- A settled element and an open one, and those after it.
 use Rattle.std.proofs.Common.{◌≡◌, ℕ, suc, ◌+◌, ◌-◌, ◌<◌, List, [], ◌∷◌, ◌++◌, length, append_assoc, append-nil, take, drop, refl, sym, ap, ◌∙◌, arith, subst}
 use Rattle.std.proofs.lemmas.List.{length-take-le, length-drop}
 use Rattle.std.proofs.Math.{ListN.get_or}
@@ -9,7 +9,7 @@ use Rattle.latex2mathml_builder.proofs.Opens.{split_at, stacked, stacked-length,
 use Rattle.latex2mathml_builder.proofs.Parts.{all_right, each_right, element_kept, fits_more, settled_append, settled_behind, settled_length}
 use Rattle.latex2mathml_builder.proofs.Sound.{element, elements}
 
--- the elements behind a place, and those behind the next one
+-- the elements from a place on, and those from the next place on
 behind : {A : Type 0} (xs ys : List A) (x : A) → (drop (length xs) (xs ++ (x ∷ ys)) ≡ x ∷ ys) × (drop (suc (length xs)) (xs ++ (x ∷ ys)) ≡ ys)
 behind [] ys x = (refl, refl)
 behind (z ∷ xs) ys x = behind xs ys x

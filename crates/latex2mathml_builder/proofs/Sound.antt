@@ -1,4 +1,4 @@
--- What a builder holds stays sound, and its elements are those that its functions promise.
+-- A builder stays sound, and its elements are those that its functions promise.
 use Rattle.std.proofs.Common.{◌≡◌, ℕ, suc, ◌+◌, ◌-◌, ◌<◌, ◌≤◌, Bool, true, false, List, [], ◌∷◌, ◌++◌, length, length-append, length-drop, append-nil, take, drop, map, reverse, refl, sym, ap, ◌∙◌, arith, subst}
 use Rattle.std.proofs.lemmas.List.{length-reverse, length-take-le, reverse-reverse, take-append-drop}
 use Rattle.std.proofs.Math.{ListN.get_or, ListN.set, Seq.drop-append_seam, Seq.drop-length, Seq.take-length, Seq.take-suc-set}
@@ -25,11 +25,11 @@ elements texts settled stack = stacked (element texts settled) stack
 pub elements_length : (texts : List ℕ) (settled stack : List Part) → length (elements texts settled stack) ≡ length stack
 elements_length texts settled stack = stacked-length (element texts settled) stack
 
--- nothing
+-- an empty builder
 pub sound_empty : (texts : List ℕ) → IsSound texts [] []
 sound_empty texts = record { settled_fit = tt; open_fit = tt; adjoin = tt }
 
--- a part is put
+-- a part is pushed
 pub sound_push : (texts : List ℕ) (settled stack : List Part) (p : Part) → IsSound texts settled stack → Fits texts (length settled) p → StartsAt (length texts) p → EndsAt (length texts) p → IsSound texts settled (stack ++ p ∷ [])
 sound_push texts settled stack p s f b e = record {
   settled_fit = s.settled_fit;
@@ -40,7 +40,7 @@ sound_push texts settled stack p s f b e = record {
 pub elements_push : (texts : List ℕ) (settled stack : List Part) (p : Part) → elements texts settled (stack ++ p ∷ []) ≡ element texts settled p ∷ elements texts settled stack
 elements_push texts settled stack p = stacked-push (element texts settled) stack p
 
--- .. which is a token without text
+-- a token without text is pushed
 pub sound_token : (texts : List ℕ) (settled stack : List Part) (t : Token) (a : Attributes) (end : ℕ) → end ≡ length texts → IsUtf8 texts → IsSound texts settled stack → IsSound texts settled (stack ++ part.Token t a end end ∷ [])
 sound_token texts settled stack t a end e u s =
     let cut = subst (IsCut texts) (sym e) (cut_end texts u) in
@@ -71,7 +71,7 @@ last_set stack q h =
     set_split stack (length stack - 1) q (omega arith)
     ∙ ap (λ l. take (length stack - 1) stack ++ (q ∷ l)) (ap (λ n. drop n stack) all ∙ drop-length stack)
 
--- .. is a token whose text becomes longer
+-- the last part is a token whose text becomes longer
 module _ (texts more : List ℕ) (settled stack : List Part) (t : Token) (a : Attributes) (start end : ℕ) (s : IsSound texts settled stack) (some : 0 < length stack) (is : get_or stack (length stack - 1) (part.Token t a start end) ≡ part.Token t a start end) where
   abbrev base : List Part
   base = take (length stack - 1) stack
@@ -108,7 +108,7 @@ module _ (texts more : List ℕ) (settled stack : List Part) (t : Token) (a : At
       ∙ cc (ap (token (token_of t) (attributes_of a)) (between_more texts more start end has ends), elements_longer texts more settled base s.settled_fit (all_left texts (length settled) base _ whole_fit))
       ∙ sym (ap (λ l. lengthened more (elements texts settled l)) old_last ∙ ap (lengthened more) (elements_push texts settled base _))
 
-  -- .. in the place of the old one
+  -- the longer token replaces the old one
   pub sound_extended : (new : List ℕ) (i n : ℕ) → new ≡ texts ++ more → n ≡ length new → i ≡ length stack - 1 → IsUtf8 new → IsSound new settled (set stack i (part.Token t a start n))
   sound_extended new i n e f g u = rw (g, f, e) (sound_lengthened (subst IsUtf8 e u))
 
@@ -145,7 +145,7 @@ module _ (texts : List ℕ) (settled stack : List Part) (depth : ℕ) (p : Part)
       ∙ ap (λ n. token_at n (stacked (element texts settled) above ++ (element texts settled p ∷ stacked (element texts settled) below))) (sym above_length)
       ∙ token_at_split (stacked (element texts settled) above) (stacked (element texts settled) below) (element texts settled p)
 
-  -- .. with other attributes
+  -- the part gets other attributes
   pub elements_given : (q : Part) (a : attributes.Attributes) → element texts settled q ≡ with_attributes a (element texts settled p) → elements texts settled (set stack place q) ≡ given depth a (elements texts settled stack)
   elements_given q a e =
       ap (elements texts settled) (set_split stack place q (omega arith))
@@ -155,7 +155,7 @@ module _ (texts : List ℕ) (settled stack : List Part) (depth : ℕ) (p : Part)
       ∙ ap (λ n. given n a (stacked (element texts settled) above ++ (element texts settled p ∷ stacked (element texts settled) below))) (sym above_length)
       ∙ given_split a (stacked (element texts settled) above) (stacked (element texts settled) below) (element texts settled p))
 
-  -- .. where it has no text
+  -- the part has no text and stays the same
   pub elements_same : (a : attributes.Attributes) → element texts settled p ≡ with_attributes a (element texts settled p) → elements texts settled stack ≡ given depth a (elements texts settled stack)
   elements_same a e =
       ap (elements texts settled) (sym (set_split stack place p (omega arith) ∙ sym here))
@@ -244,7 +244,7 @@ module _ (texts : List ℕ) (settled stack : List Part) (count : ℕ) (is_exchan
       elements_push texts (settled ++ settling) kept whole
       ∙ cc (ap (λ l. element_of texts l whole) (block_settled ∙ ap (λ l. xs ++ l) taken), left)
 
-  -- also where the parts that became settled are still open
+  -- the builder is sound even while the parts that became settled are still open
   pub sound_settled : IsSound texts (settled ++ settling) stack
   sound_settled = record {
     settled_fit = each_append texts 0 settled settling s.settled_fit (each_fits texts (length settled) (0 + length settled) settling (omega arith) settling_fit);

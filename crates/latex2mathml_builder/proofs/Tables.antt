@@ -81,7 +81,7 @@ pub one_row_loaded : (columns : Columns) (xs : List Element) → 0 < length xs �
 one_row_loaded columns [] h = absurd (omega arith)
 one_row_loaded columns (x ∷ xs) h = omega (arith, row_loaded columns x xs)
 
--- .. and those after it
+-- the row of the first of these elements, and the rows after it
 row_first : (columns : Columns) (x : Element) (xs : List Element) → row_prints columns (x ∷ xs) ≡ row_prints columns (x ∷ []) ++ row_prints columns xs
 row_first columns x xs = ap (λ l. l ++ row_prints columns xs) (sym (append-nil (row_print (cells_print (cells_in columns x)))))
 
@@ -164,7 +164,7 @@ begun out old start inner end whole new below behind writes puts puts_inner is =
     ∙ append_assoc out start (inner ++ (end ++ old))
     ∙ ap (λ l. out ++ l) (sym (ap (λ l. l ++ old) is ∙ append_assoc start (inner ++ end) old ∙ ap (λ l. start ++ l) (append_assoc inner end old)))
 
--- the first of some is written, and the others are due before all else
+-- the first of some is written, and the others are due before everything else
 pub others_due : (out old first others all below whole : List ℕ) → all ≡ first ++ others → below ≡ others ++ old → whole ≡ out ++ (first ++ below) → whole ≡ out ++ (all ++ old)
 others_due out old first others all below whole is puts writes =
     writes

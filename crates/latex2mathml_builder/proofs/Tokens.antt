@@ -1,4 +1,4 @@
--- Parts that are no tokens are elements without a text of their own.
+-- Parts that are not tokens are elements without a text of their own.
 use Rattle.std.proofs.Common.{◌≡◌, ℕ, Bool, true, false, List, [], ◌∷◌, None, option_map, refl}
 use Rattle.latex2mathml_elements.specs.{Attributes.Attributes, Attributes.styled, Columns.Columns, Element.Element, Element.Pair, Element.Triple}
 use Rattle.latex2mathml_attributes.specs.declared.around.Around.{Around}

@@ -45,7 +45,7 @@ weight_three t a false (x ∷ y ∷ z ∷ []) h = omega arith
 weight_three t a true (x ∷ y ∷ z ∷ []) h = omega arith
 weight_three t a b (w ∷ x ∷ y ∷ z ∷ xs) h = absurd (omega arith)
 
--- .. among other elements
+-- the children of an element among other elements
 pub print_pair : (p : Pair) (a : Attributes) (xs : List Element) (first : ℕ) → first + 2 ≤ length xs → print (pair_with p a (take 2 (drop first xs))) ≡ start_tag (pair_name p) a ++ (prints (children (take 2 (drop first xs))) ++ end_tag (pair_name p))
 print_pair p a xs first h = print_two p a _ (taken_length xs first 2 h)
 

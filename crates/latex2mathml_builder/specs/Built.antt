@@ -25,7 +25,7 @@ element_of texts xs (part.Pair p a first) = pair_with (pair_of p) (attributes_of
 element_of texts xs (part.Triple t a first is_exchanged) = triple_with (triple_of t) (attributes_of a) is_exchanged (take 3 (drop first xs))
 element_of texts xs (part.Table own columns first count) = table_with (styled (option_map math_style_of own)) (columns_of columns) (take count (drop first xs))
 
--- these elements, and behind them those of parts each of whose children are among the elements before it
+-- these elements, followed by those of the parts, each of whose children are among the elements before it
 abbrev pub settled_on : List ℕ → List Element → List Part → List Element
 settled_on texts xs [] = xs
 settled_on texts xs (p ∷ ps) = settled_on texts (xs ++ element_of texts xs p ∷ []) ps
@@ -37,7 +37,7 @@ IsCut text n = (n ≤ length text) × IsUtf8 (take n text)
 abbrev pub HasText : List ℕ → ℕ → ℕ → Type 0
 HasText texts start end = (start ≤ end) × (IsCut texts start × IsCut texts end)
 
--- the text of the part is one of these texts, and its children are among so many elements
+-- the text of the part is one of these texts, and its children are among the first `n` elements
 abbrev pub Fits : List ℕ → ℕ → Part → Type 0
 Fits texts n (part.Token t a start end) = HasText texts start end
 Fits texts n (part.Space width) = ⊤
@@ -52,7 +52,7 @@ abbrev pub AllFit : List ℕ → ℕ → List Part → Type 0
 AllFit texts n [] = ⊤
 AllFit texts n (p ∷ ps) = Fits texts n p × AllFit texts n ps
 
--- .. each among the elements before it, of which the first has so many before it
+-- each part fits among the elements before it, where the first has `n` before it
 abbrev pub EachFits : List ℕ → ℕ → List Part → Type 0
 EachFits texts n [] = ⊤
 EachFits texts n (p ∷ ps) = Fits texts n p × EachFits texts (suc n) ps
@@ -61,7 +61,7 @@ abbrev pub is_token_part : Part → Bool
 is_token_part (part.Token t a start end) = true
 is_token_part p = false
 
--- a text ends here
+-- the text of the part ends at this place, if it has one
 abbrev pub EndsAt : ℕ → Part → Type 0
 EndsAt n (part.Token t a start end) = end ≡ n
 EndsAt n p = ⊤
@@ -71,14 +71,14 @@ abbrev pub Meets : Part → Part → Type 0
 Meets (part.Token t a start end) (part.Token u b from to) = end ≡ from
 Meets p q = ⊤
 
--- .. and so for each part and the next one; the last text ends here
+-- each part meets the next one, and the last text ends at this place
 abbrev pub Adjoin : ℕ → List Part → Type 0
 Adjoin n [] = ⊤
 Adjoin n (p ∷ []) = EndsAt n p
 Adjoin n (p ∷ q ∷ ps) = Meets p q × Adjoin n (q ∷ ps)
 
--- The parts are those of elements. The texts of open elements stand side by side, the last one at the end of all texts: so
--- the uppermost one can become longer, and two can become one.
+-- The parts are those of elements. The texts of open elements are next to each other, the last one at the end of all texts.
+-- So the uppermost one can become longer, and two can become one.
 pub record IsSound (texts : List ℕ) (settled stack : List Part) : Type 0 where
   pub settled_fit : EachFits texts 0 settled
   pub open_fit : AllFit texts (length settled) stack
@@ -90,7 +90,7 @@ pub record Built : Type 0 where
   pub settled : List Part
   pub stack : List Part
 
--- nothing at all
+-- an empty builder
 abbrev pub nothing : Built
 nothing = record { texts = []; settled = []; stack = [] }
 
@@ -102,7 +102,7 @@ settled_in b = settled_on b.texts [] b.settled
 abbrev pub elements_in : Built → List Element
 elements_in b = reverse (map (element_of b.texts (settled_in b)) b.stack)
 
--- so many of them, the lowest first
+-- the `count` uppermost elements, the lowest first
 abbrev pub uppermost : ℕ → Built → List Element
 uppermost count b = reverse (take count (elements_in b))
 
@@ -110,10 +110,10 @@ uppermost count b = reverse (take count (elements_in b))
 abbrev pub element_in : Built → Part → Element
 element_in b p = element_of b.texts (settled_in b) p
 
--- one more open element is put on the others
+-- one more open element is pushed on the others
 abbrev pub Puts : Element → Built → Built → Type 0
 Puts x old new = elements_in new ≡ x ∷ elements_in old
 
--- one element, made of so many of the uppermost ones, the lowest of them first, stands in place of them
+-- one element replaces the `count` uppermost ones, and is made of them, the lowest of them first
 abbrev pub Replaces : ℕ → (List Element → Element) → Built → Built → Type 0
 Replaces count make old new = elements_in new ≡ make (uppermost count old) ∷ drop count (elements_in old)

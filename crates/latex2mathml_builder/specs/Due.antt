@@ -1,4 +1,4 @@
--- What is still to be written of the elements of a builder. The work that was put last is done first.
+-- What is still to be written of the elements of a builder. The work that was pushed last is done first.
 use Rattle.std.specs.Prelude.{◌≡◌, ℕ, suc, ◌+◌, ◌-◌, ◌≤◌, Bool, true, List, [], ◌∷◌, ◌++◌, drop, length, reverse, sum_by, take}
 use Rattle.std.specs.List.{All, flat_map}
 use Rattle.latex2mathml_elements.specs.Element.{Element, Elements, Rows, Cells, token, space, rectangle, container, pair, triple, table, none, more, one_row, more_rows, one_cell, more_cells, children, Mrow}
@@ -10,11 +10,11 @@ use Rattle.latex2mathml_attributes.specs.Columns.{columns_of}
 use Rattle.latex2mathml_builder.specs.declared.works.Work.{Work}
 use Rattle.latex2mathml_builder.specs.declared.works.Work.TheVariants as work
 
--- so many settled elements from this one on
+-- the `count` settled elements from `first` on
 abbrev pub settled_from : Built → ℕ → ℕ → List Element
 settled_from b first count = take count (drop first (settled_in b))
 
--- cells with these elements, behind so many others
+-- cells with these elements, after `k` others
 abbrev pub cell_prints : Columns → ℕ → List Element → List ℕ
 cell_prints columns k [] = []
 cell_prints columns k (x ∷ xs) = cell_print (column_at columns k) (prints (more x none)) ++ cell_prints columns (suc k) xs
@@ -43,7 +43,7 @@ IsIn b (work.End tag) = Unit {0}
 unfoldable pub AreIn : Built → List Work → Type 0
 AreIn b = All (IsIn b)
 
--- the elements that stand in the cells of the row which the first of these elements becomes
+-- the elements in the cells of the row that the first of these elements becomes
 abbrev pub listed : Elements → List Element
 listed none = []
 listed (more x xs) = x ∷ listed xs
@@ -81,7 +81,7 @@ abbrev mutual
   cell_weights (one_cell column xs) = 3 + weights xs
   cell_weights (more_cells column xs cells) = 3 + (weights xs + cell_weights cells)
 
--- .. of the cells with these elements, and of the rows that elements become
+-- how much there is to write of the cells with these elements, and of the rows that elements become
 abbrev pub cell_loads : List Element → ℕ
 cell_loads [] = 0
 cell_loads (x ∷ xs) = 3 + (weights (more x none) + cell_loads xs)
@@ -90,7 +90,7 @@ abbrev pub row_loads : Columns → List Element → ℕ
 row_loads columns [] = 0
 row_loads columns (x ∷ xs) = 3 + (cell_weights (cells_in columns x) + row_loads columns xs)
 
--- of a work, and of all works
+-- how much there is to write of a work, and of all works
 abbrev pub work_weight : Built → Work → ℕ
 work_weight b (work.Elements first count) = 1 + weights (children (settled_from b first count))
 work_weight b (work.Rows columns first count) = 1 + row_loads (columns_of columns) (settled_from b first count)
@@ -100,7 +100,7 @@ work_weight b (work.End tag) = 1
 abbrev pub load : Built → List Work → ℕ
 load b = sum_by (work_weight b)
 
--- A text and what was due become a text and what is due then: they come to the same with this markup between the text and
--- what was due.
+-- A step from an old text and what was due to a new text and what is due: the new text followed by what is due equals the
+-- old text followed by this markup and what was due.
 abbrev pub Writes : Built → List ℕ → List Work → List ℕ → List ℕ → List Work → Type 0
 Writes b old ws markup new vs = new ++ due b vs ≡ old ++ (markup ++ due b ws)

@@ -1,4 +1,4 @@
--- What the builder's functions make of a list of elements, of which the uppermost stands first.
+-- What the builder's functions make of a list of elements, in which the uppermost comes first.
 use Rattle.std.specs.Prelude.{ℕ, zero, suc, pos, Bool, true, false, List, [], ◌∷◌, ◌++◌, Option, Some, None}
 use Rattle.latex2mathml_elements.specs.Attributes.{Attributes, plain}
 use Rattle.latex2mathml_elements.specs.Columns.{Columns}
@@ -25,7 +25,7 @@ abbrev pub are_tokens : List Element → Bool
 are_tokens (token t a text ∷ token u b before ∷ xs) = true
 are_tokens xs = false
 
--- the first two exchanged, if they are to be
+-- the first two exchanged, if the flag says so
 abbrev pub ordered : {A : Type 0} → Bool → List A → List A
 ordered true (x ∷ y ∷ xs) = y ∷ x ∷ xs
 ordered is_exchanged xs = xs
@@ -35,7 +35,7 @@ abbrev pub token_of_element : Element → Option (Token × Attributes)
 token_of_element (token t a text) = Some (t, a)
 token_of_element x = None
 
--- .. of that below so many others
+-- the name and the attributes of the element below `depth` others, if it holds a text
 abbrev pub token_at : ℕ → List Element → Option (Token × Attributes)
 token_at depth [] = None
 token_at zero (x ∷ xs) = token_of_element x
@@ -46,13 +46,13 @@ abbrev pub with_attributes : Attributes → Element → Element
 with_attributes a (token t b text) = token t a text
 with_attributes a x = x
 
--- .. below so many others
+-- these attributes given to the element below `depth` others, if it holds a text
 abbrev pub given : ℕ → Attributes → List Element → List Element
 given depth a [] = []
 given zero a (x ∷ xs) = with_attributes a x ∷ xs
 given (suc depth) a (x ∷ xs) = x ∷ given depth a xs
 
--- an element of two, of three, and of one or more; of fewer there is none, and this stands for it
+-- what is made of too few elements for an element of two, of three, or of one or more
 abbrev pub no_element : Element
 no_element = space (pos 0)
 

@@ -19,16 +19,16 @@ use latex2mathml_attributes::tag::{Container, Pair, Token, Triple};
 use std::alloc::{AllocError, Global};
 use std::marker::Model;
 
-/// Elements that are open: each is one on its own, until an element is made of it. The last one is uppermost. By
-/// `elements_in`, contracts speak of the list of them, the uppermost first.
+/// The stack of open elements. An element is open until another element is made of it. The last one is uppermost.
+/// Contracts refer to the list of open elements as `elements_in`, the uppermost first.
 ///
-/// An `Err` is out of memory, and leaves all as it was. Only `text` and `character` may leave their element without its text.
+/// An `Err` means out of memory, and changes nothing. Only `text` and `character` may leave their element without its text.
 #[derive(Drop)]
 pub struct Builder {
     /// The texts of the tokens, one after the other.
     texts: String,
-    /// The elements that are children of others. The children of one stand side by side, before any element that has it as
-    /// its child.
+    /// The elements that are children of others. The children of one element are next to each other, and come before any
+    /// element that has it as its child.
     settled: Vec<Part>,
     stack: Vec<Part>,
 }
@@ -49,7 +49,7 @@ impl Model for Builder {
 }
 
 impl Builder {
-    /// No elements.
+    /// Returns a builder without elements.
     pub fn new(alloc: Global) -> Builder
         ensures { result ≡ nothing }
     {
@@ -60,7 +60,7 @@ impl Builder {
         }
     }
 
-    /// Drops all elements, those that are children of others and all texts too, and keeps their room.
+    /// Drops all elements, including those that are children of others, and all texts, and keeps their room.
     pub fn clear(&mut self)
         ensures { self.new ≡ nothing }
     {
@@ -69,14 +69,14 @@ impl Builder {
         self.stack.clear();
     }
 
-    /// How many elements are open.
+    /// Returns how many elements are open.
     pub fn len(&self) -> usize
         ensures { result ≡ length (elements_in self.now) }
     {
         self.stack.as_slice().len()
     }
 
-    /// Puts an element that holds a text, which is empty at first.
+    /// Pushes an element that holds a text. The text is empty at first.
     pub fn token(&mut self, tag: Token, attributes: Attributes) -> Result<(), AllocError>
         ensures elements { OnOk result
             (Puts (element_with_text tag attributes []) self.old self.new) }
@@ -87,7 +87,7 @@ impl Builder {
         Ok(())
     }
 
-    /// Puts an element that holds this text.
+    /// Pushes an element that holds this text.
     pub fn text(&mut self, tag: Token, attributes: Attributes, text: &str) -> Result<(), AllocError>
         ensures elements { OnOk result
             (Puts (element_with_text tag attributes text.now) self.old self.new) }
@@ -99,7 +99,7 @@ impl Builder {
         Ok(())
     }
 
-    /// Puts an element that holds this character.
+    /// Pushes an element that holds this character.
     pub fn character(
         &mut self,
         tag: Token,
@@ -132,7 +132,7 @@ impl Builder {
         Ok(true)
     }
 
-    /// The same for one character.
+    /// Appends a character to the text of the uppermost element, if it holds a text. Returns whether it does.
     pub fn push(&mut self, c: char) -> Result<bool, AllocError>
         ensures elements { OnOk result (elements_in self.new
             ≡ lengthened (encode_utf8 c) (elements_in self.old)) }
@@ -148,7 +148,7 @@ impl Builder {
         Ok(true)
     }
 
-    /// Puts a space, in eighteenths of an em.
+    /// Pushes a space, in eighteenths of an em.
     pub fn space(&mut self, width: i32) -> Result<(), AllocError>
         ensures elements { OnOk result (Puts (space width) self.old self.new) }
         ensures err { OnErr result (self.new ≡ self.old) }
@@ -157,7 +157,7 @@ impl Builder {
         Ok(())
     }
 
-    /// Puts a rectangle.
+    /// Pushes a rectangle.
     pub fn rectangle(&mut self, extent: Extent) -> Result<(), AllocError>
         ensures elements { OnOk result (Puts (rectangle (extent_of extent)) self.old self.new) }
         ensures err { OnErr result (self.new ≡ self.old) }
@@ -166,7 +166,7 @@ impl Builder {
         Ok(())
     }
 
-    /// Puts an element around the uppermost one.
+    /// Wraps an element around the uppermost one.
     pub fn surround(&mut self, around: Around) -> Result<(), AllocError>
         requires { 1 ≤ length (elements_in self.old) }
         ensures elements { OnOk result (elements_in self.new
@@ -177,7 +177,7 @@ impl Builder {
         self.wrap(1, false, Part::Around(around, first))
     }
 
-    /// Puts a space, in eighteenths of an em, below the uppermost element.
+    /// Inserts a space, in eighteenths of an em, below the uppermost element.
     pub fn space_below(&mut self, width: i32) -> Result<(), AllocError>
         requires { 0 < length (elements_in self.old) }
         ensures elements { OnOk result (elements_in self.new
@@ -190,8 +190,8 @@ impl Builder {
         Ok(())
     }
 
-    /// Makes one element without attributes of the two uppermost ones, if both hold a text: the text of the lower one, and
-    /// that of the upper one after it. Returns whether they do.
+    /// Makes one element without attributes of the two uppermost ones, if both hold a text. Its text is that of the lower one,
+    /// followed by that of the upper one. Returns whether both hold a text.
     pub fn join(&mut self) -> bool
         ensures elements { elements_in self.new ≡ joined (elements_in self.old) }
         ensures are_tokens { result ≡ are_tokens (elements_in self.old) }
@@ -211,7 +211,7 @@ impl Builder {
         true
     }
 
-    /// The name and the attributes of the element below so many others, if it holds a text.
+    /// Returns the name and the attributes of the element that has `depth` others above it, if it holds a text.
     pub fn token_at(&self, depth: usize) -> Option<(Token, Attributes)>
         ensures { let found = token_at depth (elements_in self.now)
             in MatchOption result (found ≡ None)
@@ -227,7 +227,7 @@ impl Builder {
         }
     }
 
-    /// Gives the element below so many others these attributes, if it holds a text.
+    /// Gives these attributes to the element that has `depth` others above it, if it holds a text.
     pub fn give(&mut self, depth: usize, attributes: Attributes)
         ensures elements { elements_in self.new
             ≡ given depth (attributes_of attributes) (elements_in self.old) }
@@ -243,7 +243,7 @@ impl Builder {
         self.stack[place] = Part::Token(tag, attributes, start, end);
     }
 
-    /// Makes an element of so many of the uppermost ones.
+    /// Makes an element of the `count` uppermost ones.
     pub fn container(
         &mut self,
         tag: Container,
@@ -281,7 +281,7 @@ impl Builder {
         self.wrap(2, is_exchanged, Part::Pair(tag, attributes, first))
     }
 
-    /// Makes a row of the three uppermost elements, in which the second of them stands first.
+    /// Makes a row of the three uppermost elements, in which the lower two of them are exchanged.
     pub fn fence(&mut self) -> Result<(), AllocError>
         requires { 3 ≤ length (elements_in self.old) }
         ensures elements { OnOk result (Replaces 3
@@ -313,8 +313,8 @@ impl Builder {
         self.wrap(3, false, Part::Triple(tag, attributes, first, is_exchanged))
     }
 
-    /// Makes a table of so many of the uppermost elements: each becomes a row. The children of an `mrow` become the cells of
-    /// its row, and any other element stands in a cell alone.
+    /// Makes a table of the `count` uppermost elements: each becomes a row. The children of an `mrow` become the cells of its
+    /// row, and any other element is alone in a cell.
     pub fn table(
         &mut self,
         style: Option<MathStyle>,
@@ -332,8 +332,8 @@ impl Builder {
         self.wrap(count, false, Part::Table(style, columns, first, count))
     }
 
-    /// Puts an element in place of so many of the uppermost ones, which become settled, the first two of them exchanged if
-    /// they are to be.
+    /// Replaces the `count` uppermost elements by one. They become settled, with the first two of them exchanged if the flag
+    /// says so.
     fn wrap(&mut self, count: usize, is_exchanged: bool, whole: Part) -> Result<(), AllocError>
         requires some { 0 < count }
         requires all { count ≤ length (elements_in self.old) }
@@ -350,14 +350,14 @@ impl Builder {
         Ok(())
     }
 
-    /// How many elements are settled.
+    /// Returns how many elements are settled.
     pub(crate) fn settled_len(&self) -> usize
         ensures { result ≡ length self.now.settled }
     {
         self.settled.as_slice().len()
     }
 
-    /// A settled element.
+    /// Returns a settled element.
     pub(crate) fn settled_at(&self, place: usize) -> Part
         requires { place < length self.now.settled }
         ensures fits { Fits self.now.texts (length self.now.settled) result }
@@ -367,7 +367,7 @@ impl Builder {
         self.settled[place]
     }
 
-    /// An open element.
+    /// Returns an open element.
     pub(crate) fn open_at(&self, place: usize) -> Part
         requires { place < length self.now.stack }
         ensures fits { Fits self.now.texts (length self.now.settled) result }
@@ -378,7 +378,7 @@ impl Builder {
         self.stack[place]
     }
 
-    /// A part of the texts.
+    /// Returns a part of the texts.
     pub(crate) fn text_between(&self, start: usize, end: usize) -> &str
         requires { HasText self.now.texts start end }
         ensures { result.now ≡ between start end self.now.texts }
@@ -387,7 +387,7 @@ impl Builder {
     }
 }
 
-/// Appends parts, the first two of them exchanged if they are to be.
+/// Appends parts, with the first two of them exchanged if the flag says so.
 fn settle(settled: &mut Vec<Part>, parts: &[Part], is_exchanged: bool) -> Result<(), AllocError>
     ensures items { OnOk result (settled.new.items
         ≡ settled.old.items ++ ordered is_exchanged parts.now) }

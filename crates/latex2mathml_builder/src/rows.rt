@@ -1,4 +1,4 @@
-//! The rows and the cells of tables, as they are written.
+//! Writes the rows and the cells of tables.
 ghost use Rattle.std.specs.Prelude.{◌≡◌, ◌+◌, ◌-◌, ◌<◌, ◌≤◌, ◌++◌, OnOk, codes, drop, length, string_bytes};
 ghost use Rattle.latex2mathml_elements.specs.Print.{cell_tag};
 ghost use Rattle.latex2mathml_builder.specs.Built.{settled_in};
@@ -13,7 +13,7 @@ use latex2mathml_attributes::tag::Container;
 use std::alloc::AllocError;
 
 impl Builder {
-    /// Writes what stands before the cells of the row that a settled element becomes, and puts what follows on the list.
+    /// Writes what precedes the cells of the row that a settled element becomes, and pushes what follows on the list.
     pub(crate) fn write_row(
         &self,
         columns: Columns,
@@ -37,7 +37,7 @@ impl Builder {
         self.push_work(Work::Cells(columns, first, first, count), works)
     }
 
-    /// The first of the settled elements that stand in the cells of such a row, and how many there are.
+    /// Returns the place of the first of the settled elements in the cells of such a row, and how many there are.
     fn cells_at(&self, place: usize) -> (usize, usize)
         requires { place < length self.now.settled }
         ensures within { result.0 + result.1 ≤ length self.now.settled }
@@ -50,7 +50,8 @@ impl Builder {
         }
     }
 
-    /// Writes a cell up to what stands in it, a settled element of a row that begins there, and puts what follows on the list.
+    /// Writes a cell up to its contents, which are a settled element of a row that begins at `start`, and pushes what follows
+    /// on the list.
     pub(crate) fn write_cell(
         &self,
         columns: Columns,

@@ -1,4 +1,4 @@
-//! Elements that are built and written.
+//! Tests that build and write elements.
 
 use crate::builder::Builder;
 use crate::works::Works;

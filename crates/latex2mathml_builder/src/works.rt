@@ -5,7 +5,7 @@ use latex2mathml_attributes::columns::Columns;
 use std::alloc::Global;
 use std::marker::Model;
 
-/// Room for what is still to be written, which one formula leaves to the next.
+/// The list of what is still to be written. One formula leaves its room to the next.
 #[derive(Drop)]
 pub struct Works {
     pub(crate) list: Vec<Work>,
@@ -21,7 +21,7 @@ impl Model for Works {
 }
 
 impl Works {
-    /// No room yet.
+    /// Returns an empty list without room.
     pub fn new(alloc: Global) -> Works
         ensures { result ≡ [] }
     {
@@ -31,14 +31,15 @@ impl Works {
     }
 }
 
-/// What is still to be written.
+/// A piece of what is still to be written.
 #[derive(Clone, Copy)]
 pub(crate) enum Work {
-    /// So many settled elements from this one on.
+    /// A number of settled elements: the place of the first, and how many there are.
     Elements(usize, usize),
-    /// So many settled elements from this one on, each as a row of these columns.
+    /// A number of settled elements, each as a row of these columns: the place of the first, and how many there are.
     Rows(Columns, usize, usize),
-    /// The cells of a row that begins with the first of these settled elements: so many from the second one on.
+    /// Cells of a row of these columns: the place of the settled element with which the row begins, the place of the first
+    /// one to write, and how many there are to write.
     Cells(Columns, usize, usize, usize),
     /// An end tag.
     End(&'static str),

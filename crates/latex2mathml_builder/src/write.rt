@@ -1,4 +1,4 @@
-//! From elements to markup.
+//! Writes elements as markup.
 ghost use Rattle.std.specs.Prelude.{◌≡◌, ◌+◌, ◌<◌, ◌≤◌, ◌++◌, [], OnOk, codes, length, string_bytes};
 ghost use Rattle.latex2mathml_elements.specs.Element.{children};
 ghost use Rattle.latex2mathml_elements.specs.Print.{attributes_text, print, prints};
@@ -14,9 +14,9 @@ use latex2mathml_trees::append::{append_content, append_space};
 use std::alloc::AllocError;
 
 impl Builder {
-    /// Appends the markup of so many of the uppermost elements, the lowest of them first. It does not recurse: what is still
-    /// to be written stands in `works`. The only `Err` is out of memory, for that list or for the text. It may leave a part of
-    /// the markup behind the text.
+    /// Appends the markup of the `count` uppermost elements, the lowest of them first. It does not recurse: what is still to
+    /// be written is in `works`. The only `Err` is out of memory, for that list or for the text. It may leave a part of the
+    /// markup at the end of the text.
     #[tactic(auto, using(std::proofs::lemmas::Grind::common_steps), unfolding(crate::specs::Due::AreIn))]
     pub fn write(&self, count: usize, works: &mut Works, out: &mut String) -> Result<(), AllocError>
         requires { count ≤ length (elements_in self.now) }
@@ -35,7 +35,7 @@ impl Builder {
         Ok(())
     }
 
-    /// Does all works.
+    /// Does all works of the list.
     #[tactic(auto, using(std::proofs::lemmas::Grind::common_steps), unfolding(crate::specs::Due::AreIn))]
     fn finish(&self, works: &mut Vec<Work>, out: &mut String) -> Result<(), AllocError>
         requires { AreIn self.now works.old.items }
@@ -63,7 +63,7 @@ impl Builder {
             Work::End(tag) => out.push_str(tag),
             Work::Elements(_, 0) => Ok(()),
             Work::Elements(first, count) => {
-                // The next place is no greater than this, so it does not overflow.
+                // The next place is not greater than this length, so it does not overflow.
                 let _ = self.settled_len();
                 self.push_work(Work::Elements(first + 1, count - 1), works)?;
                 self.write_part(self.settled_at(first), works, out)
@@ -83,7 +83,7 @@ impl Builder {
         }
     }
 
-    /// Writes what stands before the children of an element, and puts what follows on the list.
+    /// Writes what precedes the children of an element, and pushes what follows on the list.
     #[inline(always)]
     fn write_part(
         &self,
@@ -139,7 +139,7 @@ impl Builder {
         }
     }
 
-    /// Puts the three children of an element on the list, with the last two exchanged if the flag says so.
+    /// Pushes the three children of an element on the list, with the last two exchanged if the flag says so.
     fn push_three(
         &self,
         first: usize,
@@ -157,7 +157,7 @@ impl Builder {
             + weights (children (settled_from self.now first 3))) }
     {
         if is_exchanged {
-            // No place is greater than this, so none overflows.
+            // No place is greater than this length, so none overflows.
             let _ = self.settled_len();
             self.push_work(Work::Elements(first + 1, 1), works)?;
             self.push_work(Work::Elements(first + 2, 1), works)?;
@@ -167,7 +167,7 @@ impl Builder {
         }
     }
 
-    /// Puts a work on the list.
+    /// Pushes a work on the list.
     #[tactic(auto, unfolding(crate::specs::Due::AreIn))]
     pub(crate) fn push_work(&self, work: Work, works: &mut Vec<Work>) -> Result<(), AllocError>
         requires one { IsIn self.now work }
@@ -183,7 +183,7 @@ impl Builder {
     }
 }
 
-/// Appends a start tag: this one if there are no attributes, else one that begins so.
+/// Appends a start tag: `whole` if there are no attributes, otherwise `beginning` and the attributes.
 #[inline(always)]
 #[tactic(auto, using(std::proofs::lemmas::Grind::common_steps))]
 fn start_tag(
@@ -202,7 +202,7 @@ fn start_tag(
     start_with_attributes(beginning, attributes, out)
 }
 
-/// Appends a start tag, which begins so.
+/// Appends a start tag: `beginning` and the attributes.
 #[inline(never)]
 #[tactic(auto, using(std::proofs::lemmas::Grind::common_steps))]
 fn start_with_attributes(

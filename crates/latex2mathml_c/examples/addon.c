@@ -10,9 +10,9 @@
 #include <node_api.h>
 #include <stdlib.h>
 
-/* A text of Node's as UTF-8, and what it comes to, which the caller frees. */
+/* A text of Node's as UTF-8, and the result of its conversion, which the caller frees. */
 struct text {
-    char *bytes; /* null where memory is wanting, or what should be a text is none */
+    char *bytes; /* null if memory runs out, or if the value is not a text */
     size_t length;
 };
 

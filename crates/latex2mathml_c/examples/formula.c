@@ -6,7 +6,7 @@
 #include <stdlib.h>
 #include <string.h>
 
-/* What the formula comes to, with a zero byte behind it, in memory that the caller frees; null where memory is wanting. */
+/* Returns the result for the formula, followed by a zero byte, in memory that the caller frees; null if memory runs out. */
 static char *convert(const char *latex, bool block, enum latex2mathml_code *code) {
     size_t length = strlen(latex), room = LATEX2MATHML_ROOM(length), needed;
     char *text = malloc(room + 1);
@@ -29,7 +29,7 @@ static char *convert(const char *latex, bool block, enum latex2mathml_code *code
     return text;
 }
 
-/* Whether the formula has markup, which is printed; the reason why it has none goes to standard error. */
+/* Returns whether the formula has markup, which is printed. Otherwise the reason goes to standard error. */
 static bool show(const char *latex) {
     enum latex2mathml_code code;
     char *text = convert(latex, false, &code);

@@ -6,7 +6,7 @@
 #include <stdlib.h>
 #include <string.h>
 
-/* What comes of a call. The caller frees the text, which is null where memory is wanting. */
+/* The result of a call. The caller frees the text, which is null if memory runs out. */
 struct answer {
     uint32_t code;
     char *text;
@@ -37,7 +37,7 @@ static void point(const char *text, size_t place) {
     fprintf(stderr, "%.*s >>> %s\n", (int)place, text, text + place);
 }
 
-/* Whether the formula has markup, which is printed; the reason why it has none goes to standard error. */
+/* Returns whether the formula has markup, which is printed. Otherwise the reason goes to standard error. */
 static bool show(const char *definitions, const char *tex) {
     struct answer answer = convert(definitions, tex);
     bool done = answer.text && answer.code == LATEX2MATHML_DONE;

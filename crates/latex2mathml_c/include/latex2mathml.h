@@ -47,11 +47,11 @@ enum latex2mathml_code {
 enum latex2mathml_flags {
     /* The markup has the text of the formula too: the `math` element holds one `semantics` element, with what is shown and an
      * `annotation` of the encoding `application/x-tex`. Its text is the formula as it was given, and so is the `alttext` of the
-     * `math` element. In comments it may hold characters that XML forbids; U+FFFD stands for each of them. */
+     * `math` element. In comments it may hold characters that XML forbids; each of them is replaced by U+FFFD. */
     LATEX2MATHML_ANNOTATION = 1
 };
 
-/* The size of a buffer that is large enough for nearly every formula of so many bytes, so that one call is enough. It is a
+/* The size of a buffer that is large enough for nearly every formula of `latex_len` bytes, so that one call is enough. It is a
  * guess: LATEX2MATHML_TOO_SMALL says whether it was too small. */
 #define LATEX2MATHML_ROOM(latex_len) (256 + 64 * (size_t)(latex_len))
 
@@ -89,7 +89,7 @@ uint32_t latex2mathml_document(const char *document, size_t document_len, char *
  * read what the Rust crate latex2mathml reads, which is not what TeX reads: to them the 2 of `x_i^2` belongs to the i.
  *
  * The formula is the `tex_len` bytes at `tex`. It may use the usual macros of LaTeX and those of the `definitions_len` bytes at
- * `definitions`, such as `\newcommand{\R}{\mathbb{R}}`. With no bytes there, the usual ones hold alone. What a formula defines
+ * `definitions`, such as `\newcommand{\R}{\mathbb{R}}`. With no bytes there, only the usual ones hold. What a formula defines
  * itself holds to its end.
  *
  * `flags` is 0 or LATEX2MATHML_ANNOTATION. Any other flag is refused with LATEX2MATHML_UNKNOWN_FLAGS. Later versions may give
@@ -99,10 +99,10 @@ uint32_t latex2mathml_document(const char *document, size_t document_len, char *
  * LATEX2MATHML_DEFINITION_REFUSED. With LATEX2MATHML_TOO_SMALL it is what it will be if the buffer is large enough. Otherwise it
  * is 0. The reason has it too, as in `unknown command \foo at 4`.
  *
- * Where more than one is wrong, the first of these is told: the flags, definitions that are not UTF-8, a formula that is not
+ * Where more than one is wrong, the first of these is reported: the flags, definitions that are not UTF-8, a formula that is not
  * UTF-8, the definitions, the formula.
  *
- * Everything else is as with latex2mathml_formula, also that the same arguments have the same result. `out`, `needed` and
+ * Everything else is as with latex2mathml_formula: the same arguments have the same result. `out`, `needed` and
  * `place` overlap neither each other nor one of the texts, which may overlap. */
 uint32_t latex2mathml_tex(const char *definitions, size_t definitions_len, const char *tex, size_t tex_len, bool block,
                           uint32_t flags, char *out, size_t out_len, size_t *needed, size_t *place);

@@ -1,15 +1,15 @@
--- What a call comes to, by the texts of its input.
+-- The outcome of a call, by the texts of its input.
 use Rattle.std.proofs.Common.{◌≡◌, ◌≢◌, ◌≤◌, ℕ, List, length, arith, inl, inr, refl, sym, ap, ◌∙◌, subst}
 use Rattle.latex2mathml_c.specs.Call.{IsLength, IsCallOutcome, IsPutOrTooSmall, Room, Texts, code_of}
 use Rattle.latex2mathml_c.specs.declared.Status.{Status}
 use Rattle.latex2mathml_c.specs.declared.Status.TheVariants.{Done, Refused, NotUtf8, TooSmall, OutOfMemory, DefinitionRefused, UnknownFlags}
 
--- no text says that there was no room or no memory for one
+-- no text has a status that means that there was no room or no memory for a text
 pub record AreTexts (texts : Texts) : Type 0 where
   pub roomy : (text : List ℕ) → texts TooSmall text → ⊥
   pub found : (text : List ℕ) → texts OutOfMemory text → ⊥
 
--- a text that was put, or left out, is what the call comes to
+-- a text that was written, or left out, is the outcome of the call
 pub put_outcome : (texts : Texts) → AreTexts texts → (status result : Status) (text : List ℕ) (room : Room) → texts status text → IsPutOrTooSmall status result text room → IsCallOutcome texts result room
 put_outcome texts are Done result text room is (inl (same, put)) = subst (λ s. IsCallOutcome texts s room) (sym same) (text, is, put)
 put_outcome texts are Refused result text room is (inl (same, put)) = subst (λ s. IsCallOutcome texts s room) (sym same) (text, is, put)
@@ -20,7 +20,7 @@ put_outcome texts are TooSmall result text room is (inl put) = absurd (are.roomy
 put_outcome texts are OutOfMemory result text room is (inl put) = absurd (are.found text is)
 put_outcome texts are status result text room is (inr (small, left)) = subst (λ s. IsCallOutcome texts s room) (sym small) (status, text, is, left)
 
--- what a call comes to by some texts, it comes to by more
+-- an outcome of a call by some texts is also one by more texts
 pub outcome_weaker : (texts more : Texts) (status : Status) (room : Room) → ((s : Status) (text : List ℕ) → texts s text → more s text) → IsCallOutcome texts status room → IsCallOutcome more status room
 outcome_weaker texts more Done room h (text, is, put) = (text, h Done text is, put)
 outcome_weaker texts more Refused room h (text, is, put) = (text, h Refused text is, put)
@@ -30,9 +30,9 @@ outcome_weaker texts more UnknownFlags room h (text, is, put) = (text, h Unknown
 outcome_weaker texts more TooSmall room h (status, text, is, left) = (status, text, h status text is, left)
 outcome_weaker texts more OutOfMemory room h outcome = outcome
 
--- where all texts of an input are the same text, each call with it needs the same room
+-- if all texts of an input are the same text, each call with it needs the same room
 module _ (texts : Texts) (one_text : (status : Status) (text : List ℕ) (other : Status) (again : List ℕ) → texts status text → texts other again → text ≡ again) where
-  -- the text that a call came to, whether it was put or left out
+  -- the text that resulted from a call, whether it was written or left out
   abbrev HasText : ℕ → Type 0
   HasText needed = (status : Status) × (text : List ℕ) × texts status text × (needed ≡ length text)
 
@@ -49,7 +49,7 @@ module _ (texts : Texts) (one_text : (status : Status) (text : List ℕ) (other 
   same_needed needed other (status, text, is, e) (status', text', also, e') =
       e' ∙ ap length (one_text status' text' status text also is) ∙ sym e
 
-  -- what a call that memory was found for says is what each such call needs
+  -- the length that a call says, unless it runs out of memory, is what each such call needs
   pub needed_length : (status : Status) (code : ℕ) (room : Room) → code ≡ code_of status → IsCallOutcome texts status room → code ≢ code_of OutOfMemory → IsLength texts room.needed
   needed_length status code room is outcome some =
       record { said = said; fits = fits }

@@ -1,4 +1,4 @@
--- What a call is given comes to one text.
+-- The input of a call results in one text.
 use Rattle.std.proofs.Common.{◌≡◌, ◌==◌, ◌<◌, ◌≤◌, inl, inr, ℕ, Bool, true, false, List, arith, codes, sym, ap, ◌∙◌, subst}
 use Rattle.std.specs.Str.{chars}
 use Rattle.latex2mathml.specs.Formulas.{DisplayStyle}
@@ -24,14 +24,14 @@ readable_text given place TooSmall text readable is = absurd is
 readable_text given place OutOfMemory text readable is = absurd is
 readable_text given place UnknownFlags text readable is = absurd is
 
--- .. however the texts are called
+-- the same where the texts have other names
 pub read_text : (given : Given) (definitions tex : List ℕ) (place : ℕ) (status : Status) (text said : List ℕ) → definitions ≡ given.definitions → tex ≡ given.tex → said ≡ text → IsReadable given → IsRead (given.flags == annotation) definitions tex given.display place status text → IsTexText given place status said
 read_text given definitions tex place status text said d t s readable is =
     let there = subst (λ x. IsRead (given.flags == annotation) x tex given.display place status text) d is in
     let is' = subst (λ x. IsRead (given.flags == annotation) given.definitions x given.display place status text) t there in
     subst (IsTexText given place status) (sym s) (readable_text given place status text readable is')
 
--- one of two texts is no UTF-8, in one way
+-- only one sentence says which of the two texts is not UTF-8
 no_text : (given : Given) (text again : List ℕ) → IsNoText given text → IsNoText given again → text ≡ again
 no_text given text again (inl (broken, told)) (inl (broken', told')) = told ∙ sym told'
 no_text given text again (inl (broken, told)) (inr (utf8, broken', told')) = absurd (broken utf8)
@@ -42,7 +42,7 @@ unreadable : (given : Given) (text : List ℕ) → IsReadable given → IsNoText
 unreadable given text readable (inl (broken, told)) = broken readable.definitions
 unreadable given text readable (inr (utf8, broken, told)) = broken readable.tex
 
--- what a text is: of flags, of bytes that are no text, or of what was read
+-- where a text comes from: from the flags, from bytes that are not text, or from what was read
 data Seen (given : Given) (status : Status) (text : List ℕ) : Type 0 where
   flagged : annotation < given.flags → text ≡ codes "The flags must be 0 or LATEX2MATHML_ANNOTATION." → Seen given status text
   coded : given.flags ≤ annotation → IsNoText given text → Seen given status text
@@ -68,7 +68,7 @@ printed true macros tex display text markup = markup.0.0
 
 -- by the laws of formulas and of definitions
 module _ (readings : HaveOneReading) (tables : HaveOneTableOrRefusal) where
-  -- what is read where other macros hold, by the same definitions
+  -- what holds under macros that definitions define holds under any others that they define
   moved : (definitions : List ℕ) (macros others : Table) (P : Table → Type 0) → Defines (chars definitions) macros → Defines (chars definitions) others → P others → P macros
   moved definitions macros others P defines also p =
       subst P ((tables (chars definitions)).one_table others macros also defines) p

@@ -1,4 +1,4 @@
--- An input of the calls that read what the Rust crate reads comes to one text.
+-- An input of the calls that read what the Rust crate reads results in one text.
 use Rattle.std.proofs.Common.{◌≡◌, ◌≢◌, ℕ, List, Option, Some, None, refl, sym, ap, ◌∙◌}
 use Rattle.std.specs.Prelude.{IfSome, IsUtf8}
 use Rattle.latex2mathml.specs.Formulas.{Refusal, error_text, refusal_text, RenderingsHold}
@@ -9,7 +9,7 @@ use Rattle.latex2mathml_c.specs.declared.{Job.Job, Status.Status}
 use Rattle.latex2mathml_c.specs.declared.Status.TheVariants.{Done, Refused, NotUtf8, TooSmall, OutOfMemory, DefinitionRefused, UnknownFlags}
 use Rattle.latex2mathml_c.proofs.Calls.{AreTexts}
 
--- the text of an error that tells a refusal is the text of that refusal
+-- the text of an error that reports a refusal is the text of that refusal
 pub refusal_told : (job : Job) (input : List ℕ) (refusal : Option Refusal) (text : List ℕ) → IsUtf8 input → IfSome refusal (IsRefusedAs (conversion_of job) input) → refusal ≢ None → text ≡ error_text refusal → IsText job input Refused text
 refusal_told job input (Some refusal) text utf8 refused some told = (utf8, (refusal, refused, told))
 refusal_told job input None text utf8 refused some told = absurd (some refl)

@@ -1,4 +1,5 @@
--- The text that a formula in LaTeX as authors write it comes to, behind definitions of macros. The input is lists of bytes.
+-- The text that results from a formula in LaTeX as authors write it, after definitions of macros. The inputs are lists of
+-- bytes.
 use Rattle.std.specs.Prelude.{◌≡◌, ◌==◌, ◌<◌, ◌≤◌, ◌⊎◌, ℕ, Bool, true, false, List, IsUtf8, codes}
 use Rattle.std.specs.Str.{chars}
 use Rattle.latex2mathml.specs.{Elements.IsMathElement, Formulas.DisplayStyle}
@@ -9,22 +10,22 @@ use Rattle.latex2mathml_tex_grammar.specs.{DefinitionTexts.AreRefused, Definitio
 use Rattle.latex2mathml_c.specs.declared.{Request.Request, Status.Status}
 use Rattle.latex2mathml_c.specs.declared.Status.TheVariants.{Done, Refused, NotUtf8, DefinitionRefused, UnknownFlags}
 
--- the text is the markup of the formula where these macros hold, which is one `math` element. It has the text of the formula
--- where an annotation is asked for.
+-- the text is the markup of the formula under these macros, which is one `math` element. It contains the text of the formula
+-- if an annotation is requested.
 abbrev pub IsElementOf : Bool → Table → List ℕ → DisplayStyle → List ℕ → Type 0
 IsElementOf false macros tex display text = IsAnswer macros tex (style_in display) text × IsMathElement text
 IsElementOf true macros tex display text = IsAnswerWithSource macros tex (style_in display) text × IsAnnotatedMathElement text
 
--- .. without a character that XML forbids and without a dollar sign
+-- the text is such markup, without a character that XML forbids and without a dollar sign
 abbrev pub IsMarkup : Bool → Table → List ℕ → DisplayStyle → List ℕ → Type 0
 IsMarkup is_annotated macros tex display text = IsElementOf is_annotated macros tex display text × IsAllowed text × IsDollarFree text
 
--- a refusal is told: its place, and its text
+-- a refusal is reported: its place, and its text
 abbrev pub IsTold : Refusal → ℕ → List ℕ → Type 0
 IsTold refusal place text = (place ≡ refusal.place) × (text ≡ refusal_text refusal)
 
--- The text that a formula comes to behind definitions, what it is, and the place of what is refused, or else 0. An annotation is
--- asked for or not.
+-- The text that results from a formula after definitions, its status, and the place of what is refused, or 0 if nothing is
+-- refused. An annotation is requested or not.
 abbrev pub IsRead : Bool → List ℕ → List ℕ → DisplayStyle → ℕ → Status → List ℕ → Type 0
 IsRead is_annotated definitions tex display place Done text =
     (place ≡ 0) × ((macros : Table) × Defines (chars definitions) macros × IsMarkup is_annotated macros tex display text)
@@ -50,7 +51,7 @@ given_by request = record {
   flags = request.flags;
 }
 
--- the flag that asks for an annotation, the only one that there is
+-- the flag that requests an annotation, the only flag there is
 abbrev pub annotation : ℕ
 annotation = 1
 
@@ -60,13 +61,13 @@ pub record IsReadable (given : Given) : Type 0 where
   pub definitions : IsUtf8 given.definitions
   pub tex : IsUtf8 given.tex
 
--- a sentence says which of the two texts is no UTF-8: the first one
+-- a sentence says which of the two texts is not UTF-8: the definitions, if neither is
 abbrev pub IsNoText : Given → List ℕ → Type 0
 IsNoText given text =
     ((¬ IsUtf8 given.definitions) × (text ≡ codes "The definitions are not UTF-8 text."))
     ⊎ (IsUtf8 given.definitions × (¬ IsUtf8 given.tex) × (text ≡ codes "The input is not UTF-8 text."))
 
--- the text that a call comes to, what it is, and the place of what is refused, or else 0
+-- the text that results from a call, its status, and the place of what is refused, or 0 if nothing is refused
 abbrev pub IsTexText : Given → ℕ → Status → List ℕ → Type 0
 IsTexText given place UnknownFlags text =
     (place ≡ 0) × (annotation < given.flags) × (text ≡ codes "The flags must be 0 or LATEX2MATHML_ANNOTATION.")
@@ -74,6 +75,6 @@ IsTexText given place NotUtf8 text = (place ≡ 0) × (given.flags ≤ annotatio
 IsTexText given place status text =
     IsReadable given × IsRead (given.flags == annotation) given.definitions given.tex given.display place status text
 
--- .. whatever the place is
+-- the text and the status result from a call, whatever the place is
 abbrev pub HasTexText : Given → Status → List ℕ → Type 0
 HasTexText given status text = (place : ℕ) × IsTexText given place status text

@@ -1,4 +1,5 @@
--- The text that a formula or a document comes to, by the calls that read what the Rust crate reads. The input is a list of bytes.
+-- The text that results from a formula or a document, by the calls that read what the Rust crate reads. The input is a list
+-- of bytes.
 use Rattle.std.specs.Prelude.{◌≡◌, ℕ, List, IsUtf8, codes}
 use Rattle.latex2mathml.specs.Formulas.{Refusal, refusal_text}
 use Rattle.latex2mathml.specs.Conversions.{Conversion, IsConverted, IsRefusedAs, formula, document}
@@ -6,12 +7,12 @@ use Rattle.latex2mathml_c.specs.{declared.Job.Job, declared.Job.TheVariants.Form
 use Rattle.latex2mathml_c.specs.declared.Status.{Status}
 use Rattle.latex2mathml_c.specs.declared.Status.TheVariants.{Done, Refused, NotUtf8}
 
--- as what the job converts its input
+-- what the job converts its input as
 abbrev pub conversion_of : Job → Conversion
 conversion_of (Formula display) = formula display
 conversion_of Document = document
 
--- the text that the input comes to, and what it is: the markup, or why there is none
+-- the text that results from the input, and its status: the markup, or why there is none
 abbrev pub IsText : Job → List ℕ → Status → List ℕ → Type 0
 IsText job input Done text = IsUtf8 input × IsConverted (conversion_of job) input text
 IsText job input Refused text =

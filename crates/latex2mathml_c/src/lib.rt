@@ -28,7 +28,7 @@ enum Job {
     Document,
 }
 
-/// The flag that asks for the text of a formula as an annotation of its markup.
+/// The flag that requests the text of a formula as an annotation of its markup.
 const ANNOTATION: u32 = 1;
 
 /// A formula in LaTeX as authors write it, with definitions of macros that it may use.
@@ -60,7 +60,7 @@ enum Status {
 }
 
 impl Status {
-    /// The number that the header gives it.
+    /// Returns the number that the header gives to this status.
     fn code(self) -> u32
         ensures { result ≡ code_of self }
     {
@@ -121,11 +121,12 @@ pub extern "C" fn latex2mathml_document(
     call(alloc, Job::Document, document, out, needed).code()
 }
 
-/// Converts one formula in LaTeX as authors write it, and returns a code of the header. `definitions` are those of macros that
-/// the formula may use, beside the usual ones. `flags` is 0, or 1 for the text of the formula as an annotation of its markup.
+/// Converts one formula in LaTeX as authors write it, and returns a code of the header. `definitions` define macros that the
+/// formula may use, in addition to the usual ones. `flags` is 0, or 1 for the text of the formula as an annotation of its
+/// markup.
 ///
-/// `out` and `needed` are as in [`latex2mathml_formula`]. `place` is the byte of the formula or of the definitions where what is
-/// refused begins, also if the reason does not fit, and otherwise 0.
+/// `out` and `needed` are as in [`latex2mathml_formula`]. `place` is the byte of the formula or of the definitions where what
+/// is refused begins, even if the reason does not fit. In all other cases it is 0.
 #[unsafe(no_mangle)]
 pub extern "C" fn latex2mathml_tex<'a>(
     alloc: Global,
@@ -191,7 +192,8 @@ fn call(alloc: Global, job: Job, input: &[u8], out: &mut [u8], needed: &mut usiz
     }
 }
 
-/// Converts the formula, and writes the result into the buffer if it fits. The place of what is refused is told even if not.
+/// Converts the formula, and writes the result into the buffer if it fits. Sets the place of what is refused even if the
+/// result does not fit.
 fn call_tex(
     alloc: Global,
     request: Request,
@@ -263,7 +265,7 @@ fn convert(alloc: Global, job: Job, text: &str) -> Result<String, LatexError>
     }
 }
 
-/// Puts the text at the start of the buffer and returns its status, or writes nothing if the buffer is too small.
+/// Writes the text to the start of the buffer and returns its status, or writes nothing if the buffer is too small.
 fn put(status: Status, text: &str, out: &mut [u8], needed: &mut usize) -> Status
     ensures { IsPutOrTooSmall status result text.now
         (record { old = out.old; new = out.new; needed = needed.new }) }

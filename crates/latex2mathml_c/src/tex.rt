@@ -1,4 +1,4 @@
-//! What a formula in LaTeX as authors write it comes to.
+//! Converts a formula in LaTeX as authors write it.
 ghost use Rattle.std.specs.Prelude.{◌≡◌, IfOk, Some, string_bytes};
 ghost use Rattle.latex2mathml_c.specs.TexTexts.{IsMarkup, IsRead, IsTold};
 ghost use Rattle.latex2mathml_tex_units.specs.{Errors.IfRefused, Errors.refusal_of, MacroTables.AreDefined, MacroTables.Holding};
@@ -11,7 +11,7 @@ use latex2mathml_tex::{
 };
 use std::alloc::{AllocError, Global};
 
-/// A text, what it is, and the place of what is refused, or else 0.
+/// A text, its status, and the place of what is refused, or 0 if nothing is refused.
 #[derive(Drop)]
 pub(crate) struct Told {
     pub(crate) status: Status,
@@ -20,7 +20,7 @@ pub(crate) struct Told {
 }
 
 /// Returns the markup of a formula that may use macros of these definitions, or the reason why it or a definition is refused.
-/// Where an annotation is asked for, the markup has the text of the formula. The only `Err` is out of memory.
+/// If an annotation is requested, the markup contains the text of the formula. The only `Err` is out of memory.
 pub(crate) fn read<'a>(
     alloc: Global,
     definitions: &'a str,
@@ -45,7 +45,7 @@ pub(crate) fn read<'a>(
     }
 }
 
-/// Returns the markup of a formula, with the text of the formula where an annotation is asked for.
+/// Returns the markup of a formula, with the text of the formula if an annotation is requested.
 fn markup<'a>(
     alloc: Global,
     macros: &Macros<'a>,
@@ -65,7 +65,7 @@ fn markup<'a>(
     }
 }
 
-/// Returns the text of an error, which has this status, and its place. The only `Err` is out of memory.
+/// Returns the text of an error with this status, and its place. The only `Err` is out of memory.
 fn refusal(alloc: Global, status: Status, error: &TexError) -> Result<Told, AllocError>
     ensures { IfOk result (λ told. (told.status ≡ status) × ((refusal : Refusal)
         × (refusal_of error.now ≡ Some refusal)

@@ -1,4 +1,4 @@
--- Documents of the tests: the prose of one is that of a page, and the other has none.
+-- Documents of the tests: the prose of one is that of a page, and the other has no prose.
 use Rattle.std.proofs.Common.{false, [], ◌∷◌, refl, codes, arith}
 use Rattle.latex2mathml.specs.Documents.{prose, inline, display, IsWhole, nothing, single, whole}
 use Rattle.latex2mathml.specs.Elements.{above, close_tag, lowest, open_tag}

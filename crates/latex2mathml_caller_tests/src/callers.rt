@@ -1,4 +1,4 @@
-//! Each example caller once, with memory to spare.
+//! Calls each example caller once, with memory to spare.
 use latex2mathml::ast::Node;
 use latex2mathml::attribute::Variant;
 use latex2mathml::{Disk, DisplayStyle, Stream};

@@ -10,7 +10,7 @@ use Rattle.latex2mathml_trees.proofs.ValueTexts.{IsValue, beside, no_text}
 pub alternative-append : (xs ys : List ℕ) → alternative (xs ++ ys) ≡ alternative xs ++ alternative ys
 alternative-append xs ys = flat_map-append alternative_byte xs ys
 
--- a list on each byte of which f and g agree
+-- f and g agree on each byte of the list
 alike : (f g : ℕ → List ℕ) (bs : List ℕ) → ((k : ℕ) → k < length bs → f (get_or bs k 0) ≡ g (get_or bs k 0)) → flat_map f bs ≡ flat_map g bs
 alike f g [] h = refl
 alike f g (b ∷ bs) h =
@@ -19,7 +19,7 @@ alike f g (b ∷ bs) h =
 alternative_byte-other : (b : ℕ) → b ≢ 34 → alternative_byte b ≡ content_byte b
 alternative_byte-other b quote = grind (arith, nat_tests)
 
--- a character that an alternative text holds as contents do
+-- a character that an alternative text holds as contents hold it
 pub alternative_char-other : (c : ℕ) → c ≢ 34 → alternative (encode_utf8 c) ≡ content (encode_utf8 c)
 alternative_char-other c quote =
     alike alternative_byte content_byte (encode_utf8 c) (λ k lt. (let same : get_or (encode_utf8 c) k 0 < 128 → c ≡ get_or (encode_utf8 c) k 0 = inside_one c [] (encode_utf8 c) k (sym (append-nil (encode_utf8 c))) lt in alternative_byte-other (get_or (encode_utf8 c) k 0) (λ e. quote (same (omega arith) ∙ e))))

@@ -39,7 +39,7 @@ module _ (schema other : Schema) (more : (parent : Option Name) (name : Name) (c
   runs_also : {bytes : List ℕ} {s t : OpenElements} → Runs schema bytes s t → Runs other bytes s t
   runs_also {s = s} {t = t} m = record { events = m.events; are_events = m.are_events; spelled = m.spelled; runs = run_also m.events s t m.runs }
 
--- The child table with annotations allows more: in the other one there is neither of its two elements.
+-- The child table with annotations allows more: its two further elements are not in the other table.
 
 either : (first second p q r : Bool) → (first ≡ true → r ≡ false) → (second ≡ true → r ≡ false) → r ≡ true → cond first p (cond second q r) ≡ true
 either true second p q r f g h = absurd (let k : false ≡ true = sym (f refl) ∙ h in cc)
@@ -92,7 +92,7 @@ element_other (pair p a x y) = pair_other p
 element_other (triple t a x y z) = triple_other t
 element_other (table a rows) = refl
 
--- The annotation, behind what is shown, and both in the formula
+-- The annotation, after what is shown, and both in the formula
 
 annotation_runs : (tex : List ℕ) (shown : Name) (s : OpenElements) → Runs annotated_child_table (annotation_print tex) (above (codes "semantics") (shown ∷ []) false s) (above (codes "semantics") (codes "annotation" ∷ shown ∷ []) false s)
 annotation_runs tex shown s =

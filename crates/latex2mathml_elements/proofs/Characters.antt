@@ -44,7 +44,7 @@ free_alternative : (bs : List ℕ) → IsDollarFree (alternative bs)
 free_alternative [] = refl
 free_alternative (b ∷ bs) = free_both (alternative_byte b) (alternative bs) (free_alternative_byte b) (free_alternative bs)
 
--- whatever the texts of the elements are
+-- each text of every element has the property that always holds
 mutual
   any_text : (x : Element) → EachText (λ text. ⊤) x
   any_text (token t a text) = tt
@@ -122,7 +122,7 @@ allowed_content_of (c ∷ cs) h =
 allowed_content : (text : List ℕ) → IsAllowed text → IsAllowed (content text)
 allowed_content text h = subst (λ t. IsAllowed (content t)) h.1 (allowed_content_of h.0 h.2)
 
--- so it is of alternative texts
+-- the same for the alternative text of a character
 allowed_alternative_char : (c : ℕ) → is_forbidden c ≡ false → IsAllowed (alternative (encode_utf8 c))
 unfolding encode_utf8
 allowed_alternative_char c h = elim (eqb_tells c 34) [

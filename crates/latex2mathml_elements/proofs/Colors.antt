@@ -1,5 +1,5 @@
--- What holds of each digit in hexadecimal, and of the sign before them, holds of each byte of a color. So a color is a value
--- of an attribute.
+-- What holds of each hexadecimal digit, and of the sign before the digits, holds of each byte of a color. So a color is a
+-- value of an attribute.
 use Rattle.std.proofs.Common.{ℕ, ◌/◌, ◌%◌, ◌<◌, Bool, IsTrue, refl, ◌∙◌, arith, map}
 use Rattle.std.specs.List.{list_all}
 use Rattle.std.proofs.{lemmas.Bool.Decides.nat_tests, lemmas.List.Folds.list_all-map}

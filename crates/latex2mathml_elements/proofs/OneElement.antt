@@ -20,7 +20,7 @@ called (pair p a x y) = pair_name p
 called (triple t a x y z) = triple_name t
 called (table a rows) = codes "mtable"
 
--- The names of elements are names, and the child table gives each element what its constructor gives it
+-- The names of elements are names, and the child table allows each element what its constructor gives it
 
 token_named : (t : Token) → IsTrue (is_name (token_name t))
 token_named Mi = refl
@@ -83,11 +83,11 @@ starts n a s valid = opens n s valid (settings a)
 
 -- The rows of a table, and the cells of a row
 
--- children of this name, and one at least
+-- at least one child, and each of this name
 abbrev AreSome : Name → List Name → Type 0
 AreSome name names = IsTrue (has_some names && list_all (bytes_eq name) names)
 
--- a row stands in a table, and a cell in a row
+-- a row in a table, and a cell in a row
 row_runs : (inside : List ℕ) (ks names : List Name) (s : OpenElements) → AreSome (codes "mtd") names → Runs child_table inside (above (codes "mtr") [] false (above (codes "mtable") (codes "mtr" ∷ ks) false s)) (above (codes "mtr") names false (above (codes "mtable") (codes "mtr" ∷ ks) false s)) → Runs child_table (row_print inside) (above (codes "mtable") ks false s) (above (codes "mtable") (codes "mtr" ∷ ks) false s)
 row_runs inside ks names s are runs =
     joined (opened child_table (codes "mtr") (above (codes "mtable") ks false s) refl)

@@ -1,4 +1,4 @@
--- What holds of texts of plain bytes, of contents, and of two texts side by side, holds of prints.
+-- What holds of texts of plain bytes, of contents, and of joined texts, holds of prints.
 use Rattle.std.proofs.Common.{ℕ, zero, suc, ℤ, pos, negsuc, ◌+◌, ◌<◌, Bool, true, false, ◌&&◌, ◌==◌, not, IsTrue, List, [], ◌++◌, Option, Some, None, refl, arith, codes, nat_lt}
 use Rattle.std.proofs.lemmas.Bool.Decides.{nat_tests}
 use Rattle.std.specs.{List.list_all, Str.byte}
@@ -15,7 +15,7 @@ use Rattle.latex2mathml_tokens.specs.Escape.{content}
 use Rattle.latex2mathml_trees.specs.Width.{width_text}
 use Rattle.latex2mathml_trees.proofs.ValueTexts.{width_passes}
 
--- the printable ASCII characters, the dollar sign aside
+-- the printable ASCII characters, except for the dollar sign
 abbrev pub is_plain : ℕ → Bool
 is_plain b = nat_lt 0x1F b && nat_lt b 0x7F && not (b == byte "$")
 
@@ -29,7 +29,7 @@ plain_digit d h = grind (arith, nat_tests)
 plain_hexadecimal : (d : ℕ) → d < 16 → IsTrue (is_plain (hexadecimal d))
 plain_hexadecimal d h = grind (arith, nat_tests)
 
--- It holds of contents if something else holds of the text.
+-- A property that holds of contents if something else holds of their text.
 module _ (Holds Asked : List ℕ → Type 0) (append : (a b : List ℕ) → Holds a → Holds b → Holds (a ++ b)) (plain : (bs : List ℕ) → IsPlain bs → Holds bs) (contents : (text : List ℕ) → Asked text → Holds (content text)) where
   both : {a b : List ℕ} → Holds a → Holds b → Holds (a ++ b)
   both {a} {b} x y = append a b x y

@@ -1,5 +1,5 @@
--- Formulas with an annotation: beside what is shown stands the text that it was read from. It is their alternative text as well,
--- for what cannot show them.
+-- Formulas with an annotation: what is shown is followed by the text that it was read from. The same text is their
+-- alternative text, for software that cannot show them.
 use Rattle.std.specs.Prelude.{ℕ, ◌==◌, Bool, true, false, not, ◌&&◌, List, [], ◌∷◌, ◌++◌, if◌then◌else◌, codes}
 use Rattle.std.specs.{List.flat_map, Str.byte, Str.bytes_eq}
 use Rattle.latex2mathml_elements.specs.{Element.Element, Print.print}
@@ -7,7 +7,7 @@ use Rattle.latex2mathml_tokens.specs.Escape.{content, content_byte}
 use Rattle.latex2mathml_trees.specs.Markup.{Name, Schema, IsElement}
 use Rattle.latex2mathml_trees.specs.MathSchema.{child_table, has_some, is_parent}
 
--- an annotation that says that its text is TeX
+-- an annotation that declares its text to be TeX
 abbrev pub annotation_print : List ℕ → List ℕ
 annotation_print tex = codes "<annotation encoding=\"application/x-tex\">" ++ (content tex ++ codes "</annotation>")
 
@@ -31,14 +31,14 @@ abbrev pub annotated_print : Bool → Element → List ℕ → List ℕ
 annotated_print is_display x tex =
     alternative_tag is_display tex ++ (codes "<semantics>" ++ (print x ++ (annotation_print tex ++ codes "</semantics></math>")))
 
--- an element that is no annotation, and then annotations alone. The last one stands first.
+-- an element that is not an annotation, and then only annotations. The last one is first in the list.
 abbrev pub are_annotated : List Name → Bool
 are_annotated [] = false
 are_annotated (name ∷ []) = not (bytes_eq (codes "annotation") name)
 are_annotated (name ∷ names) = bytes_eq (codes "annotation") name && are_annotated names
 
--- The child table with two more elements: `semantics` stands in `math` alone, and `annotation`, which holds a text, in
--- `semantics` alone.
+-- The child table with two more elements: `semantics`, which may be only in `math`, and `annotation`, which holds a text
+-- and may be only in `semantics`.
 abbrev pub annotated_child_table : Schema
 annotated_child_table parent name children has_text =
     if bytes_eq (codes "semantics") name then is_parent (codes "math") parent && (are_annotated children && not has_text)

@@ -1,19 +1,19 @@
--- The attributes of an element. Each has a field of its own, so none stands twice.
+-- The attributes of an element. Each has a field of its own, so none occurs twice.
 use Rattle.std.specs.Prelude.{ℤ, pos, Bool, false, Option, Some, None}
 use Rattle.latex2mathml_elements.specs.Colors.{Color}
 
--- the side of its base on which a mark stands
+-- the side of its base on which a mark is
 pub data Side : Type 0 where
   Above : Side
   Below : Side
 
--- where an operator stands among others
+-- the position of an operator among other elements
 pub data Form : Type 0 where
   Prefix : Form
   Infix : Form
   Postfix : Form
 
--- whether an operator is as high or as wide as what stands beside it
+-- whether an operator grows as high or as wide as what is next to it
 pub data Stretch : Type 0 where
   Stretching : Stretch
   Rigid : Stretch
@@ -36,17 +36,17 @@ pub data MathStyle : Type 0 where
   TextStyle : MathStyle
   ScriptStyle : MathStyle
 
--- what is made of the box around elements
+-- a change to the box around elements
 pub data Boxing : Type 0 where
   -- it has no width; no height above the line and no depth below it; no height; no depth
   NoWidth : Boxing
   Flat : Boxing
   NoHeight : Boxing
   NoDepth : Boxing
-  -- it stands to the left of its place, by its width or by half of it
+  -- it is moved to the left, by its width or by half of it
   ByItsWidth : Boxing
   ByHalfItsWidth : Boxing
-  -- a line stands around it
+  -- it has a line around it
   Framed : Boxing
   -- lines go through it: from its lower left, from its upper left, or both
   StruckUp : Boxing
@@ -63,19 +63,19 @@ pub record Attributes : Type 0 where
   -- a sign of punctuation
   pub separator : Bool
   pub size : Option Size
-  -- what the browser would choose, where there is none
+  -- `None` leaves the space to the browser
   pub space : Option Space
   -- limits stay above and below in every style
   pub limits_stay : Bool
   pub accent : Option Side
   -- a fraction without its line
   pub no_line : Bool
-  -- the style of what stands in it, whatever the style around it is
+  -- the style of what is in it, whatever the style around it is
   pub style : Option MathStyle
   pub boxing : Option Boxing
-  -- how far a box stands above its place, in thousandths of an em
+  -- how far a box is raised above its place, in thousandths of an em
   pub raised : ℤ
-  -- the color of what stands in it, and of what lies behind it
+  -- the color of what is in it, and of its background
   pub color : Option Color
   pub background : Option Color
 
@@ -83,10 +83,10 @@ pub record Attributes : Type 0 where
 abbrev pub plain : Attributes
 plain = record { upright = false; form = None; stretch = None; fence = false; separator = false; size = None; space = None; limits_stay = false; accent = None; no_line = false; style = None; boxing = None; raised = pos 0; color = None; background = None }
 
--- .. with a style of its own, where it has one
+-- an element with this style of its own, if any
 abbrev pub styled : Option MathStyle → Attributes
 styled own = record plain { style = own }
 
--- .. with a box
+-- an element with this change to its box
 abbrev pub boxed : Boxing → Attributes
 boxed boxing = record plain { boxing = Some boxing }

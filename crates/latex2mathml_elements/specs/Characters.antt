@@ -8,7 +8,7 @@ abbrev pub is_forbidden : ℕ → Bool
 is_forbidden c =
     (nat_lt c 0x20 && not (c == byte "\t" || c == byte "\n" || c == byte "\r")) || c == 0xFFFE || c == 0xFFFF
 
--- the text, as its bytes, is of characters none of which XML forbids
+-- the text, as its bytes, consists of characters that XML does not forbid
 abbrev pub IsAllowed : List ℕ → Type 0
 IsAllowed = NoCharPasses is_forbidden
 
@@ -23,7 +23,7 @@ abbrev mutual
   EachText P (triple t a x y z) = EachText P x × EachText P y × EachText P z
   EachText P (table a rows) = EachTextOfRows P rows
 
-  -- and each text of elements side by side
+  -- each text of several elements is of this kind
   pub EachTextOf : (List ℕ → Type 0) → Elements → Type 0
   EachTextOf P none = ⊤
   EachTextOf P (more x xs) = EachText P x × EachTextOf P xs

@@ -2,7 +2,7 @@
 use Rattle.std.specs.Prelude.{ℕ, ◌+◌, ◌-◌, ◌/◌, ◌%◌, nat_lt, List, [], ◌∷◌, ◌++◌, Option, Some, None, codes, if◌then◌else◌}
 use Rattle.std.specs.Str.{byte}
 
--- how much there is of each, from none to 255
+-- how much of each there is, from 0 to 255
 pub record Color : Type 0 where
   pub red : ℕ
   pub green : ℕ
@@ -19,7 +19,7 @@ two_digits n = hexadecimal (n / 16 % 16) ∷ hexadecimal (n % 16) ∷ []
 abbrev pub color_code : Color → List ℕ
 color_code c = codes "#" ++ (two_digits c.red ++ (two_digits c.green ++ two_digits c.blue))
 
--- the attribute of this name, where there is a color
+-- the attribute of this name, if there is a color
 abbrev pub color_text : List ℕ → Option Color → List ℕ
 color_text name None = []
 color_text name (Some c) = codes " " ++ (name ++ (codes "=\"" ++ (color_code c ++ codes "\"")))

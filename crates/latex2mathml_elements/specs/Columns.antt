@@ -1,27 +1,27 @@
 -- The columns of a table.
 use Rattle.std.specs.Prelude.{ℕ, zero, suc, List, [], ◌∷◌}
 
--- how the cells of a column stand in it
+-- how the cells of a column are aligned
 pub data Column : Type 0 where
   Centered : Column
   LeftAligned : Column
   RightAligned : Column
-  -- the two of a pair, which meet with no space between them: the first stands at its right end, the second at its left
+  -- the two columns of a pair, with no space between them: the first is aligned right, the second left
   FirstOfPair : Column
   SecondOfPair : Column
-  -- in the middle, with little space around
+  -- centered, with little space around
   Dense : Column
 
 -- all columns of a table, however many there are
 pub data Columns : Type 0 where
-  -- each like this one
+  -- all like this one
   Alike : Column → Columns
-  -- pairs, side by side
+  -- pairs, next to each other
   InPairs : Columns
-  -- these, and centered ones after them
+  -- these, followed by centered ones
   Listed : List Column → Columns
 
--- the column behind so many others
+-- the column that follows the given number of others
 abbrev pub column_at : Columns → ℕ → Column
 column_at (Alike column) k = column
 column_at InPairs zero = FirstOfPair

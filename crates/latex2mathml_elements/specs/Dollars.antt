@@ -1,5 +1,5 @@
--- Texts without a dollar sign. The sign is ASCII, so it is no byte of another character, and what is said of bytes here
--- holds of characters.
+-- Texts without a dollar sign. The sign is ASCII, so it is not a byte of any other character, and what is said of bytes
+-- here holds of characters.
 use Rattle.std.specs.Prelude.{ℕ, not, ◌==◌, IsTrue, List}
 use Rattle.std.specs.{List.list_all, Str.byte}
 

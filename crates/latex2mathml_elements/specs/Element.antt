@@ -1,4 +1,4 @@
--- Elements of MathML. Their constructors give each as many children as MathML Core asks for.
+-- Elements of MathML. Each constructor takes as many children as MathML Core requires.
 use Rattle.std.specs.Prelude.{ℕ, ℤ, List, [], ◌∷◌}
 use Rattle.latex2mathml_elements.specs.{Attributes.Attributes, Columns.Column, Extents.Extent}
 
@@ -17,7 +17,7 @@ pub data Container : Type 0 where
   Mpadded : Container
   Mphantom : Container
 
--- the elements that hold two
+-- the elements that hold two elements
 pub data Pair : Type 0 where
   Mfrac : Pair
   Mroot : Pair
@@ -26,7 +26,7 @@ pub data Pair : Type 0 where
   Munder : Pair
   Mover : Pair
 
--- the elements that hold three
+-- the elements that hold three elements
 pub data Triple : Type 0 where
   Msubsup : Triple
   Munderover : Triple
@@ -48,17 +48,17 @@ mutual
     none : Elements
     more : Element → Elements → Elements
 
-  -- one row at least
+  -- at least one row
   pub data Rows : Type 0 where
     one_row : Cells → Rows
     more_rows : Cells → Rows → Rows
 
-  -- one cell at least
+  -- at least one cell
   pub data Cells : Type 0 where
     one_cell : Column → Elements → Cells
     more_cells : Column → Elements → Cells → Cells
 
--- a list of elements as the children of one
+-- a list of elements as the children of an element
 abbrev pub children : List Element → Elements
 children [] = none
 children (x ∷ xs) = more x (children xs)

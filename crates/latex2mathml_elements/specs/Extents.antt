@@ -1,4 +1,4 @@
--- How wide and how high a rectangle is.
+-- The width, height and depth of a rectangle.
 use Rattle.std.specs.Prelude.{ℕ, zero, suc, ℤ, pos, negsuc, Bool, true, false, List, [], ◌∷◌, ◌++◌, codes}
 use Rattle.std.specs.Str.{byte}
 use Rattle.latex2mathml_trees.specs.Width.{thousandths_text}
@@ -8,11 +8,11 @@ pub record Extent : Type 0 where
   pub width : ℤ
   -- above the line
   pub height : ℤ
-  -- below it
+  -- below the line
   pub depth : ℤ
   pub is_black : Bool
 
--- nothing but a width
+-- an empty rectangle with a width only
 abbrev pub wide : ℤ → Extent
 wide width = record { width = width; height = pos 0; depth = pos 0; is_black = false }
 
@@ -24,7 +24,7 @@ ems (negsuc n) = byte "-" ∷ thousandths_text (suc n)
 abbrev pub length_text : List ℕ → ℤ → List ℕ
 length_text name length = codes " " ++ (name ++ (codes "=\"" ++ (ems length ++ codes "em\"")))
 
--- a length that is none is not said
+-- a length of zero is not written
 abbrev pub length_if_any : List ℕ → ℤ → List ℕ
 length_if_any name (pos zero) = []
 length_if_any name length = length_text name length
@@ -33,7 +33,7 @@ abbrev pub black_text : Bool → List ℕ
 black_text true = codes " mathbackground=\"black\""
 black_text false = []
 
--- its attributes
+-- the attributes of an extent
 abbrev pub extent_text : Extent → List ℕ
 extent_text e =
     length_text (codes "width") e.width

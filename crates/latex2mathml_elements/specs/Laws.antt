@@ -10,7 +10,7 @@ pub record PrintAsElements : Type 0 where
   pub formulas : (is_display : Bool) (xs : Elements) → IsMathElement (formula_print is_display xs)
   -- the print of a formula holds no dollar sign
   pub dollars : (is_display : Bool) (xs : Elements) → IsDollarFree (formula_print is_display xs)
-  -- and no character that XML forbids, where the texts of its elements hold none
+  -- the print of a formula holds no character that XML forbids, where the texts of its elements hold none
   pub characters : (is_display : Bool) (xs : Elements) → EachTextOf IsAllowed xs → IsAllowed (formula_print is_display xs)
 
 -- the print of a formula with an annotation is one balanced element too, and obeys the child table with annotations
@@ -18,7 +18,7 @@ pub record AnnotatedPrintAsElements : Type 0 where
   pub formulas : (is_display : Bool) (x : Element) (tex : List ℕ) → IsAnnotatedMathElement (annotated_print is_display x tex)
   -- it holds no dollar sign
   pub dollars : (is_display : Bool) (x : Element) (tex : List ℕ) → IsDollarFree (annotated_print is_display x tex)
-  -- and no character that XML forbids, where the texts of the element and of the annotation hold none
+  -- it holds no character that XML forbids, where the texts of the element and of the annotation hold none
   pub characters : (is_display : Bool) (x : Element) (tex : List ℕ)
       → HasAllowedTexts x
       → IsAllowed tex

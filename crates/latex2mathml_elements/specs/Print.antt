@@ -51,7 +51,7 @@ stretch_text None = []
 stretch_text (Some Stretching) = codes " stretchy=\"true\""
 stretch_text (Some Rigid) = codes " stretchy=\"false\""
 
--- a delimiter of a size of its own is as high above the axis as it is deep below
+-- a delimiter with a size of its own is as high above the axis as it is deep below
 abbrev pub size_text : Option Size → List ℕ
 size_text None = []
 size_text (Some Big) = codes " symmetric=\"true\" minsize=\"1.2em\" maxsize=\"1.2em\""
@@ -82,7 +82,7 @@ line_up = codes "linear-gradient(to top left, transparent calc(50% - 0.04em), cu
 abbrev pub line_down : List ℕ
 line_down = codes "linear-gradient(to top right, transparent calc(50% - 0.04em), currentcolor, transparent calc(50% + 0.04em))"
 
--- what MathML Core has no attribute for is said in the words of style sheets
+-- what MathML Core has no attribute for is written in the language of style sheets
 abbrev pub boxing_text : Option Boxing → List ℕ
 boxing_text None = []
 boxing_text (Some NoWidth) = codes " width=\"0\""
@@ -114,7 +114,7 @@ attributes_text a =
     ++ (color_text (codes "mathcolor") a.color
     ++ color_text (codes "mathbackground") a.background)))))))))))))
 
--- the side of a column is said twice: some browsers read the attribute, others the style
+-- the alignment of a column is written twice: some browsers read the attribute, others the style
 abbrev pub column_text : Column → List ℕ
 column_text Centered = []
 column_text LeftAligned = codes " columnalign=\"left\" style=\"text-align: left\""
@@ -151,7 +151,7 @@ abbrev mutual
   print (triple t a x y z) = start_tag (triple_name t) a ++ (print x ++ (print y ++ (print z ++ end_tag (triple_name t))))
   print (table a rows) = start_tag (codes "mtable") a ++ (rows_print rows ++ end_tag (codes "mtable"))
 
-  -- elements side by side
+  -- elements one after another
   pub prints : Elements → List ℕ
   prints none = []
   prints (more x xs) = print x ++ prints xs
@@ -164,7 +164,7 @@ abbrev mutual
   cells_print (one_cell column xs) = cell_print column (prints xs)
   cells_print (more_cells column xs cells) = cell_print column (prints xs) ++ cells_print cells
 
--- a formula of its own line, or of a line of text
+-- a formula on its own line, or in a line of text
 abbrev pub math_tag : Bool → List ℕ
 math_tag true = codes "<math xmlns=\"http://www.w3.org/1998/Math/MathML\" display=\"block\">"
 math_tag false = codes "<math xmlns=\"http://www.w3.org/1998/Math/MathML\" display=\"inline\">"

@@ -1,4 +1,4 @@
-//! Elements of MathML and how they are written: definitions alone, and what holds of them.
+//! Elements of MathML and how they are written: only definitions, and their laws.
 //!
 //! No code here makes an element: see `latex2mathml_builder`.
 #![tactic(auto)]

@@ -12,7 +12,7 @@ use Rattle.latex2mathml_trees.specs.Tree.{Tree, Trees, no_trees, more_trees}
 use Rattle.latex2mathml_trees.specs.Width.{width_text}
 use Rattle.latex2mathml_tokens.specs.{declared.DisplayStyle.DisplayStyle, declared.attribute.Accent.Accent, declared.attribute.Variant.Variant}
 
--- Contents escape it.
+-- Contents escape the dollar sign.
 free_content_byte : (b : ℕ) → IsDollarFree (content_byte b)
 free_content_byte b = grind arith
 
@@ -31,7 +31,7 @@ pub free_value : (bs : List ℕ) → IsDollarFree bs → IsDollarFree (value bs)
 free_value [] h = refl
 free_value (b ∷ bs) h = free_both (value_byte b) _ (free_value_byte b (free_first b bs h)) (free_value bs (free_rest b bs h))
 
--- Numbers and widths hold none.
+-- Numbers and widths hold no dollar sign.
 other_digit : (d : ℕ) → d < 10 → is_other (48 + d) ≡ true
 other_digit d h = grind (arith, nat_tests)
 
@@ -41,7 +41,7 @@ free_decimal = decimal_passes is_other other_digit
 pub free_width : (n : ℤ) → IsDollarFree (width_text n)
 free_width = width_passes is_other other_digit refl refl
 
--- Prints. A literal at the front of a text computes away, so what is proved names only what stands between literals.
+-- Prints. A literal at the front of a text computes away, so what is proved names only what is between literals.
 free_variant : (variant : Variant) → IsDollarFree (variant_text variant)
 free_variant variant = grind arith
 
@@ -63,17 +63,17 @@ free_operator c = grind (arith, list_all-append, free_content_char)
 pub free_slashed : (x : Tree) (own : List ℕ) → IsDollarFree own → IsDollarFree (slashed_print x own)
 free_slashed x own h = grind (arith, list_all-append, free_content_char, free_variant)
 
--- what stands between literals in the prints of most trees
+-- what is between literals in the prints of most trees
 pub ruleset free_pieces = (free_both, free_content, free_content_char, free_width, free_accent, free_letter, free_operator, free_slashed)
 
--- what stands beside another text
+-- the two parts of a text without a dollar sign
 pub free_parts : (a b : List ℕ) → IsDollarFree (a ++ b) → IsDollarFree a × IsDollarFree b
 free_parts a b h = grind (arith, list_all-append)
 
 free_member : (x : Tree) (own : List ℕ) → IsDollarFree own → IsDollarFree (member_print x own)
 free_member x own h = grind arith
 
--- members of a matrix that stand side by side elsewhere
+-- the members of a matrix, which are elsewhere printed next to each other
 pub free_members : (xs : Trees) → IsDollarFree (prints xs) → IsDollarFree (members_print xs)
 free_members no_trees h = refl
 free_members (more_trees x rest) h =

@@ -1,4 +1,4 @@
--- The sizes that tokens of a text have hold no dollar sign.
+-- The sizes in the tokens of a text hold no dollar sign.
 use Rattle.std.proofs.Common.{arith, ◌≡◌, ℕ, Bool, true, List, [], ◌∷◌, Option, map, inl, inr, sym, subst}
 use Rattle.std.proofs.lemmas.Bool.Decides.{nat_tests}
 use Rattle.std.specs.List.{list_all}

@@ -8,13 +8,13 @@ use Rattle.latex2mathml_grammar.specs.Cutting.{run_of, behind_run, number_of, fi
 use Rattle.latex2mathml_grammar.specs.Spelling.{SpellsAt, IsNumber, is_period, is_digit_or_period, begins_longer, character, colon, colon_equals, number, digit, symbol_command, letter_command, lone_backslash}
 use Rattle.latex2mathml_tokens.specs.Tok.{Tok}
 
--- a run of characters that pass the test, and what stands after it
+-- a run of characters that pass the test, and what follows it
 pub parted : (p : ℕ → Bool) (w rest : List ℕ) → Each p w → Stops p (head rest) → (run_of p (w ++ rest) ≡ w) × (behind_run p (w ++ rest) ≡ rest)
 parted p [] [] each stops = (refl, refl)
 parted p [] (r ∷ rest) each stops = (rw stops refl, rw stops refl)
 parted p (c ∷ w) rest each stops = (let more = parted p w rest each.1 stops in (rw each.0 (ap (λ k. c ∷ k) more.0), rw each.0 more.1))
 
--- with no period in it, what holds digits and periods is digits
+-- a text of digits and periods that holds no period is all digits
 all_digits : (w : List ℕ) → Each is_digit_or_period w → count_by is_period w ≡ 0 → Each is_ascii_digit w
 all_digits [] each none = tt
 all_digits (c ∷ w) each none = elim (cases_Bool (is_ascii_digit c)) [

@@ -1,6 +1,6 @@
--- What is read of tokens whose sizes hold no dollar sign is a tree in which no function has an argument and whose print holds
--- no dollar sign, or a refusal that is not for dollar signs. Only `keeps` names tokens: it has a line for each rule of which
--- `search` does not find that it is kept.
+-- Reading tokens whose sizes hold no dollar sign gives a tree in which no function has an argument and whose print holds
+-- no dollar sign, or a refusal that is not for dollar signs. Only `keeps` names tokens: it has a line for each rule that
+-- `search` does not find to be kept.
 use Rattle.std.proofs.Common.{arith, ◌≢◌, ℕ, List, [], ◌∷◌, Option, Some, None, refl, subst}
 use Rattle.std.proofs.lemmas.List.Folds.{list_all-append}
 use Rattle.std.specs.Str.{chars, encode_utf8_all}
@@ -23,7 +23,7 @@ IsKept x = HasNoArgument x × IsDollarFree (print x)
 abbrev AreKept : Trees → Type 0
 AreKept xs = HaveNoArgument xs × IsDollarFree (prints xs)
 
--- of such parts and tokens the rule makes none but such trees and refusals
+-- from kept parts and any tokens, the rule makes only kept trees and refusals that are not for dollar signs
 abbrev Keeps : Rule → Type 0
 Keeps (gives x) = IsKept x
 Keeps (refuses r) = r ≢ InvalidNumberOfDollarSigns
@@ -77,7 +77,7 @@ abbrev Has : {A : Type 0} → (A → Type 0) → Outcome A → Type 0
 Has kept (Read x m) = kept x × AreFree m
 Has kept (Refused r) = r ≢ InvalidNumberOfDollarSigns
 
--- what stands after letters
+-- the tokens after letters
 behind : (cs : List ℕ) (l m : List Tok) → AreLetters cs l m → AreFree l → AreFree m
 behind [] l m d h = subst AreFree d.0 h
 behind (c ∷ cs) l m d h = behind cs d.1.0 m d.1.3 (subst AreFree d.1.1 h).1

@@ -23,7 +23,7 @@ Begins-run text [] (c ∷ cs) more run begins =
     let b : is_ascii_digit c ≡ true = subst (λ t. Begins is_ascii_digit t) run.0 begins in absurd (cc (b, run.2))
 Begins-run text (d ∷ ds) back more run begins = (each is_ascii_digit (d ∷ ds) run.1).0
 
--- digits that no period follows
+-- digits with no period after them
 pub digits_alone : (text front back : List ℕ) → IsLongestRun is_ascii_digit text front back → Begins is_ascii_digit text → Stops is_period (head back) → BeginsWithNumber text back
 digits_alone text front back run begins stops =
     let is : IsNumber front (head back) = record {

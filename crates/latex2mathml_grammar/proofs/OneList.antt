@@ -30,7 +30,7 @@ only_space text space start run e = subst (AllPass is_space) (sym (run.0 ∙ ap 
 abbrev pub Begun : Bool → List ℕ → Type 0
 Begun alone text = (t : Tok) × (rest : List ℕ) × BeginsWith alone text t rest
 
--- the only character among one
+-- the only character among one character
 pub only : (b c : ℕ) → is_among c (b ∷ []) ≡ true → c ≡ b
 only b c h = grind (arith, nat_tests)
 
@@ -89,7 +89,7 @@ dark_starts : (w rest : List ℕ) → Dark w → Stops is_space (head (w ++ rest
 dark_starts [] rest d = absurd d
 dark_starts (c ∷ w) rest d = (d, refl)
 
--- the slices that a text has are those that are computed
+-- the slices that a text has are the computed ones
 computed : (n : ℕ) (takes : Bool) (text : List ℕ) (ss : List Slice) → HasSlices takes text ss → length text < n → slices_within n takes text ≡ ss
 unfolding slices_within
 computed zero takes text ss h l = absurd (omega arith)

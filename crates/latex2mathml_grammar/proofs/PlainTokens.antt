@@ -1,4 +1,4 @@
--- The tokens of slices: a slice is one character that stands for itself, or its token is plain.
+-- The tokens of slices: a slice is one character that is a token by itself, or its token is plain.
 use Rattle.std.proofs.Common.{◌≡◌, ◌⊎◌, inl, inr, ℕ, Bool, true, false, not, ◌==◌, List, [], ◌∷◌, codes, Option, Some, unwrap_or, refl, sym, subst, cond}
 use Rattle.std.proofs.lemmas.Bool.{and_parts}
 use Rattle.std.specs.{Char.encode_utf8, List.list_all, Str.byte, Str.bytes_eq, Str.encode_utf8_all}
@@ -7,7 +7,7 @@ use Rattle.latex2mathml_grammar.specs.Dollars.{is_other}
 use Rattle.latex2mathml_grammar.specs.Spelling.{SpellsAt, character_token, character, colon, colon_equals, number, digit, symbol_command, letter_command, lone_backslash}
 use Rattle.latex2mathml_tokens.specs.Tok.{Tok, EOF, Paren, Underscore, Circumflex, Big, Operator, Command}
 
--- the token is no end of a formula, no prime, no sign and no opening bracket, and no size with a dollar sign
+-- the token is not the end of a formula, a prime, a sign, an opening bracket, or a size with a dollar sign
 abbrev pub is_plain : Tok → Bool
 is_plain EOF = false
 is_plain Underscore = false
@@ -36,12 +36,12 @@ plain_entry (r ∷ rs) name h =
     let parts = and_parts (is_plain r.1) (list_all (λ r. is_plain r.1) rs) h in
     found_first r.1 (Command name) (entry_token rs name) (bytes_eq r.0 name) parts.0 (plain_entry rs name parts.1)
 
--- so is the token of a command
+-- the token of a command is plain
 plain_command : (name : List ℕ) → IsPlain (command_token name)
 unfolding command_token
 plain_command name = plain_entry command_entries name plain-command_entries
 
--- a slice is one character that stands for itself, or its token is plain
+-- a slice is one character that is a token by itself, or its token is plain
 abbrev pub IsKnown : List ℕ → Tok → Type 0
 IsKnown w t = ((c : ℕ) × (w ≡ c ∷ []) × (t ≡ character_token c)) ⊎ IsPlain t
 

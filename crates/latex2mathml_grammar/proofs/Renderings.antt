@@ -9,7 +9,7 @@ use Rattle.latex2mathml_trees.specs.Tree.{Tree}
 use Rattle.latex2mathml_grammar.proofs.{Kept.dollar_free, Kept.never_dollars, Kept.no_argument, MathElements.rendering_is_math}
 use Rattle.latex2mathml_grammar.proofs.{OneList.at_most_one, OneList.some_list, Total.has_one_reading, Unique.one_all}
 
--- two token lists of a text come to one outcome
+-- two token lists of a text have one outcome
 one_outcome : {text : List ℕ} {ts us : List Tok} {o p : Outcome (List Tree)} → HasTokens None text ts → ReadsAll None ts o → HasTokens None text us → ReadsAll None us p → o ≡ p
 one_outcome {text} {ts} {us} {o} h d k e = one_all (subst (λ l. ReadsAll None l o) (at_most_one None text ts us h k) d) e
 

@@ -13,12 +13,12 @@ abbrev pub PartBySlices : Sort → List Tok → Outcome Tree → Type 0
 PartBySlices s l (Read x f) = (w : List Tok) × (l ≡ w ++ f) × IsPart s w f x
 PartBySlices s l (Refused r) = PartRefuses s l r
 
--- the same of the parts of a rule
+-- the same for the parts of a rule
 abbrev pub RuleBySlices : Rule → List Tok → Outcome Tree → Type 0
 RuleBySlices r l (Read x f) = (w : List Tok) × (l ≡ w ++ f) × AreParts r w f x
 RuleBySlices r l (Refused q) = RuleRefuses r l q
 
--- the same of nodes side by side, up to an end token or to the end of the formula
+-- the same for consecutive nodes, up to an end token or to the end of the formula
 abbrev pub AllBySlices : Option Tok → List Tok → Outcome (List Tree) → Type 0
 AllBySlices (Some end) l (Read xs f) = (w : List Tok) × (l ≡ w ++ f) × AreMembers end w f xs
 AllBySlices (Some end) l (Refused r) = MembersRefuse end l r
@@ -29,7 +29,7 @@ AllBySlices None l (Refused r) = FormulaRefuses l r
 joined : (u v f : List Tok) {l m : List Tok} → l ≡ u ++ m → m ≡ v ++ f → l ≡ (u ++ v) ++ f
 joined u v f e p = e ∙ ap (λ k. u ++ k) p ∙ sym (append_assoc u v f)
 
--- .. are one slice
+-- two slices, one after the other, are one slice
 one_slice : (P : List Tok → List Tok → Type 0) (Q R : List Tok → Type 0) (l m f : List Tok) → (u : List Tok) × (l ≡ u ++ m) × P u m → (v : List Tok) × (m ≡ v ++ f) × Q v → ((u v : List Tok) → P u (v ++ f) → Q v → R (u ++ v)) → (w : List Tok) × (l ≡ w ++ f) × R w
 one_slice P Q R l m f (u, e, a) (v, p, b) make = (u ++ v, joined u v f e p, make u v (subst (P u) p a) b)
 
@@ -37,7 +37,7 @@ one_slice P Q R l m f (u, e, a) (v, p, b) make = (u ++ v, joined u v f e p, make
 part_before : {s : Sort} {w f g : List Tok} {x : Tree} → f ≡ g → IsPart s w f x → IsPart s w g x
 part_before {s} {w} {x = x} e d = subst (λ k. IsPart s w k x) e d
 
--- the letters of a run are a slice, and no letter stands after them
+-- the letters of a run are a slice, and no letter follows them
 letter_slice : (cs : List ℕ) (l m : List Tok) → AreLetters cs l m → (u : List Tok) × (l ≡ u ++ m) × ((map letter_of u ≡ map Some cs) × (first_letter m ≡ None))
 letter_slice [] l m d = ([], d.0, (refl, d.1))
 letter_slice (c ∷ cs) l m d =
@@ -83,7 +83,7 @@ mutual
   part_by_slices (node_read (part_read d (sign_missing h (sign_missing k rule_gives)))) = (let u = part_by_slices d in (u.0, u.1, without_script u.2 h k))
   part_by_slices (node_read (part_refused d)) = node_refuses (part_by_slices d)
 
-  -- the parts of a rule are
+  -- the parts of a rule are read or refused by slices
   pub rule_by_slices : {r : Rule} {l : List Tok} {o : Outcome Tree} → ReadsRule r l o → RuleBySlices r l o
   rule_by_slices rule_gives = ([], refl, no_part)
   rule_by_slices rule_refuses = rule_itself
@@ -111,7 +111,7 @@ mutual
   rule_by_slices (letters_taken cs {l = l} {m = m} {o = Refused r} p d) =
       let u = letter_slice cs l m p in behind_letters cs u.0 u.1 u.2.0 u.2.1 (rule_by_slices d)
 
-  -- nodes side by side are
+  -- consecutive nodes are read or refused by slices
   pub all_by_slices : {end : Option Tok} {l : List Tok} {o : Outcome (List Tree)} → ReadsAll end l o → AllBySlices end l o
   all_by_slices formula_ends = no_node
   all_by_slices never_closed = end_missing

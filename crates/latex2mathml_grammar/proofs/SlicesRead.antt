@@ -1,4 +1,4 @@
--- Slices of the grammar are read where they stand, and where it refuses over slices, the table does.
+-- Slices of the grammar are read where they are, and where the grammar over slices refuses, the table does.
 use Rattle.std.proofs.Common.{◌≡◌, ◌≢◌, ℕ, List, [], ◌∷◌, ◌++◌, map, Some, None, refl, sym, append_assoc, arith}
 use Rattle.latex2mathml_grammar.specs.Grammar.{Sort, node, Rule, Read, Refused, first, first_letter, letter_of, AreLetters, Reads, core_at_end, core_begun, single_read, node_read, ReadsRule, rule_gives, rule_refuses, part_read, part_refused, members_read, members_refused, sign_stands, sign_missing, token_taken, token_at_end, token_seen, letters_taken, ReadsAll, formula_ends, group_ends, never_closed, member_read, later_refused, member_refused}
 use Rattle.latex2mathml_tokens.specs.{Refusal.Refusal, Tok.Tok, Tok.Underscore, Tok.Circumflex}
@@ -65,7 +65,7 @@ members_take (no_member e) = absurd cc
 members_take (member {u = []} {v = []} e h d ds) = members_take ds
 members_take (member {u = u} {v = v} e h d ds) = absurd cc
 
--- nodes side by side are read
+-- consecutive nodes are read
 pub nodes_are_read : {l : List Tok} {xs : List Tree} → AreNodes l xs → ReadsAll None l (Read xs [])
 nodes_are_read no_node = formula_ends
 nodes_are_read (one_node {w = []} e h d ds) = absurd (h refl)

@@ -6,7 +6,7 @@ use Rattle.latex2mathml_grammar.specs.Characters.{is_space}
 use Rattle.latex2mathml_grammar.specs.Spelling.{SpellsAt, Slice, IsFirstSlice, character, colon, colon_equals, number, digit, symbol_command, letter_command, lone_backslash}
 use Rattle.latex2mathml_tokens.specs.Tok.{Tok}
 
--- the list begins with a character that is no white space
+-- the list begins with a character that is not white space
 abbrev pub Dark : List ℕ → Type 0
 Dark [] = ⊥
 Dark (c ∷ cs) = is_space c ≡ false
@@ -26,7 +26,7 @@ spells_dark alone w next t (symbol_command c l e f) = subst Dark (sym e) refl
 spells_dark alone w next t (letter_command c cs e l s f) = subst Dark (sym e) refl
 spells_dark alone w next t (lone_backslash e n f) = subst Dark (sym e) refl
 
--- and none is empty
+-- so no slice is empty
 dark_length : (w : List ℕ) → Dark w → 1 ≤ length w
 dark_length [] d = absurd d
 dark_length (c ∷ w) d = omega arith

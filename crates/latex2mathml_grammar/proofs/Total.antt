@@ -1,4 +1,4 @@
--- Each list of tokens has an outcome, and just one: so it has one reading or one refusal.
+-- Each list of tokens has exactly one outcome, and so one reading or one refusal.
 use Rattle.std.proofs.Common.{ℕ, zero, suc, ◌-◌, ◌<◌, ◌≤◌, ◌≡◌, ◌≢◌, inl, inr, List, [], ◌∷◌, length, Option, Some, None, refl, sym, ap, arith}
 use Rattle.latex2mathml_tokens.specs.{Discreteness.tok-discrete, Refusal.Refusal, Tok.Tok, Tok.EOF}
 use Rattle.latex2mathml_grammar.specs.Grammar.{Sort, core, single, node, Rule, gives, refuses, reads_part, reads_members, reads_sign, takes_token, sees_token, takes_letters, rule, Outcome, Read, Refused, first_or_end, letter_of, AreLetters, Reads, core_at_end, core_begun, single_read, node_read, ReadsRule, rule_gives, rule_refuses, part_read, part_refused, members_read, members_refused, sign_stands, sign_missing, token_taken, token_at_end, token_seen, letters_taken, ReadsAll, formula_ends, group_ends, never_closed, member_read, later_refused, member_refused, ReadsFormula, Refuses}
@@ -21,7 +21,7 @@ after : {A : Type 0} {P : Outcome A → Type 0} {then : A → Rule} {r : Rule} {
 after (comes_to x m fits d) h follow read refused = with_outcome (follow x m fits) (omega arith) (λ o. read x m o d)
 after (is_refused q d) h follow read refused = is_refused q (refused q d)
 
--- a sign that stands first, and what follows it, or what is read otherwise
+-- a sign that comes first, and what follows it, or what is read otherwise
 sign_total : {t : Tok} {a b : Rule} (l : List Tok) → ((m : List Tok) → length m < length l → Comes Tree (ReadsRule a m) (length m)) → Comes Tree (ReadsRule b l) (length l) → Comes Tree (ReadsRule (reads_sign t a b) l) (length l)
 sign_total [] follow other = with_outcome other (omega arith) (λ o. sign_missing (λ e. cc))
 sign_total {t} (u ∷ l) follow other =
@@ -30,7 +30,7 @@ sign_total {t} (u ∷ l) follow other =
       | no h ↦ with_outcome other (omega arith) (λ o. sign_missing (λ e. h cc))
     ]
 
--- the letters at the front of the tokens, and what stands after them
+-- the letters at the front of the tokens, and what follows them
 abbrev Run : List Tok → Type 0
 Run l = (cs : List ℕ) × (m : List Tok) × (length m ≤ length l) × AreLetters cs l m
 
@@ -65,7 +65,7 @@ rule_total k has (sees_token then) l h = with_outcome (rule_total k has (then (f
 rule_total k has (takes_letters then) l h =
     let (cs, m, fits, d) = run_of l in with_outcome (rule_total k has (then cs) m (omega arith)) fits (λ o. letters_taken cs d)
 
--- with one token more, a core has an outcome
+-- with one more token, a core has an outcome
 core_total : (k : ℕ) → HasOutcomes k → (l : List Tok) → length l < suc k → Comes Tree (Reads core l) (length l - 1)
 core_total k has [] h = comes_to _ [] (omega arith) core_at_end
 core_total k has (t ∷ l) h = with_outcome (rule_total k has (rule t) l (omega arith)) (omega arith) (λ o. core_begun)
@@ -76,7 +76,7 @@ single_total k has l h =
     let read = after {k = length l - 1} (core_total k has l h) (omega arith) (λ x m fits. sign_total m (λ n fewer. comes_to _ n (omega arith) rule_gives) (comes_to x m (omega arith) rule_gives)) (λ x m o. part_read) (λ q. part_refused) in
     with_outcome read (omega arith) (λ o. single_read)
 
--- so each of the three has one
+-- so a core, a single and a node each have one
 sort_total : (k : ℕ) → HasOutcomes k → (s : Sort) (l : List Tok) → length l < suc k → Comes Tree (Reads s l) (length l - 1)
 sort_total k has core l h = core_total k has l h
 sort_total k has single l h = single_total k has l h
@@ -94,7 +94,7 @@ member_total {end} has h other (comes_to x m fits d) =
       | is_refused r ds ↦ is_refused r (later_refused other d ds)
     ]
 
--- so nodes side by side have an outcome
+-- so consecutive nodes have an outcome
 all_total : (k : ℕ) → HasOutcomes k → (end : Option Tok) (l : List Tok) → length l < suc k → Comes (List Tree) (ReadsAll end l) (length l)
 all_total k has None [] h = comes_to [] [] (omega arith) formula_ends
 all_total k has (Some end) [] h = is_refused _ never_closed
@@ -127,7 +127,7 @@ has_one_reading l = record {
   never_both = λ xs r d e. (let same = one_all d e in cc same);
 }
 
--- as there is one outcome, what is read leaves as many tokens as that
+-- since there is only one outcome, what is read leaves at most as many tokens
 one_rest : {s : Sort} {l f : List Tok} {x : Tree} {k : ℕ} → Comes Tree (Reads s l) k → Reads s l (Read x f) → length f ≤ k
 one_rest {f = f} (comes_to y m fits e) d =
     let same : m ≡ f = cc (one e d) in

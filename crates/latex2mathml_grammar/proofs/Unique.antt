@@ -1,18 +1,18 @@
--- Two outcomes of one list of tokens are one.
+-- Two outcomes of one list of tokens are equal.
 use Rattle.std.proofs.Common.{arith, ◌≡◌, ℕ, List, [], ◌∷◌, Option, Some, refl, sym, ap, subst}
 use Rattle.latex2mathml_grammar.specs.Grammar.{Sort, Rule, Outcome, Read, first, first_letter, AreLetters, Reads, core_at_end, core_begun, single_read, node_read, ReadsRule, rule_gives, rule_refuses, part_read, part_refused, members_read, members_refused, sign_stands, sign_missing, token_taken, token_at_end, token_seen, letters_taken, ReadsAll, formula_ends, group_ends, never_closed, member_read, later_refused, member_refused}
 use Rattle.latex2mathml_tokens.specs.Tok.{Tok}
 use Rattle.latex2mathml_trees.specs.Tree.{Tree}
 
--- what follows one outcome of a part also follows the other, which is the same
+-- what follows one outcome of a part also follows the other, which is equal
 moved_rule : {A : Type 0} (then : A → Rule) {x y : A} {m n : List Tok} {o : Outcome Tree} → Read x m ≡ Read y n → ReadsRule (then y) n o → ReadsRule (then x) m o
 moved_rule then {x} {y} {m} {n} e d = (let p : y ≡ x = cc in let q : n ≡ m = cc in rw q at (rw p at d))
 
--- and so do the members after a member
+-- the members after one outcome of a member also follow the other
 moved_all : {end : Option Tok} {x y : Tree} {m n : List Tok} {o : Outcome (List Tree)} → Read x m ≡ Read y n → ReadsAll end n o → ReadsAll end m o
 moved_all {m = m} {n = n} e d = (let q : n ≡ m = cc in rw q at d)
 
--- the longest run of letters is one
+-- there is only one longest run of letters
 one_run : (cs ds : List ℕ) (l m n : List Tok) → AreLetters cs l m → AreLetters ds l n → Read cs m ≡ Read ds n
 one_run [] [] l m n p q = cc (p.0, q.0)
 one_run [] (d ∷ ds) l m n p q = cc (p.0, p.1, q.1.2, ap first_letter q.1.1)
@@ -22,19 +22,19 @@ one_run (c ∷ cs) (d ∷ ds) l m n p q =
     let later = one_run cs ds p.1.0 m n p.1.3 (subst (λ k. AreLetters ds k n) same_rest q.1.3) in
     cc (p.1.1, q.1.1, p.1.2, q.1.2, later)
 
--- a group ends where its end token stands
+-- a group ends where its end token is
 at_end : {end : Tok} {l m : List Tok} {o : Outcome (List Tree)} → l ≡ end ∷ m → ReadsAll (Some end) l o → o ≡ Read [] m
 at_end p d = grind arith
 
 mutual
-  -- a core, a single or a node comes to one outcome
+  -- a core, a single or a node has only one outcome
   pub one : {s : Sort} {l : List Tok} {o p : Outcome Tree} → Reads s l o → Reads s l p → o ≡ p
   one core_at_end core_at_end = refl
   one (core_begun d) (core_begun e) = one_rule d e
   one (single_read d) (single_read e) = one_rule d e
   one (node_read d) (node_read e) = one_rule d e
 
-  -- a rule comes to one outcome
+  -- a rule has only one outcome
   one_rule : {r : Rule} {l : List Tok} {o p : Outcome Tree} → ReadsRule r l o → ReadsRule r l p → o ≡ p
   one_rule rule_gives rule_gives = refl
   one_rule rule_refuses rule_refuses = refl
@@ -55,7 +55,7 @@ mutual
   one_rule (token_seen d) (token_seen e) = one_rule d e
   one_rule (letters_taken cs {then = then} p d) (letters_taken ds q e) = one_rule d (moved_rule then (one_run cs ds _ _ _ p q) e)
 
-  -- nodes side by side come to one outcome
+  -- consecutive nodes have only one outcome
   pub one_all : {end : Option Tok} {l : List Tok} {o p : Outcome (List Tree)} → ReadsAll end l o → ReadsAll end l p → o ≡ p
   one_all formula_ends formula_ends = refl
   one_all never_closed never_closed = refl

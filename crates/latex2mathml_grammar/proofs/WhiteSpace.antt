@@ -1,4 +1,4 @@
--- White space at a place between two tokens that is no digit place leaves the token list as it was.
+-- White space at a place between two tokens that is not a digit place does not change the token list.
 use Rattle.std.proofs.Common.{◌≡◌, ℕ, Bool, true, false, ◌&&◌, IsTrue, List, [], ◌∷◌, ◌++◌, Option, Some, None, map, refl, sym, ap, subst, ◌∙◌, append_assoc, arith}
 use Rattle.std.proofs.{lemmas.Bool.and_right, lemmas.Bool.Decides.nat_tests, lemmas.Str.chars-append}
 use Rattle.std.specs.{Char.is_ascii_digit, Char.is_ascii_alphabetic, List.AllPass, Str.IsUtf8, Str.chars}
@@ -12,15 +12,16 @@ use Rattle.latex2mathml_grammar.proofs.Tokenizing.{Dark, spells_dark}
 
 -- a slice, where other characters may follow it
 
--- what stands next fails each test that white space fails
+-- the next character, if there is one, fails each test that white space fails
 abbrev IsLight : Option ℕ → Type 0
 IsLight next = (p : ℕ → Bool) → ((c : ℕ) → is_space c ≡ true → p c ≡ false) → Stops p next
 
--- white space is no digit, no period, no equals sign and no letter
+-- white space is not a digit, a period, an equals sign or a letter
 spaces_apart : (c : ℕ) → is_space c ≡ true → (is_ascii_digit c ≡ false) × (is_period c ≡ false) × (is_equals_sign c ≡ false) × (is_ascii_alphabetic c ≡ false)
 spaces_apart c h = (grind (arith, nat_tests), grind (arith, nat_tests), grind (arith, nat_tests), grind (arith, nat_tests))
 
--- a slice spells the same before what ends no longer slice, and where a digit is as much a number of its own
+-- a slice spells the same before `later` as before `next`, if `later` fails each test that `next` and all white space
+-- fail, and if a digit is a number of its own in both places or in neither
 spells_there : (alone other : Bool) (w : List ℕ) (next later : Option ℕ) (t : Tok) → (Begins is_ascii_digit w → alone ≡ other) → ((p : ℕ → Bool) → ((c : ℕ) → is_space c ≡ true → p c ≡ false) → Stops p next → Stops p later) → (next ≡ None → later ≡ None) → SpellsAt alone w next t → SpellsAt other w later t
 spells_there alone other w next later t same stops none (character c longer dark e f) = character c longer dark e f
 spells_there alone other w next later t same stops none (colon s e f) = colon (stops is_equals_sign (λ c h. (spaces_apart c h).2) s) e f
@@ -41,7 +42,7 @@ spells_there alone other w next later t same stops none (lone_backslash e n f) =
 
 -- the slices before the place
 
--- they are slices too where white space follows them
+-- these are slices too where white space follows them
 slices_before_space : (takes : Bool) (w behind other : List ℕ) (ss : List Slice) → (head behind ≡ None → ⊥) → IsLight (head other) → AreSlices takes w behind ss → AreSlices takes w other ss
 slices_before_space takes w behind other [] some light h = h
 slices_before_space takes w behind other (s ∷ ss) some light (space, [], whole, white, spells, later) =
@@ -52,7 +53,7 @@ slices_before_space takes w behind other (s ∷ ss) some light (space, c ∷ mor
 step_whole : (w behind space text more : List ℕ) → w ≡ space ++ (text ++ more) → w ++ behind ≡ space ++ (text ++ (more ++ behind))
 step_whole w behind space text more e = ap (λ x. x ++ behind) e ∙ append_assoc space (text ++ more) behind ∙ ap (λ x. space ++ x) (append_assoc text more behind)
 
--- slices, and then those of the text after them
+-- slices, followed by those of the text after them
 slices_joined : (takes : Bool) (w behind : List ℕ) (ss : List Slice) (s : Slice) (rs : List Slice) → AreSlices takes w behind (ss ++ s ∷ []) → HasSlices (takes_digit (Some s.token)) behind rs → HasSlices takes (w ++ behind) (ss ++ s ∷ rs)
 slices_joined takes w behind [] s rs (space, more, whole, white, spells, none) later =
     (more ++ behind, (space, step_whole w behind space s.text more whole, white, spells), subst (λ m. HasSlices (takes_digit (Some s.token)) (m ++ behind) rs) (sym none) later)
@@ -79,7 +80,7 @@ gap_some : (left : List ℕ) (c : ℕ) (cs : List ℕ) → is_empty (left ++ c �
 gap_some [] c cs = refl
 gap_some (x ∷ left) c cs = refl
 
--- a slice spells the same behind a gap, but for a digit that is a number of its own
+-- a slice spells the same after a gap, except for a digit that is a number of its own
 spells_apart : (takes : Bool) (gap w : List ℕ) (next : Option ℕ) (t : Tok) → (gap ≡ [] → IsTrue takes → Begins is_ascii_digit w → ⊥) → SpellsAt (takes && is_empty gap) w next t → SpellsAt false w next t
 spells_apart true [] w next t other spells = spells_there true false w next next t (λ digit. absurd (other refl refl digit)) (λ p dark s. s) (λ e. e) spells
 spells_apart false gap w next t other spells = spells
@@ -90,7 +91,7 @@ spells_apart true (c ∷ gap) w next t other spells = spells
 abbrev around : (before after : List ℕ) → IsBetweenTokens before after → List Slice
 around before after place = place.earlier ++ place.last ∷ place.next ∷ slices_of (takes_digit (Some place.next.token)) place.rest
 
--- the slices up to the place, the white space there with more put into it, and the slices of the rest
+-- the slices up to the place, the white space there with more inserted, and the slices of the rest
 slices_around : {before after : List ℕ} (place : IsBetweenTokens before after) (space : List ℕ) → AreSlices false place.front (place.left ++ (space ++ after)) (place.earlier ++ place.last ∷ []) → AllPass is_space (place.left ++ (space ++ place.right)) → SpellsAt (takes_digit (Some place.last.token) && is_empty (place.left ++ (space ++ place.right))) place.next.text (head place.rest) place.next.token → HasSlices false (before ++ (space ++ after)) (around before after place)
 slices_around {before} {after} place space earlier white spells =
     let slice : List ℕ = place.next.text ++ place.rest in

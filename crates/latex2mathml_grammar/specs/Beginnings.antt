@@ -1,5 +1,5 @@
--- What a text begins with: a run of characters, a slice, a number. Nothing that is promised rests on these words. The proof
--- that a text has slices uses them, and so does the code that reads slices.
+-- What a text begins with: a run of characters, a slice, a number. No promise rests on these definitions. The proof that
+-- a text has slices uses them, and so does the code that reads slices.
 use Rattle.std.specs.Prelude.{◌≡◌, ℕ, Bool, List, ◌++◌}
 use Rattle.std.specs.List.{AllPass}
 use Rattle.latex2mathml_grammar.specs.{Characters.Stops, Characters.head, Spelling.SpellsAt, Spelling.IsNumber}

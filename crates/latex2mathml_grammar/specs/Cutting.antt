@@ -1,5 +1,5 @@
 -- The slices of a text, computed, so that what is left of a text can be seen as a list. `HasSlices` says what they are:
--- nothing that is promised rests on how they are found here.
+-- no promise rests on how they are found here.
 use Rattle.std.specs.Prelude.{ℕ, zero, suc, Bool, ◌&&◌, List, [], ◌∷◌, length, drop, Some, codes, if◌then◌else◌}
 use Rattle.std.specs.{Char.is_ascii_digit, Char.is_ascii_alphabetic, Str.byte, Str.encode_utf8_all}
 use Rattle.latex2mathml_grammar.specs.Characters.{◌∈◌, is_empty, is_space}
@@ -12,7 +12,7 @@ abbrev pub run_of : (ℕ → Bool) → List ℕ → List ℕ
 run_of p [] = []
 run_of p (c ∷ cs) = if p c then c ∷ run_of p cs else []
 
--- what stands after it
+-- what follows the longest run
 abbrev pub behind_run : (ℕ → Bool) → List ℕ → List ℕ
 behind_run p [] = []
 behind_run p (c ∷ cs) = if p c then behind_run p cs else c ∷ cs

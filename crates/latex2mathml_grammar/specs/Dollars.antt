@@ -1,5 +1,5 @@
--- Texts without a dollar sign. The sign is ASCII, so it is no byte of another character, and what is said of bytes here
--- holds of characters.
+-- Texts without a dollar sign. The sign is ASCII, so it is never a byte of another character, and what is said of bytes
+-- here holds of characters.
 use Rattle.std.specs.Prelude.{◌≢◌, ℕ, Bool, not, ◌&&◌, ◌==◌, IsTrue, List, [], ◌∷◌, ◌++◌}
 use Rattle.std.specs.{List.list_all, Str.byte}
 use Rattle.std.proofs.Common.{⊎_elim, refl, ap, ◌∙◌}
@@ -21,16 +21,16 @@ is_other c = not (c == dollar)
 abbrev pub IsDollarFree : List ℕ → Type 0
 IsDollarFree text = IsTrue (list_all is_other text)
 
--- Lemmas: texts put together.
+-- Lemmas about texts put together.
 
 pub other : (c : ℕ) → c ≢ dollar → IsTrue (is_other c)
 other c n = ⊎_elim (λ h. absurd (n h.1)) (λ h. ap not h.0) (eqb_tells c dollar)
 
--- two texts side by side
+-- two texts, one after the other
 pub free_both : (a b : List ℕ) → IsDollarFree a → IsDollarFree b → IsDollarFree (a ++ b)
 free_both a b x y = list_all-append is_other a b ∙ ap (λ q. q && list_all is_other b) x ∙ y
 
--- a byte and a text after it
+-- a byte followed by a text
 pub free_first : (c : ℕ) (cs : List ℕ) → IsDollarFree (c ∷ cs) → IsTrue (is_other c)
 free_first c cs h = (and_parts (is_other c) (list_all is_other cs) h).0
 

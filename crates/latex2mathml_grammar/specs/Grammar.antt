@@ -9,8 +9,8 @@ use Rattle.latex2mathml_tokens.specs.Tok.{Tok, Illegal, EOF, Begin, End, Ampersa
 use Rattle.latex2mathml_tokens.specs.{TokenText.token_text, declared.attribute.LineThickness.TheVariants.Medium}
 use Rattle.latex2mathml_trees.specs.Tree.{Tree, number, letter, operator, function, space, other_operator, subscript, superscript, sub_sup, over_op, under_op, overset, underset, under, under_over, root, sqrt, frac, fenced, sized_paren, words, ampersand, new_line, slashed, undefined}
 
--- what a part of a rule may be: a core, a single, which is a core with what stands directly after it, or a node, which
--- is a single with its scripts
+-- what a part of a rule may be: a core; a single, which is a core with what directly follows it; or a node, which is a
+-- single with its scripts
 pub data Sort : Type 0 where
   core : Sort
   single : Sort
@@ -24,15 +24,15 @@ pub data Rule : Type 0 where
   refuses : Refusal → Rule
   -- a core, a single or a node, and what follows it
   reads_part : Sort → (Tree → Rule) → Rule
-  -- nodes side by side up to the end token, which is taken, and what follows it
+  -- consecutive nodes up to the end token, which is taken, and what follows it
   reads_members : Tok → (List Tree → Rule) → Rule
-  -- where this sign stands next it is taken and the first rule follows, otherwise the second
+  -- where this sign is next, it is taken and the first rule follows; otherwise the second does
   reads_sign : Tok → Rule → Rule → Rule
-  -- one token is taken, whatever it is; it is EOF, and nothing is taken, where none is left
+  -- one token is taken, whatever it is; where none is left, it is EOF and nothing is taken
   takes_token : (Tok → Rule) → Rule
-  -- the token that stands next is seen and stays; it is EOF where none is left
+  -- the next token is seen but not taken; it is EOF where none is left
   sees_token : (Tok → Rule) → Rule
-  -- the longest run of letters is taken, of any variant, and what follows has their characters
+  -- the longest run of letters, of any variant, is taken, and what follows gets their characters
   takes_letters : (List ℕ → Rule) → Rule
 
 -- the operands of roots, fractions, accents and styles: what follows them stays outside
@@ -43,7 +43,7 @@ operand = core
 abbrev pub of_one : (Tree → Tree) → Rule
 of_one whole = reads_part operand (λ x. gives (whole x))
 
--- a rule of two
+-- a rule of two operands
 abbrev pub of_two : (Tree → Tree → Tree) → Rule
 of_two whole = reads_part operand (λ x. of_one (whole x))
 
@@ -51,16 +51,16 @@ of_two whole = reads_part operand (λ x. of_one (whole x))
 abbrev pub of_degree : List Tree → Rule
 of_degree xs = of_one (root (group_tree xs))
 
--- a root, whose degree stands in square brackets
+-- a root, whose degree, if it has one, is in square brackets
 abbrev pub a_root : Rule
 a_root = reads_sign (Paren (codes "[")) (reads_members (Paren (codes "]")) of_degree) (of_one sqrt)
 
--- what follows a single that is one or, where this sign stands next, the first of two
+-- what follows a single, which is the only part or, where this sign is next, the first of two
 abbrev pub with_second : Tok → (Tree → Tree) → (Tree → Tree → Tree) → Tree → Rule
 with_second sign one two x = reads_sign sign (reads_part single (λ y. gives (two x y))) (gives (one x))
 
--- an operator with its limits, in either order: the trees without them, with the one below, with the one above, and
--- with both
+-- an operator with its limits, in either order. The arguments are the trees without limits, with the one below, with the
+-- one above, and with both.
 abbrev pub limits : Tree → (Tree → Tree) → (Tree → Tree) → (Tree → Tree → Tree) → Rule
 limits bare below above both =
     reads_sign Underscore (reads_part single (with_second Circumflex below both))
@@ -75,20 +75,20 @@ abbrev pub sized : List ℕ → Tok → Rule
 sized size (Paren text) = gives (sized_paren size text)
 sized size t = refuses (UnexpectedToken (Paren []) t)
 
--- a name, which follows as its bytes: letters after a token and before another, whatever the two are
+-- a name: letters between two tokens, whatever the two are. What follows gets the bytes of the name.
 abbrev pub a_name : (List ℕ → Rule) → Rule
 a_name then = takes_token (λ before. takes_letters (λ cs. takes_token (λ behind. then (encode_utf8_all cs))))
 
--- what follows the node under a slash: a token, whatever it is
+-- what follows the node under a slash: one token, whatever it is
 abbrev pub under_slash : Tree → Rule
 under_slash x = takes_token (λ behind. gives (slashed x))
 
--- what follows a fence, where the token after this one is a fence
+-- what follows a fence, where the token after this one is a fence, and the refusal where it is not
 abbrev pub with_fence : Tok → Tok → Option (List ℕ) → (List ℕ → Rule) → Rule
 with_fence location t (Some text) then = then text
 with_fence location t None then = refuses (MissingParensethis location t)
 
--- a fence, which must stand next after this token, and what follows its text
+-- a fence, which must be the next token after this one, and what follows its text
 abbrev pub a_fence : Tok → (List ℕ → Rule) → Rule
 a_fence location then = takes_token (λ t. with_fence location t (fence_of t) then)
 
@@ -101,12 +101,12 @@ abbrev pub stretched_or_refused : Tok → Option Tree → Rule
 stretched_or_refused t (Some x) = gives x
 stretched_or_refused t None = refuses (MissingParensethis Middle t)
 
--- the environment of this name, where there is one
+-- the environment of this name, or the refusal where there is none
 abbrev pub environment : List ℕ → Option Tree → Rule
 environment name (Some x) = gives x
 environment name None = refuses (UnknownEnvironment name)
 
--- what follows the members of an environment: a name, which need not be the same
+-- what follows the members of an environment: a name, which need not be the one that began it
 abbrev pub after_environment_members : List ℕ → List Tree → Rule
 after_environment_members name xs = a_name (λ again. environment name (environment_tree name (group_tree xs)))
 
@@ -114,7 +114,7 @@ after_environment_members name xs = a_name (λ again. environment name (environm
 abbrev pub error_rule : Tok → Rule
 error_rule t = gives (undefined (token_text t))
 
--- the rule of a token that stands where a core begins
+-- the rule of a token at the beginning of a core
 abbrev pub rule : Tok → Rule
 rule (Number digits) = gives (number digits)
 rule (Letter c variant) = gives (letter c variant)
@@ -159,11 +159,11 @@ rule (Command name) = error_rule (Command name)
 abbrev pub prime : Tok
 prime = Operator (byte "'")
 
--- what follows the core of a single: one prime, if it stands next
+-- what follows the core of a single: one prime, if it is next
 abbrev pub rule_after_core : Tree → Rule
 rule_after_core x = reads_sign prime (gives (superscript x prime_mark)) (gives x)
 
--- what follows the single of a node: a sign and a node, if a sign stands next. So scripts bind to the right.
+-- what follows the single of a node: a sign and a node, if a sign is next. So scripts bind to the right.
 abbrev pub rule_after_single : Tree → Rule
 rule_after_single x =
     reads_sign Underscore (reads_part node (λ sub. gives (subscript x sub)))
@@ -174,12 +174,12 @@ pub data Outcome (A : Type 0) : Type 0 where
   Read : A → List Tok → Outcome A
   Refused : Refusal → Outcome A
 
--- the token that stands next, where there is one
+-- the next token, if there is one
 abbrev pub first : List Tok → Option Tok
 first [] = None
 first (t ∷ ts) = Some t
 
--- the same, where the end counts as EOF
+-- the next token, where the end counts as EOF
 abbrev pub first_or_end : List Tok → Tok
 first_or_end [] = EOF
 first_or_end (t ∷ ts) = t
@@ -189,18 +189,18 @@ abbrev pub letter_of : Tok → Option ℕ
 letter_of (Letter c variant) = Some c
 letter_of t = None
 
--- the character of the letter that stands next, where a letter does
+-- the character of the next token, if that is a letter
 abbrev pub first_letter : List Tok → Option ℕ
 first_letter [] = None
 first_letter (t ∷ ts) = letter_of t
 
--- the tokens begin with letters of these characters, and no letter stands after them
+-- the tokens begin with letters of these characters, and no letter follows them
 abbrev pub AreLetters : List ℕ → List Tok → List Tok → Type 0
 AreLetters [] l rest = (l ≡ rest) × (first_letter rest ≡ None)
 AreLetters (c ∷ cs) l rest = (t : Tok) × ((m : List Tok) × (l ≡ t ∷ m) × (letter_of t ≡ Some c) × AreLetters cs m rest)
 
 mutual
-  -- what a core, a single or a node at the front of the tokens comes to
+  -- the outcome of a core, a single or a node at the front of the tokens
   pub data Reads : Sort → List Tok → Outcome Tree → Type 0 where
     -- where no token is left, a core is the end, marked as an error
     core_at_end : Reads core [] (Read (undefined (token_text EOF)) [])
@@ -217,7 +217,7 @@ mutual
         → ReadsRule (reads_part single rule_after_single) l o
         → Reads node l o
 
-  -- what the parts of a rule come to
+  -- the outcome of the parts of a rule
   pub data ReadsRule : Rule → List Tok → Outcome Tree → Type 0 where
     -- nothing more is read
     rule_gives : {x : Tree} {l : List Tok}
@@ -225,7 +225,7 @@ mutual
     -- the formula is refused here
     rule_refuses : {r : Refusal} {l : List Tok}
         → ReadsRule (refuses r) l (Refused r)
-    -- the part is read, and what follows it stands after
+    -- the part is read, and the rule goes on after it
     part_read : {s : Sort} {then : Tree → Rule} {l m : List Tok} {x : Tree} {o : Outcome Tree}
         → Reads s l (Read x m)
         → ReadsRule (then x) m o
@@ -234,7 +234,7 @@ mutual
     part_refused : {s : Sort} {then : Tree → Rule} {l : List Tok} {r : Refusal}
         → Reads s l (Refused r)
         → ReadsRule (reads_part s then) l (Refused r)
-    -- the members are read up to the end token, and what follows them stands after
+    -- the members are read up to the end token, and the rule goes on after it
     members_read : {end : Tok} {then : List Tree → Rule} {l m : List Tok} {xs : List Tree} {o : Outcome Tree}
         → ReadsAll (Some end) l (Read xs m)
         → ReadsRule (then xs) m o
@@ -243,12 +243,12 @@ mutual
     members_refused : {end : Tok} {then : List Tree → Rule} {l : List Tok} {r : Refusal}
         → ReadsAll (Some end) l (Refused r)
         → ReadsRule (reads_members end then) l (Refused r)
-    -- the sign stands next, and the first rule goes on after it
+    -- the sign is next, and the first rule goes on after it
     sign_stands : {t : Tok} {a b : Rule} {l m : List Tok} {o : Outcome Tree}
         → l ≡ t ∷ m
         → ReadsRule a m o
         → ReadsRule (reads_sign t a b) l o
-    -- the sign does not stand next, and the second rule goes on
+    -- the sign is not next, and the second rule goes on
     sign_missing : {t : Tok} {a b : Rule} {l : List Tok} {o : Outcome Tree}
         → first l ≢ Some t
         → ReadsRule b l o
@@ -261,7 +261,7 @@ mutual
     token_at_end : {then : Tok → Rule} {o : Outcome Tree}
         → ReadsRule (then EOF) [] o
         → ReadsRule (takes_token then) [] o
-    -- the token that stands next is seen, and stays
+    -- the next token is seen but not taken
     token_seen : {then : Tok → Rule} {l : List Tok} {o : Outcome Tree}
         → ReadsRule (then (first_or_end l)) l o
         → ReadsRule (sees_token then) l o
@@ -271,7 +271,7 @@ mutual
         → ReadsRule (then cs) m o
         → ReadsRule (takes_letters then) l o
 
-  -- what nodes side by side come to: up to an end token, or, where there is none, up to the end of the formula
+  -- the outcome of consecutive nodes: up to an end token or, where there is none, up to the end of the formula
   pub data ReadsAll : Option Tok → List Tok → Outcome (List Tree) → Type 0 where
     -- a formula ends where no token is left
     formula_ends : ReadsAll None [] (Read [] [])
@@ -279,7 +279,7 @@ mutual
     group_ends : {end : Tok} {l m : List Tok}
         → l ≡ end ∷ m
         → ReadsAll (Some end) l (Read [] m)
-    -- a group that is open where no token is left
+    -- a group is still open where no token is left
     never_closed : {end : Tok}
         → ReadsAll (Some end) [] (Refused (UnexpectedToken end EOF))
     -- a member, which does not begin with the end token, and the members after it
@@ -288,7 +288,7 @@ mutual
         → Reads node (t ∷ l) (Read x m)
         → ReadsAll end m (Read xs rest)
         → ReadsAll end (t ∷ l) (Read (x ∷ xs) rest)
-    -- a member is read, and those after it refuse
+    -- a member is read, and those after it are refused
     later_refused : {end : Option Tok} {t : Tok} {l m : List Tok} {x : Tree} {r : Refusal}
         → end ≢ Some t
         → Reads node (t ∷ l) (Read x m)

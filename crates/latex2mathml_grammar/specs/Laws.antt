@@ -22,11 +22,11 @@ pub record IsSliced : Type 0 where
   pub parts : (s : Sort) (l f : List Tok) (x : Tree) → Reads s l (Read x f) → (w : List Tok) × (l ≡ w ++ f) × IsPart s w f x
   pub rules : (r : Rule) (l f : List Tok) (x : Tree) → ReadsRule r l (Read x f) → (w : List Tok) × (l ≡ w ++ f) × AreParts r w f x
   pub groups : (end : Tok) (l f : List Tok) (xs : List Tree) → ReadsAll (Some end) l (Read xs f) → (w : List Tok) × (l ≡ w ++ f) × AreMembers end w f xs
-  -- the slice of a part is empty only where nothing is left, and that of a group, which has its end token, never
+  -- the slice of a part is empty only where nothing is left; the slice of a group, which has its end token, is never empty
   pub some_taken : (s : Sort) (f : List Tok) (x : Tree) → IsPart s [] f x → f ≡ []
   pub end_taken : (end : Tok) (f : List Tok) (xs : List Tree) → ¬ (AreMembers end [] f xs)
 
--- a slice is what the grammar over slices says exactly where it is read and the tokens after it are left
+-- a slice is read, and the tokens after it are left, exactly where the grammar over slices says so
 pub record IsReadBySlices : Type 0 where
   pub parts : (s : Sort) (w f : List Tok) (x : Tree) → Reads s (w ++ f) (Read x f) ↔ IsPart s w f x
   pub rules : (r : Rule) (w f : List Tok) (x : Tree) → ReadsRule r (w ++ f) (Read x f) ↔ AreParts r w f x

@@ -1,4 +1,4 @@
--- What a formula is turned into. A text is its bytes here.
+-- What a formula is converted to. Here a text is its bytes.
 use Rattle.std.specs.Prelude.{◌≡◌, ℕ, List, ◌++◌, None, codes}
 use Rattle.std.specs.Str.{chars}
 use Rattle.latex2mathml_tokens.specs.{Attributes.display_text, Refusal.Refusal, Tok.Tok, declared.DisplayStyle.DisplayStyle}

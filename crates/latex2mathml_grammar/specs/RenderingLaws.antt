@@ -23,7 +23,7 @@ ReadsNoArgument text =
 abbrev pub IsNeverForDollars : List ℕ → Type 0
 IsNeverForDollars text = (refusal : Refusal) → IsFormulaRefusal text refusal → refusal ≢ InvalidNumberOfDollarSigns
 
--- the formula, set so, has exactly one rendering or exactly one refusal
+-- the formula, in this display style, has exactly one rendering or exactly one refusal
 pub record HasOneRendering (text : List ℕ) (display : DisplayStyle) : Type 0 where
   -- it has a rendering or a refusal
   pub some : ((markup : List ℕ) × IsRendering text display markup) ⊎ ((refusal : Refusal) × IsFormulaRefusal text refusal)

@@ -1,5 +1,5 @@
--- The grammar over slices: which tokens w, with which tokens f after them, are a core, a single, a node, the parts of a
--- rule, the members of a group, or the nodes of a formula. A law says that what the rules read is exactly this.
+-- The grammar over slices: which tokens w, followed by which tokens f, are a core, a single, a node, the parts of a rule,
+-- the members of a group, or the nodes of a formula. A law says that what the rules read is exactly this.
 use Rattle.std.specs.Prelude.{◌≡◌, ◌≢◌, ℕ, List, [], ◌∷◌, ◌++◌, map, Some, None}
 use Rattle.latex2mathml_trees.specs.Productions.{prime_mark}
 use Rattle.latex2mathml_grammar.specs.Grammar.{Sort, core, single, node, Rule, gives, reads_part, reads_members, reads_sign, takes_token, sees_token, takes_letters, rule, prime, first, first_or_end, letter_of, first_letter}
@@ -19,7 +19,7 @@ mutual
         IsPart core w f x →
         first f ≢ Some prime →
         IsPart single w f x
-    -- or a core and a prime
+    -- or it is a core and a prime
     with_prime : {c w f : List Tok} {x : Tree} →
         w ≡ c ++ (prime ∷ []) →
         IsPart core c (prime ∷ f) x →
@@ -30,7 +30,7 @@ mutual
         first f ≢ Some Underscore →
         first f ≢ Some Circumflex →
         IsPart node w f x
-    -- or a single, a sign and a node
+    -- or it is a single, a sign and a node
     with_subscript : {u v w f : List Tok} {x y : Tree} →
         w ≡ u ++ (Underscore ∷ v) →
         IsPart single u (Underscore ∷ (v ++ f)) x →
@@ -63,7 +63,7 @@ mutual
         w ≡ t ∷ v →
         AreParts a v f x →
         AreParts (reads_sign t a b) w f x
-    -- the sign is left out only where it does not stand next
+    -- the sign is left out only where it is not next
     without_sign : {t : Tok} {a b : Rule} {w f : List Tok} {x : Tree} →
         first (w ++ f) ≢ Some t →
         AreParts b w f x →
@@ -72,7 +72,7 @@ mutual
     with_token : {then : Tok → Rule} {t : Tok} {w f : List Tok} {x : Tree} → AreParts (then t) w f x → AreParts (takes_token then) (t ∷ w) f x
     -- no token, where none is left
     without_token : {then : Tok → Rule} {x : Tree} → AreParts (then EOF) [] [] x → AreParts (takes_token then) [] [] x
-    -- what follows is chosen by the token that stands next
+    -- the next token chooses what follows
     by_next_token : {then : Tok → Rule} {w f : List Tok} {x : Tree} → AreParts (then (first_or_end (w ++ f))) w f x → AreParts (sees_token then) w f x
     -- letters of these characters with no letter after them, and what follows them
     letters : (cs : List ℕ) (u : List Tok) {then : List ℕ → Rule} {v w f : List Tok} {x : Tree} →
@@ -82,8 +82,8 @@ mutual
         AreParts (then cs) v f x →
         AreParts (takes_letters then) w f x
 
-  -- the slice w, with f after it, is nodes and then the end token, no node begins with it, and xs are the nodes' trees;
-  -- the rule makes one tree of them
+  -- the slice w, with f after it, is nodes and then the end token, no node begins with that token, and xs are the nodes'
+  -- trees; the rule makes one tree of them
   pub data AreMembers : Tok → List Tok → List Tok → List Tree → Type 0 where
     no_member : {end : Tok} {w f : List Tok} → w ≡ end ∷ [] → AreMembers end w f []
     member : {end : Tok} {u v w f : List Tok} {x : Tree} {xs : List Tree} →
@@ -93,7 +93,7 @@ mutual
         AreMembers end v f xs →
         AreMembers end w f (x ∷ xs)
 
--- the tokens are nodes side by side, none of them empty, and xs are their trees
+-- the tokens are consecutive nodes, none of them empty, and xs are their trees
 pub data AreNodes : List Tok → List Tree → Type 0 where
   no_node : AreNodes [] []
   one_node : {w f l : List Tok} {x : Tree} {xs : List Tree} →

@@ -1,5 +1,5 @@
--- How a text spells its tokens. Nothing here scans: a slice of the text, and the character that stands after it, are
--- a token or are none.
+-- How a text spells its tokens. Nothing here scans: a slice of the text, with the character that follows it, is a token
+-- or is none.
 use Rattle.std.specs.Prelude.{◌≡◌, ℕ, ◌≤◌, Bool, true, false, ◌&&◌, ◌||◌, ◌==◌, IsTrue, IsFalse, List, [], ◌∷◌, ◌++◌, map, count_by, codes, Option, Some, None, if◌then◌else◌}
 use Rattle.std.specs.{Char.is_ascii_digit, Char.is_ascii_alphabetic, List.AllPass, Str.byte, Str.encode_utf8_all}
 use Rattle.latex2mathml_grammar.specs.Characters.{◌∈◌, Begins, Stops, head, is_empty, is_space}
@@ -7,11 +7,11 @@ use Rattle.latex2mathml_tokens.specs.Commands.{command_token}
 use Rattle.latex2mathml_tokens.specs.Tok.{Tok, Illegal, Ampersand, Paren, LBrace, RBrace, Underscore, Circumflex, Operator, Letter, Number, Command, Sqrt, Frac, Binom, Style}
 use Rattle.latex2mathml_tokens.specs.declared.attribute.Variant.TheVariants.{Normal, Italic}
 
--- an operator of itself
+-- the character is an operator by itself
 abbrev pub is_operator : ℕ → Bool
 is_operator c = c ∈ "=;,.'+-*/!<>"
 
--- a parenthesis of itself
+-- the character is a parenthesis by itself
 abbrev pub is_paren : ℕ → Bool
 is_paren c = c ∈ "()[]|"
 
@@ -50,7 +50,7 @@ pub record IsNumber (w : List ℕ) (next : Option ℕ) : Type 0 where
   pub ends : Stops is_ascii_digit next
   pub longest : count_by is_period w ≡ 0 → Stops is_period next
 
--- after which tokens a digit that follows directly is a number of its own
+-- whether a digit that directly follows the token is a number of its own
 abbrev pub takes_digit : Option Tok → Bool
 takes_digit None = false
 takes_digit (Some Sqrt) = true
@@ -62,7 +62,7 @@ takes_digit (Some t) = false
 -- the slice w, before the character `next` or the end of the text, is the token t. `alone` says that a digit here is a
 -- number of its own.
 pub data SpellsAt (alone : Bool) (w : List ℕ) (next : Option ℕ) (t : Tok) : Type 0 where
-  -- a character that stands for itself
+  -- a character that is a token by itself
   character : (c : ℕ)
       → IsFalse (begins_longer c)
       → IsFalse (is_space c)
@@ -78,7 +78,7 @@ pub data SpellsAt (alone : Bool) (w : List ℕ) (next : Option ℕ) (t : Tok) : 
   colon_equals : w ≡ codes ":="
       → t ≡ Paren (codes ":=")
       → SpellsAt alone w next t
-  -- a number, as long as can be
+  -- a number, as long as possible
   number : IsFalse alone
       → IsNumber w next
       → t ≡ Number (encode_utf8_all w)
@@ -90,7 +90,7 @@ pub data SpellsAt (alone : Bool) (w : List ℕ) (next : Option ℕ) (t : Tok) : 
       → w ≡ c ∷ []
       → t ≡ Number (encode_utf8_all w)
       → SpellsAt alone w next t
-  -- a backslash and one character that is no ASCII letter, whatever it is
+  -- a backslash and any one character that is not an ASCII letter
   symbol_command : (c : ℕ)
       → IsFalse (is_ascii_alphabetic c)
       → w ≡ byte "\\" ∷ c ∷ []
@@ -109,13 +109,13 @@ pub data SpellsAt (alone : Bool) (w : List ℕ) (next : Option ℕ) (t : Tok) : 
       → t ≡ Command []
       → SpellsAt alone w next t
 
--- a slice of a text, and the token that it is
+-- a slice of a text, and the token that it spells
 pub record Slice : Type 0 where
   pub text : List ℕ
   pub token : Tok
 
--- the text is white space, a slice that is its token, and the rest. `takes` says that a digit that nothing parts from
--- the token before is a number of its own.
+-- the text is white space, a slice that is its token, and the rest. `takes` says that a digit directly after the previous
+-- token is a number of its own.
 abbrev pub IsFirstSlice : Bool → List ℕ → Slice → List ℕ → Type 0
 IsFirstSlice takes text s rest =
     (space : List ℕ) × (text ≡ space ++ (s.text ++ rest)) × AllPass is_space space × SpellsAt (takes && is_empty space) s.text (head rest) s.token
@@ -125,6 +125,6 @@ abbrev pub HasSlices : Bool → List ℕ → List Slice → Type 0
 HasSlices takes text [] = AllPass is_space text
 HasSlices takes text (s ∷ ss) = (rest : List ℕ) × IsFirstSlice takes text s rest × HasSlices (takes_digit (Some s.token)) rest ss
 
--- after the previous token, the text has these tokens: they are what its slices are
+-- after the previous token, the text has these tokens: those of its slices
 abbrev pub HasTokens : Option Tok → List ℕ → List Tok → Type 0
 HasTokens previous text ts = (slices : List Slice) × HasSlices (takes_digit previous) text slices × (ts ≡ map (λ s. s.token) slices)

@@ -10,7 +10,7 @@ use latex2mathml_tokens::DisplayStyle;
 use latex2mathml_tokens::token::Token;
 
 /// Each text has exactly one token list, and each list of tokens exactly one reading or exactly one refusal. White space
-/// between two tokens changes neither.
+/// between two tokens changes neither, except directly before a digit that may be an operand.
 pub fn texts()
     ensures { TextsHold }
 {}
@@ -36,13 +36,13 @@ pub fn one_reading_of(tokens: &[Token])
     let _ = tokens;
 }
 
-/// What is read is a slice of the tokens, and the rest stands after it. The slice is empty only where nothing is left.
+/// What is read is a slice of the tokens, and the rest follows it. The slice is empty only where nothing is left.
 pub fn sliced()
     ensures { IsSliced }
 {}
 
 /// A slice is a core, a single, a node, the parts of a rule or the members of a group exactly where the rules read it and
-/// leave what stands after it; and tokens are nodes side by side exactly where those are a reading of the formula.
+/// leave what follows it. Tokens are consecutive nodes exactly where these are a reading of the formula.
 pub fn read_by_slices()
     ensures { IsReadBySlices }
 {}
@@ -84,7 +84,7 @@ pub fn renderings()
     ensures { RenderingsHold }
 {}
 
-/// A place lies between each two tokens of a text that stand side by side.
+/// There is a place between any two adjacent tokens of a text.
 #[tactic(auto, using(crate::proofs::WhiteSpace::has_places))]
 pub fn places(text: &str)
     ensures { HasPlaces (chars text.now) }
@@ -92,8 +92,8 @@ pub fn places(text: &str)
     let _ = text;
 }
 
-/// White space at a place between two tokens leaves the tokens as they were, and so every answer. A digit place is left
-/// out: `\frac12` has one after `\frac`, and there white space makes another formula of it.
+/// White space at a place between two tokens changes no token, and so no answer. A digit place is excluded: `\frac12` has
+/// one after `\frac`, and white space there makes it another formula.
 #[tactic(auto, using(crate::proofs::WhiteSpace::space_changes_nothing))]
 pub fn white_space(before: &str, space: &str, after: &str)
     ensures { SpaceChangesNothing before.now space.now after.now }

@@ -1,7 +1,7 @@
-//! What a formula means: how its text is spelled as tokens, and what the grammar reads of them. Definitions, and laws of them.
+//! What a formula means: how its text is spelled as tokens, and what the grammar reads of them. Definitions and their laws.
 //!
-//! No type of the reader or the parser stands here. The crate `latex2mathml_parser` has the code that is proved to meet these
-//! definitions.
+//! This crate has no type of the lexer or the parser. The crate `latex2mathml_parser` has the code that is proved to
+//! meet these definitions.
 #![tactic(auto)]
 
 pub mod laws;

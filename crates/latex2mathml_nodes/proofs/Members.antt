@@ -8,7 +8,7 @@ same_lengths [] [] e = cc
 same_lengths (x ∷ xs) (y ∷ ys) e = ap suc (same_lengths xs ys cc)
 same_lengths xs ys e = cc
 
--- the members at one index have one tree
+-- the members at the same index have the same tree
 pub same_at : (xs ys : List Node) (i : ℕ) (x y : Node) → i < length xs → x ≡ get_or xs i x → y ≡ get_or ys i y → trees xs ≡ trees ys → tree x ≡ tree y
 same_at [] ys i x y h p q e = absurd (omega arith)
 same_at (a ∷ xs) (b ∷ ys) (suc i) x y h p q e = same_at xs ys i x y (omega arith) p q cc

@@ -3,7 +3,7 @@ use Rattle.std.proofs.Common.{◌≡◌, ℕ, zero, suc, ◌+◌, ◌<◌, List,
 use Rattle.latex2mathml_nodes.specs.{declared.ast.Node.Node, Nodes.tree, Nodes.trees}
 use Rattle.latex2mathml_trees.specs.Tree.{Tree, Trees, no_trees, more_trees}
 
--- one more node at index i, where all trees are written one by one
+-- one more node at index i, if all trees are written one by one
 pub one_more : (all_of : Trees → List ℕ) (one : Tree → List ℕ) → all_of no_trees ≡ [] → ((x : Tree) (rest : Trees) → all_of (more_trees x rest) ≡ one x ++ all_of rest) → (nodes : List Node) (i : ℕ) (x : Node) → i < length nodes → x ≡ get_or nodes i x → all_of (trees (take i nodes)) ++ one (tree x) ≡ all_of (trees (take (i + 1) nodes))
 one_more all_of one none more [] i x h e = absurd (omega arith)
 one_more all_of one none more (y ∷ ys) zero x h e = rw (none, more, none, append-nil, e) refl

@@ -15,7 +15,7 @@ styled-push v xs ys x y e f = cc
 pub styled_more : (v : Variant) (now before : List Node) (i : ℕ) (x y : Node) → i < length now → i < length before → y ≡ get_or before i y → trees (take i now) ≡ all_styled v (trees (take i before)) → tree x ≡ styled v (tree y) → trees (take (i + 1) (set now i x)) ≡ all_styled v (trees (take (i + 1) before))
 styled_more v now before i x y h k is e f = grind (arith, common_steps, styled-push v, take_more_set now i x h, take_more before i y k)
 
--- of two styles the later one stays
+-- the later one of two styles stays
 mutual
   pub restyled : (v w : Variant) (x : Tree) → styled w (styled v x) ≡ styled w x
   restyled v w (letter c own) = refl

@@ -1,4 +1,4 @@
--- The topmost layer of a tree: a number for its kind, the values in it, and the trees in it. A tree is known by the three.
+-- The topmost layer of a tree: a number for its kind, its values, and the trees in it. These three determine the tree.
 use Rattle.std.specs.Prelude.{ℕ, ℤ, ◌+◌, Bool, List, Option}
 use Rattle.latex2mathml_nodes.specs.{Nodes.tree, Nodes.trees, declared.ast.layer.Inner.Inner, declared.ast.layer.Value.Value}
 use Rattle.latex2mathml_nodes.specs.declared.ast.layer.Inner.TheVariants as inner
@@ -9,7 +9,7 @@ use Rattle.latex2mathml_tokens.specs.declared.attribute.Variant.{Variant}
 use Rattle.latex2mathml_trees.specs.Tree.{Tree, Trees, number, letter, operator, function, applied, space, subscript, superscript, sub_sup, over_op, under_op, overset, underset, under, under_over, root, sqrt, frac, row, fenced, stretched, other_operator, sized_paren, words, matrix, ampersand, new_line, slashed, style, undefined}
 use Rattle.latex2mathml_trees.specs.Weight.{weight, weights}
 
--- what a tree holds besides trees
+-- what a tree holds in addition to trees
 pub data Own : Type 0 where
   nothing : Own
   text : List ℕ → Own
@@ -71,7 +71,7 @@ weight_within (two_trees x y) = weight x + weight y + 2
 weight_within (three_trees x y z) = weight x + weight y + weight z + 3
 weight_within (all_trees members) = weights members + 1
 
--- what the values of the code stand for
+-- what the values of the code represent
 abbrev pub own : Value → Own
 own value.None = nothing
 own (value.Text t) = text t.now

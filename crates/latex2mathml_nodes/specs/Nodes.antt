@@ -1,4 +1,4 @@
--- The trees that nodes of the code are.
+-- The trees that nodes of the code represent.
 use Rattle.std.specs.Prelude.{List, string_bytes, map, Option, option_map, Box}
 use Rattle.std.specs.declared.alloc.Global.{Global}
 use Rattle.latex2mathml_nodes.specs.{declared.ast.Node.Node, declared.ast.Node.fold-Node, declared.ast.Node.TheOpen.Node-F}
@@ -7,7 +7,7 @@ use Rattle.latex2mathml_trees.specs.Tree.{Tree, Trees, function_tree, root_tree,
 abbrev pub unboxed : Option (Box Tree Global) → Option Tree
 unboxed = option_map (λ x. x.value)
 
--- one level of a node of the code, where each node within is already seen as its tree
+-- one level of a node of the code, where each inner node is already its tree
 abbrev pub tree_step : Node-F Tree → Tree
 tree_step (Node-F.Number digits) = number (string_bytes digits)
 tree_step (Node-F.Letter c variant) = letter c variant

@@ -1,4 +1,4 @@
-//! The trees of formulas.
+//! Trees of formulas.
 ghost use Rattle.std.specs.Prelude.{◌≡◌, IfOk, map};
 ghost use Rattle.latex2mathml_nodes.specs.Nodes.{optional_tree, tree};
 
@@ -11,13 +11,14 @@ use latex2mathml_tokens::DisplayStyle;
 use latex2mathml_tokens::attribute::{Accent, ColumnAlign, LineThickness, Variant};
 use std::alloc::{AllocError, Global};
 
-/// A part of a formula. Its `Display` prints the markup, and escapes texts and characters there.
+/// A part of a formula. Its `Display` prints the markup, and escapes texts and characters in it.
 ///
-/// `Display`, copying, comparing, dropping and [`Node::set_variant`] recurse to the node's depth.
+/// `Display`, copying, comparing and dropping recurse to the node's depth. [`Node::set_variant`] recurses to the depth to which
+/// rows are nested.
 #[derive(Debug, Drop)]
 pub enum Node {
     Number(String),
-    /// A letter, or any other character that stands for itself, and its style.
+    /// A letter, or any other character that represents itself, and its style.
     Letter(char, Variant),
     Operator(char),
     /// The name of a function, and its argument, if that is known.
@@ -60,7 +61,7 @@ pub enum Node {
     Sqrt(Option<Box<Node>>, Box<Node>),
     /// The numerator, the denominator, and the line between them.
     Frac(Box<Node>, Box<Node>, LineThickness),
-    /// Nodes side by side.
+    /// Nodes next to each other.
     Row(Vec<Node>),
     /// A node between two fences, which grow with it.
     Fenced {
@@ -68,34 +69,34 @@ pub enum Node {
         close: &'static str,
         content: Box<Node>,
     },
-    /// An operator that says whether it grows with what stands beside it.
+    /// Whether the operator grows with what is next to it, and its text.
     StrechedOp(bool, String),
-    /// An operator that is a text.
+    /// An operator with this text.
     OtherOperator(&'static str),
-    /// A parenthesis of a size of its own, such as `1.2em`.
+    /// A parenthesis with a size of its own, such as `1.2em`.
     SizedParen {
         size: &'static str,
         paren: &'static str,
     },
     /// Words of a text.
     Text(String),
-    /// A table: the cells one after another, each ended by `Ampersand`, each row of the matrix ended by `NewLine`.
+    /// A table. Its members are the cells one after another. `Ampersand` ends a cell, and `NewLine` a row of the matrix.
     Matrix(Vec<Node>, ColumnAlign),
-    /// The end of a cell, if a matrix has it as a member; elsewhere it is marked as an error.
+    /// The end of a cell, if it is a member of a matrix. Elsewhere it is marked as an error.
     Ampersand,
-    /// The end of a row of a matrix, if a matrix has it as a member; elsewhere it is marked as an
+    /// The end of a row of a matrix, if it is a member of a matrix. Elsewhere it is marked as an
     /// error.
     NewLine,
     /// A letter or an operator with a slash through it. Any other node shows no slash.
     Slashed(Box<Node>),
     /// A node set as in a block or as in a line of text, if one of the two is given.
     Style(Option<DisplayStyle>, Box<Node>),
-    /// The text of a token that has no meaning where it stands. It is marked as an error.
+    /// The text of a token that has no meaning where it is. It is marked as an error.
     Undefined(String),
 }
 
 impl Node {
-    /// Returns a node with the same contents, or an `Err` when out of memory for its parts.
+    /// Returns a node with the same contents, or an `Err` if memory runs out for its parts.
     #[cycle(clone)]
     pub fn clone(&self, alloc: Global) -> Result<Node, AllocError>
         ensures { IfOk result (λ copy. tree copy ≡ tree self.now) }

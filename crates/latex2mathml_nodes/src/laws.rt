@@ -6,7 +6,7 @@ ghost use Rattle.latex2mathml_nodes.specs.Nodes.{tree};
 use crate::ast::Node;
 use latex2mathml_tokens::attribute::Variant;
 
-/// Of two styles that a node is given, the later one stays.
+/// If a node is given two styles, the later one stays.
 #[tactic(auto, using(crate::proofs::Styles::restyled))]
 pub fn restyled(node: &Node, first: Variant, later: Variant)
     ensures { styled later (styled first (tree node.now)) ≡ styled later (tree node.now) }
@@ -24,7 +24,7 @@ pub fn balanced(node: &Node)
     let _ = node;
 }
 
-/// Where no function in a node has an argument, the print is one element that obeys the child table.
+/// If no function in a node has an argument, the print is one element that obeys the child table.
 #[tactic(auto, using(latex2mathml_trees::proofs::Elements::one_element))]
 pub fn one_element(node: &Node)
     ensures { HasNoArgument (tree node.now) → IsOneElement (print (tree node.now)) }

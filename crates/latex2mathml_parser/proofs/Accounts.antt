@@ -25,7 +25,7 @@ token_count {text = text} r {old} {new} e none goes all same =
     let left : IsTrue (is_ok r) → new.list ≡ [] = grind arith in
     (slices_of false text, cut false text, omega arith, λ done. omega (arith, ap length (left done)))
 
--- a refusal that has this has that as well
+-- where P holds of the refusal and implies Q, Q holds of it
 pub refused_so : {A : Type 0} {P Q : Refusal → Type 0} (r : Result A LatexError) → IfRefused r P → ((q : Refusal) → P q → Q q) → IfRefused r Q
 refused_so (Ok x) h so = tt
 refused_so (Err error) h so = IfSome_then (refusal_of error) h so

@@ -16,7 +16,7 @@ abbrev pub printed : {ts l : List Tok} → ReadsNodes ts l → List ℕ
 printed none_read = []
 printed (one_more {x = x} are d) = printed are ++ print x
 
--- Nodes of the formula were read, down to the tokens that are left, and their prints stand after what was there.
+-- Nodes of the formula were read, down to the tokens that are left, and their prints follow what was there.
 pub record Appends (input place : List Tok) (old new : List ℕ) : Type 0 where
   pub are : ReadsNodes input place
   pub text : new ≡ old ++ printed are
@@ -36,7 +36,7 @@ all_read (one_more {x = x} are d) {xs} ds =
     let whole = all_read are (member_read (λ e. cc) d ds) in
     (whole.0, whole.1, append_assoc (printed are) (print x) (prints (trees_of xs)) ∙ whole.2)
 
--- all nodes stand between the tags of the element
+-- all nodes are between the tags of the element
 pub finished : {input place : List Tok} (display : DisplayStyle) (old : List ℕ) {new before after tag : List ℕ} → before ≡ old ++ tag → tag ≡ math_opening display → place ≡ [] → Appends input place before after → new ≡ after ++ codes "</math>" → (xs : List Tree) × ReadsFormula input xs × (new ≡ old ++ math_print display xs)
 unfolding ReadsFormula
 finished {place = place} display old opened is none so_far closed =
@@ -53,13 +53,13 @@ one_refused : {place ts : List Tok} {t : Tok} {r : Refusal} → place ≡ t ∷ 
 one_refused {place = []} stands d = absurd cc
 one_refused {place = t ∷ ts} stands d = member_refused (λ e. cc) d
 
--- the next node refuses, as the parser holds it
+-- the next node refuses, with the error that the parser holds
 pub formula_refused : {input place ts : List Tok} {t : Tok} {old new : List ℕ} {error held : LatexError} → error ≡ held → place ≡ t ∷ ts → IsRefusedBy held place → Appends input place old new → IfSome (refusal_of error) (Refuses input)
 unfolding Refuses
 formula_refused {error} same stands d so_far =
     IfSome_then (refusal_of error) (rw same d) (λ r e. refused_behind so_far.are (one_refused stands e))
 
--- .. and some of its tokens were taken
+-- the next node refuses, and some of its tokens were taken
 pub within_node : (before left : Unread) {place : List Tok} {old new : List ℕ} {error held : LatexError} → error ≡ held → IsRefusedBy held place → Appends before.list place old new → length left.list < length place → IfSome (refusal_of error) (IsRefusedWithin before left)
 within_node before left {place = place} {error = error} same d so_far less =
     IfSome_then (refusal_of error) (rw same d) (λ r e. (place, so_far.are, e, less))
@@ -70,7 +70,7 @@ within_node before left {place = place} {error = error} same d so_far less =
 pub node_begun : (input to : List Tok) (fs : List Frame) (ts : List Tree) (t : Tok) → fs ≡ [] → input ≡ t ∷ to → RuleLeads (rule t) (Made core (inside input fs ts)) to
 node_begun input to fs ts t none same = rw none (token_begun input [] ts input to t tt same (λ o d. d))
 
--- a token without parts, after which no mark stands
+-- a token without parts, with no mark after it
 pub leaf_read : (input place to : List Tok) (t : Tok) (x : Tree) → input ≡ t ∷ place → to ≡ place → rule t ≡ gives x → MarkStands None (first place) → Reads node input (Read x to)
 leaf_read input place to t x same kept is no_mark =
     rw kept (lone_node t x input place same is no_mark.0 no_mark.1 no_mark.2)

@@ -19,7 +19,7 @@ is_end t e = grind (arith)
 pub stood : (t : Lexeme) (place to : List Tok) → (t ≡ lexeme.EOF → ⊥) → lexeme_tok t ≡ first_or_end place → to ≡ rest_of place → place ≡ lexeme_tok t ∷ to
 stood t place to h e f = grind (arith, is_end)
 
--- a lexeme that is no parenthesis has no size
+-- a lexeme that is not a parenthesis has no size
 pub not_sized : (size : List ℕ) (got : Lexeme) → ((p : ParenName) → got ≡ lexeme.Paren p → ⊥) → sized size (lexeme_tok got) ≡ refuses (UnexpectedToken (Paren []) (lexeme_tok got))
 not_sized size got h = grind (arith)
 

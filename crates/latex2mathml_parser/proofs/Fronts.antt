@@ -1,4 +1,4 @@
--- The first character of a text, and what stands in it before its end, byte by byte.
+-- The first character of a text, and what precedes its end, byte by byte.
 use Rattle.std.proofs.Common.{◌≡◌, ℕ, ◌+◌, ◌-◌, ◌<◌, ◌≤◌, List, [], ◌∷◌, ◌++◌, take, drop, eqb, length, inl, inr, true, true-eqb, Some, refl, sym, ap, ◌∙◌, arith}
 use Rattle.std.proofs.{Math.Seq.take-append_seam, lemmas.List.length-append, lemmas.Bool.cases_lt, lemmas.Bool.Decides.nat_tests}
 use Rattle.std.proofs.lemmas.Str.{chars_past_char, encode_ascii, encodes-append, encodes-chars, IsCharBoundary-after_ascii, IsCharBoundary-at_seam}
@@ -13,7 +13,7 @@ first_byte (x ∷ xs) b u e l =
     let same : x ≡ b = cc in
     (IsCharBoundary-after_ascii (x ∷ xs) 0 u (omega arith) (omega arith), chars_past_char (x ∷ xs) xs b u (rw (encode_ascii b l) (cc same)))
 
--- where the end of a text begins, which is a place between two characters, and what stands before it
+-- where the end of a text begins, which is a place between two characters, and what precedes it
 pub ends_at : (text rest front : List ℕ) → IsUtf8 text → IsUtf8 rest → chars text ≡ front ++ chars rest → (length rest ≤ length text) × IsCharBoundary text (length text - length rest) × (take (length text - length rest) text ≡ encode_utf8_all front)
 ends_at text rest front u v e =
     let bytes : text ≡ encode_utf8_all front ++ rest = sym (encodes-chars text u) ∙ ap encode_utf8_all e ∙ encodes-append front (chars rest) ∙ ap (λ b. encode_utf8_all front ++ b) (encodes-chars rest v) in
@@ -21,7 +21,7 @@ ends_at text rest front u v e =
     let seam : length text - length rest ≡ length (encode_utf8_all front) = omega arith in
     (omega arith, rw seam (IsCharBoundary-at_seam text (encode_utf8_all front) rest bytes v), rw seam (ap (take (length (encode_utf8_all front))) bytes ∙ take-append_seam (encode_utf8_all front) rest))
 
--- a text of no bytes has no character
+-- a text without bytes has no characters
 pub no_characters : (text : List ℕ) → true ≡ eqb (length text) 0 → chars text ≡ []
 unfolding chars
 no_characters [] e = refl
@@ -35,6 +35,6 @@ wide_of (c ∷ cs) text e wide = elim (cases_lt c 128) [
   | inr h ↦ grind (arith, nat_tests)
 ]
 
--- text that begins with no ASCII byte begins with no ASCII character
+-- a text that does not begin with an ASCII byte does not begin with an ASCII character
 pub wide_first : (text : List ℕ) → IsUtf8 text → ((b : ℕ) → slice_get text 0 ≡ Some b → 128 ≤ b) → Stops is_ascii (head (chars text))
 wide_first text u wide = wide_of (chars text) text (encodes-chars text u) wide

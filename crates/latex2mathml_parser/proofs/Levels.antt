@@ -7,50 +7,50 @@ use Rattle.latex2mathml_parser.specs.Levels.{Standing, awaits_part, awaits_membe
 use Rattle.latex2mathml_tokens.specs.Refusal.{Refusal, UnexpectedToken}
 use Rattle.latex2mathml_tokens.specs.Tok.{Tok, EOF, Underscore, Circumflex}
 use Rattle.latex2mathml_parser.specs.declared.parse.frames.Due.TheVariants as due
-use Rattle.latex2mathml_parser.specs.{declared.parse.frames.GroupEnd.GroupEnd, declared.reader.mark.Sign.Sign}
-use Rattle.latex2mathml_parser.specs.declared.reader.mark.Sign.TheVariants.{Sub, Sup}
+use Rattle.latex2mathml_parser.specs.{declared.parse.frames.GroupEnd.GroupEnd, declared.lexer.mark.Sign.Sign}
+use Rattle.latex2mathml_parser.specs.declared.lexer.mark.Sign.TheVariants.{Sub, Sup}
 
 -- A rule that leads somewhere.
 
--- .. and begins with a part: the part leads on
+-- where it begins with a part, the part leads on
 part_leads : {s : Sort} {then : Tree → Rule} {K : Outcome Tree → Type 0} {place : List Tok} → RuleLeads (reads_part s then) K place → (o : Outcome Tree) → Reads s place o → Then then K o
 part_leads k (Read x to) d = record { to = λ o ds. k.to o (part_read d ds) }
 part_leads k (Refused r) d = k.to _ (part_refused d)
 
--- .. and begins with members
+-- where it begins with members, these lead on
 members_lead : {end : Tok} {then : List Tree → Rule} {K : Outcome Tree → Type 0} {place : List Tok} → RuleLeads (reads_members end then) K place → (o : Outcome (List Tree)) → ReadsAll (Some end) place o → Then then K o
 members_lead k (Read xs to) d = record { to = λ o ds. k.to o (members_read d ds) }
 members_lead k (Refused r) d = k.to _ (members_refused d)
 
--- .. and gives a tree
+-- where it gives a tree, the tree leads there
 pub given : {x : Tree} {K : Outcome Tree → Type 0} {place : List Tok} → RuleLeads (gives x) K place → K (Read x place)
 given k = k.to _ rule_gives
 
--- .. and is the rest of one that was begun
+-- where it is the rest of an unfinished rule, the level within that rule leads on
 pub entered : (f : Standing) (s : Sort) (l : Level) (place : List Tok) → RuleLeads (remaining f) (Made s l) place → Leads (level_of_rule f s l) place
 entered (awaits_part t then) s l place k = part_leads k
 entered (awaits_members end then) s l place k = members_lead k
 
--- .. and begins with a sign, which is taken
+-- where it begins with a sign, which is taken, the first rule leads on
 pub signed : {t : Tok} {a b : Rule} {K : Outcome Tree → Type 0} {place to : List Tok} → place ≡ t ∷ to → RuleLeads (reads_sign t a b) K place → RuleLeads a K to
 signed same k = record { to = λ o d. k.to o (sign_stands same d) }
 
--- .. or which does not stand
+-- where the sign is not next, the second rule leads on
 pub unsigned : {t : Tok} {a b : Rule} {K : Outcome Tree → Type 0} {place to : List Tok} → (first place ≢ Some t) × (to ≡ place) → RuleLeads (reads_sign t a b) K place → RuleLeads b K to
 unsigned h k = rw h.1 (record { to = λ o d. k.to o (sign_missing h.0 d) })
 
--- .. and takes a token
+-- where it takes a token, what follows leads on
 pub taken : {t : Tok} {then : Tok → Rule} {K : Outcome Tree → Type 0} {place to : List Tok} → t ≡ first_or_end place → to ≡ rest_of place → RuleLeads (takes_token then) K place → RuleLeads (then t) K to
 taken {place = []} e same k = rw (e, same) (record { to = λ o d. k.to o (token_at_end d) })
 taken {place = t ∷ ts} e same k = rw (e, same) (record { to = λ o d. k.to o (token_taken d) })
 
--- .. and takes a name
+-- where it takes a name, what follows leads on
 pub named : (then : List ℕ → Rule) {K : Outcome Tree → Type 0} {bytes : List ℕ} {place to : List Tok} → NameStands bytes place to → RuleLeads (a_name then) K place → RuleLeads (then bytes) K to
 named then h k =
     let letters = h.1 in
     rw letters.2 (taken refl h.2 (record { to = λ o d. (taken refl refl k).to o (letters_taken letters.0 letters.1 d) }))
 
--- .. and takes a name, whatever it is
+-- where it takes a name, whatever it is, what follows leads on
 pub after_name : {then : Rule} {K : Outcome Tree → Type 0} {place to : List Tok} → (bytes : List ℕ) × NameStands bytes place to → RuleLeads (a_name (λ name. then)) K place → RuleLeads then K to
 after_name {then} h k = named (λ name. then) h.1 k
 
@@ -125,7 +125,7 @@ sign_taken (part single K) sign x place to h same k = absurd cc
 sign_taken l Sub x place to h same k = record { to = λ o d. k.to o (sign_stands same d) }
 sign_taken l Sup x place to h same k = record { to = λ o d. k.to o (sign_missing (λ e. cc) (sign_stands same d)) }
 
--- the token that stands next is passed over
+-- the next token is passed over
 pub passed : (place to : List Tok) (t : Tok) → first place ≡ Some t → to ≡ rest_of place → place ≡ t ∷ to
 passed place to t e f = grind (arith)
 
@@ -138,12 +138,12 @@ as_refused core node K r k = k
 as_refused single node K r k = k
 as_refused s t K r k = k
 
--- what is begun at a level refuses there
+-- what began at a level refuses there
 pub entered_refused : (f : Standing) (s : Sort) (l : Level) (r : Refusal) → Accepts (level_of_rule f s l) (Refused r) → Accepts l (Refused r)
 entered_refused (awaits_part t then) s l r k = as_refused s (sort_of l) (Accepts l) r k
 entered_refused (awaits_members end then) s l r k = as_refused s (sort_of l) (Accepts l) r k
 
--- a group that is open where no token is left
+-- a group is still open where no token is left
 pub unclosed : (l : Level) (end : GroupEnd) → due_of l ≡ due.Member end → Leads l [] → Accepts l (Refused (UnexpectedToken (end_token end) EOF))
 unclosed (members other K) end e k =
     let same : end ≡ other = cc in
@@ -151,7 +151,7 @@ unclosed (members other K) end e k =
 unclosed (part core K) end e k = cc
 unclosed (part s K) end e k = cc
 
--- a token without parts, after which no mark stands, is a node
+-- a token without parts is a node where no mark follows it
 pub lone_node : (t : Tok) (x : Tree) (l place : List Tok) → l ≡ t ∷ place → rule t ≡ gives x → first place ≢ Some prime → first place ≢ Some Underscore → first place ≢ Some Circumflex → Reads node l (Read x place)
 lone_node t x l place stood is h i j =
     let read : ReadsRule (rule t) place (Read x place) = rw is rule_gives in

@@ -19,13 +19,14 @@ IsNoLetter x = (c : ℕ) (variant : Variant) → x ≡ lexeme.Letter c variant �
 none_first : (x : Lexeme) (l : List Tok) → lexeme_tok x ≡ first_or_end l → IsNoLetter x → first_letter l ≡ None
 none_first x l e h = grind (arith)
 
--- a name is taken, of which these are the bytes so far: they are those of letters, and whatever letters stand next belong to them
+-- a name is being taken, of which these are the bytes so far: they are those of letters, and any letters that come next
+-- belong to it
 pub record IsTaking (bytes : List ℕ) (old now : Unread) : Type 0 where
   pub letters : (taken : List ℕ) × (bytes ≡ encode_utf8_all taken) × ((cs : List ℕ) (to : List Tok) → AreLetters cs now.list to → AreLetters (taken ++ cs) (rest_of old.list) to)
   pub counts : GoesOn old now
   pub fewer : OpensFor old now 0 0
 
--- a letter more
+-- one more letter
 pub letter_taken : (bytes more : List ℕ) (c : ℕ) (variant : Variant) (old now next : Unread) → Takes (Letter c variant) now next → more ≡ bytes ++ encode_utf8 c → IsTaking bytes old now → IsTaking more old next
 letter_taken bytes more c variant old now next found grown so_far =
     let k = so_far.letters in

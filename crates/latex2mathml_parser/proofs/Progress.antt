@@ -5,7 +5,7 @@ use Rattle.latex2mathml_grammar.specs.Openers.{openers, opens}
 use Rattle.latex2mathml_parser.specs.{Marks.rest_of, Unread.GoesOn, Unread.OpensFor, Unread.Unread}
 use Rattle.latex2mathml_tokens.specs.Tok.{Tok}
 
--- a token opens one frame at most
+-- a token opens at most one frame
 pub opens-≤ : (t : Tok) → opens t ≤ 1
 opens-≤ t = grind (arith)
 

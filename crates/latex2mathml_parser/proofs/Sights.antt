@@ -35,7 +35,7 @@ told c d after w rest t alone_so plain split (inl k) e =
     same ∙ alone_so k.0 (sym k.2 ∙ e)
 told c d after w rest t alone_so plain split (inr k) e = absurd (both_ways (is_plain t) (ap is_plain e ∙ plain) k)
 
--- a character that stands for itself shows its token
+-- a character that is a token by itself shows its token
 shows : (takes : Bool) (text : List ℕ) (c d : ℕ) → ((alone : Bool) (after : List ℕ) → (first_slice alone (d ∷ after)).token ≡ character_token d) → ((x : ℕ) → character_token x ≡ character_token d → x ≡ d) → is_plain (character_token d) ≡ false → Found takes text c → Shows d c (token_list (slices_of takes text))
 shows takes text c d itself alone_so plain (alone, after, w, rest, t, ss, whole, slice_is, split, k) =
     let stands : first (token_list (slices_of takes text)) ≡ Some t = ap (λ xs. first (token_list xs)) whole in (

@@ -1,4 +1,4 @@
--- What each branch of the reader has read is a slice that spells its token.
+-- What each branch of the lexer has read is a slice that spells its token.
 use Rattle.std.proofs.Common.{◌≡◌, ℕ, Bool, true, false, List, [], ◌∷◌, ◌++◌, codes, refl, sym, ap, subst, ◌∙◌, arith}
 use Rattle.std.proofs.{lemmas.Bool.Decides.nat_tests, lemmas.List.Elements.All-cons}
 use Rattle.std.specs.{Char.is_ascii_digit, Char.is_ascii_alphabetic, Str.byte, Str.encode_utf8_all}
@@ -18,11 +18,11 @@ pub letters_named : (text : List ℕ) (c : ℕ) (after rest : List ℕ) → text
 letters_named text c after rest e letter (front, run) =
     (c ∷ front, e ∙ ap (λ k. c ∷ k) run.0, λ alone. letter_command c front refl (All-cons (λ x. is_ascii_alphabetic x ≡ true) c front letter run.1) run.2 refl)
 
--- .. or one other character
+-- the name of a command: one other character
 pub symbol_named : (text : List ℕ) (c : ℕ) (after : List ℕ) → text ≡ c ∷ after → is_ascii_alphabetic c ≡ false → BeginsWithName text after
 symbol_named text c after e other = (c ∷ [], e, λ alone. symbol_command c other refl refl)
 
--- .. or nothing, at the end of the text
+-- the name of a command: nothing, at the end of the text
 pub nothing_named : (text : List ℕ) → text ≡ [] → BeginsWithName text text
 nothing_named text e = ([], refl, λ alone. lone_backslash refl (ap head e) no_empty_name)
 

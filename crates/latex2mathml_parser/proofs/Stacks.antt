@@ -1,4 +1,4 @@
--- Frames put on the parser's stack and taken off it, beside the trees that were read.
+-- Frames put on the parser's stack and taken off it, with the trees that were read.
 use Rattle.std.proofs.Common.{◌≡◌, ◌⊎◌, inl, inr, true, false, ℕ, List, [], ◌∷◌, ◌++◌, drop, refl, sym, ap, subst, ◌∙◌, reverse}
 use Rattle.std.proofs.lemmas.List.{reverse-append}
 use Rattle.std.specs.{Prelude.codes, Str.bytes_eq}
@@ -58,7 +58,7 @@ due_of_inside input fs ts = due_inside input (reverse fs) ts
 pub token_begun : (input : List Tok) (fs : List Frame) (ts : List Tree) (place to : List Tok) (t : Tok) → MayBegin (innermost fs) place → place ≡ t ∷ to → Leads (inside input fs ts) place → RuleLeads (rule t) (Made core (inside input fs ts)) to
 token_begun input fs ts place to t may e k = begun (inside input fs ts) place to t (subst (λ d. MayBegin d place) (sym (due_of_inside input fs ts)) may) e k
 
--- what is no member may begin where no token is left
+-- what is not a member may begin where no token is left
 may_begin_at_end : (d : Due) → ((end : GroupEnd) → d ≡ due.Member end → ⊥) → MayBegin d []
 may_begin_at_end (due.Member end) h = h end refl
 may_begin_at_end d h = tt

@@ -1,4 +1,4 @@
--- What the reader takes from the slices that are left of a text, and what it leaves where it only looks.
+-- What the lexer takes from the slices that are left of a text, and what it leaves where it only looks.
 use Rattle.std.proofs.Common.{◌≡◌, ◌≢◌, ℕ, ◌+◌, ◌*◌, ◌^◌, ◌<◌, ◌≤◌, Bool, true, false, not, ◌||◌, List, [], ◌∷◌, ◌++◌, drop, drop-drop, eqb, length, refl, sym, ap, subst, ◌∙◌, Some, if◌then◌else◌, arith, rules}
 use Rattle.std.proofs.lemmas.Bool.{and_right, cond_both, not-true, or_parts}
 use Rattle.std.proofs.{lemmas.Bool.Decides.nat_tests, lemmas.List.Elements.All-cons, lemmas.List.Elements.All-nil}
@@ -15,7 +15,7 @@ use Rattle.latex2mathml_parser.proofs.{Fronts.no_characters, Spellings.one_chara
 use Rattle.latex2mathml_grammar.proofs.OneList.{begun, cut_step, one_cut, only_space}
 use Rattle.latex2mathml_grammar.proofs.{Counting.count_one, Tokenizing.spells_dark, Tokenizing.step_shortens}
 
--- a text that begins with no white space starts there
+-- a text that does not begin with white space starts at its front
 pub starts_here : (takes : Bool) (text : List ℕ) (c : ℕ) (after : List ℕ) → text ≡ c ∷ after → is_space c ≡ false → IsStart takes text text takes
 starts_here takes text c after e dark = ([], (refl, All-nil (λ x. is_space x ≡ true), rw e dark), grind arith)
 
@@ -68,26 +68,26 @@ IsTaken takes text t n takes' rest =
     × (n ≤ 9 * backslash_count w)
     × (length rest < length text)
 
--- .. where the text starts with it, with a backslash just where names were compared
+-- a slice is taken where the text starts with it, and it begins with a backslash exactly where names were compared
 pub taken : (takes alone takes' : Bool) (text start : List ℕ) (t : Tok) (n : ℕ) (rest : List ℕ) → IsStart takes text start alone → BeginsWith alone start t rest → takes' ≡ takes_digit (Some t) → backslash_count start ≤ n → n ≤ 9 * backslash_count start → IsTaken takes text t n takes' rest
 taken takes alone takes' text start t n rest starts begins e least most =
     let step : IsFirstSlice takes text (slice begins.0 t) rest = step_from takes alone text start t rest starts begins in
     let same : backslash_count begins.0 ≡ backslash_count start = same_first alone begins.0 rest start t begins.2 begins.1 in
     (begins.0, cut_step takes text (slice begins.0 t) rest step ∙ ap (λ b. slice begins.0 t ∷ slices_of b rest) (sym e), rw same least, rw same most, step_shortens takes text rest (slice begins.0 t) step)
 
--- .. which is no command
+-- a slice that is not a command is taken
 pub taken_uncounted : (takes alone : Bool) (text start : List ℕ) (c : ℕ) (after : List ℕ) (t : Tok) (rest : List ℕ) → IsStart takes text start alone → start ≡ c ∷ after → c ≢ byte "\\" → BeginsWith alone start t rest → takes_digit (Some t) ≡ false → IsTaken takes text t 0 false rest
 taken_uncounted takes alone text start c after t rest starts e dark begins no_digit =
     let none : backslash_count start ≡ 0 = rw e (grind (arith, nat_tests)) in
     taken takes alone false text start t 0 rest starts begins (sym no_digit) (omega arith) (omega arith)
 
--- .. which is one character that stands for itself
+-- a slice that is one character, a token by itself, is taken
 pub taken_character : (takes : Bool) (text : List ℕ) (c : ℕ) (after : List ℕ) (t : Tok) → text ≡ c ∷ after → not (begins_longer c || is_space c) ≡ true → t ≡ character_token c → takes_digit (Some t) ≡ false → IsTaken takes text t 0 false after
 taken_character takes text c after t e alone f no_digit =
     let parts = or_parts (begins_longer c) (is_space c) (not-true _ alone) in
     taken_uncounted takes takes text text c after t after (starts_here takes text c after e parts.1) e (λ b. cc (ap begins_longer b, parts.0)) (one_character takes text c after t e parts.0 parts.1 f) no_digit
 
--- .. which is a command
+-- a slice that is a command is taken
 pub taken_command : (takes alone takes' : Bool) (text start : List ℕ) (c : ℕ) (after : List ℕ) (t : Tok) (n : ℕ) (rest : List ℕ) → IsStart takes text start alone → start ≡ c ∷ after → c ≡ byte "\\" → BeginsWith alone (byte "\\" ∷ after) t rest → takes' ≡ takes_digit (Some t) → 1 ≤ n → n ≤ 9 → IsTaken takes text t n takes' rest
 taken_command takes alone takes' text start c after t n rest starts e backslash begins f least most =
     let whole : start ≡ byte "\\" ∷ after = e ∙ ap (λ x. x ∷ after) backslash in

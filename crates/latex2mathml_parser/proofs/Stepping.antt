@@ -30,15 +30,15 @@ pub stacks_within : (p q : Parser) → Counted 0 p q → StacksWithin p q
 stacks_within p q h = omega (arith, h.frames.taken, q.frames.covered)
 
 -- a token is taken, which may open a frame
-pub counted_taken : (t : Tok) (p q r : Parser) → p.reader.list ≡ t ∷ q.reader.list → GoesOn p.reader q.reader → q.frames.greatest ≡ p.frames.greatest → Counted (opens t) q r → Counted 0 p r
+pub counted_taken : (t : Tok) (p q r : Parser) → p.lexer.list ≡ t ∷ q.lexer.list → GoesOn p.lexer q.lexer → q.frames.greatest ≡ p.frames.greatest → Counted (opens t) q r → Counted 0 p r
 counted_taken t p q r stood counts same h =
-    let opened = OpensFor-one t p.reader q.reader (p.frames.greatest + 0) q.frames.greatest stood counts (omega arith) in
+    let opened = OpensFor-one t p.lexer q.lexer (p.frames.greatest + 0) q.frames.greatest stood counts (omega arith) in
     record { counts = GoesOn-trans _ _ _ counts h.counts; frames = OpensFor-trans _ _ _ _ _ _ opened h.frames }
 
 -- a token is passed over
-pub counted_skipped : (p q r : Parser) (n : ℕ) → q.reader.list ≡ rest_of p.reader.list → GoesOn p.reader q.reader → q.frames.greatest ≡ p.frames.greatest → Counted 0 q r → Counted n p r
+pub counted_skipped : (p q r : Parser) (n : ℕ) → q.lexer.list ≡ rest_of p.lexer.list → GoesOn p.lexer q.lexer → q.frames.greatest ≡ p.frames.greatest → Counted 0 q r → Counted n p r
 counted_skipped p q r n passed counts same h =
-    let over = OpensFor-rest p.reader q.reader passed counts in
+    let over = OpensFor-rest p.lexer q.lexer passed counts in
     record {
       counts = GoesOn-trans _ _ _ counts h.counts;
       frames = record { taken = omega arith; openers = omega arith };

@@ -1,4 +1,4 @@
--- What the parser's functions answer: whatever held before a call holds of the state that it returns, for all tokens that
+-- What the parser's functions answer: what held before a call holds of the state that it returns, for all tokens that
 -- were left before the node of the formula.
 use Rattle.std.specs.Prelude.{◌≡◌, Bool, true, false, ℕ, List, [], ◌∷◌, ◌++◌, IfOk, None, Result, String}
 use Rattle.std.specs.Prelude.{codes, drop, reverse, string_bytes, take}
@@ -26,7 +26,7 @@ use Rattle.latex2mathml_trees.specs.{Productions.stretched_operator, Print.print
 abbrev pub Keeps : State → Parser → Parser → Result State AllocError → Type 0
 Keeps s old new answer = (input : List Tok) → Holds input old s → IfOk answer (Holds input new)
 
--- .. and at the end of the node
+-- what the state claims before the call, the last state claims after it, at the end of the node
 abbrev pub Finishes : State → Parser → Parser → Result Bool AllocError → Type 0
 Finishes s old new answer = (input : List Tok) → Holds input old s → IfOk answer (λ read. Holds input new (last_state read))
 
@@ -34,7 +34,7 @@ Finishes s old new answer = (input : List Tok) → Holds input old s → IfOk an
 abbrev pub Proceeds : Rule → ℕ → Parser → Parser → Result State AllocError → Type 0
 Proceeds r n old new answer = (input : List Tok) → GoesOnBy r n input old → IfOk answer (Holds input new)
 
--- the rest of the rule of this frame is read, to which the last trees belong
+-- the rest of this frame's rule is read; the last trees belong to it
 abbrev pub Enters : Frame → Parser → Parser → Result State AllocError → Type 0
 Enters f old new answer = (input : List Tok) → GoesOnIn f input old → IfOk answer (Holds input new)
 
@@ -65,7 +65,7 @@ abbrev pub EndsInnermost : Parser → Parser → Result State AllocError → Typ
 EndsInnermost old new answer =
     (input : List Tok) (end : GroupEnd)
     → due_in old ≡ due.Member end
-    → Leads (level 0 input old) (end_token end ∷ old.reader.list)
+    → Leads (level 0 input old) (end_token end ∷ old.lexer.list)
     → IfOk answer (Holds input new)
 
 -- the node is refused, because this lexeme follows the token in place of a fence
@@ -88,7 +88,7 @@ after_operator got p = stretched_or_refused (lexeme_tok got) (stretched_operator
 abbrev pub IsLeafOf : Lexeme → Kind → Type 0
 IsLeafOf t k = (arity k ≡ 0) × ((ts : List Tree) → rule (lexeme_tok t) ≡ gives (top (put k ts)))
 
--- .. and a node by itself: no mark follows
+-- the lexeme is a node by itself: a part of this kind, with no mark after it
 abbrev pub IsLoneLeaf : Lexeme → List Tok → Kind → Type 0
 IsLoneLeaf t place k = IsLeafOf t k × MarkStands None (first place)
 
@@ -96,14 +96,14 @@ IsLoneLeaf t place k = IsLeafOf t k × MarkStands None (first place)
 abbrev pub math_opening : DisplayStyle → List ℕ
 math_opening display = codes "<math xmlns=\"http://www.w3.org/1998/Math/MathML\" display=\"" ++ (display_text display ++ codes "\">")
 
--- the `math` element of what the tokens that are left are read as
+-- the markup is the `math` element of a reading of the tokens that are left
 abbrev pub IsMathOf : Parser → DisplayStyle → List ℕ → Type 0
-IsMathOf p display markup = (xs : List Tree) × ReadsFormula p.reader.list xs × (markup ≡ math_print display xs)
+IsMathOf p display markup = (xs : List Tree) × ReadsFormula p.lexer.list xs × (markup ≡ math_print display xs)
 
--- No rule is begun any more: a node of these tokens was read, down to those that are left, and its print comes after what
--- was there. Or the formula is refused.
+-- No rule is open any more: a node of these tokens was read, down to those that are left, and its print follows what was
+-- there. Or the formula is refused.
 abbrev pub IsAppended : List Tok → Parser → String Global → String Global → Bool → Type 0
 IsAppended input p old new true =
     (p.frames.stack.items ≡ [])
-    × ((x : Tree) × Reads node input (Read x p.reader.list) × (string_bytes new ≡ string_bytes old ++ print x))
+    × ((x : Tree) × Reads node input (Read x p.lexer.list) × (string_bytes new ≡ string_bytes old ++ print x))
 IsAppended input p old new false = Holds input p state.Refused

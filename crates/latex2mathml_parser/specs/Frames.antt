@@ -1,6 +1,6 @@
--- What the parser's frames stand for: each is a rule that was begun, at the part that it waits for. A frame holds no tree:
--- what was read of its rule are the first of the trees that stand beside it, the last that was read first. These words serve
--- the contracts of the parser's functions.
+-- What the parser's frames mean: each is an unfinished rule, at the part that it waits for. A frame holds no tree: what
+-- was read of its rule are the first trees of the list given with it, in which the last tree read comes first. These
+-- definitions serve the contracts of the parser's functions.
 use Rattle.std.specs.Prelude.{◌≡◌, ℕ, ◌+◌, ◌-◌, Bool, true, false, List, [], ◌∷◌, ◌++◌, drop, reverse, take}
 use Rattle.latex2mathml_grammar.specs.Grammar.{Sort, core, single, node, operand, Rule, gives, reads_part, reads_sign, of_one, of_degree, with_second, under_slash, after_fence_members, stretched_or_refused, after_environment_members, Reads}
 use Rattle.latex2mathml_parser.specs.Levels.{Standing, awaits_part, awaits_members, due_at, Level, part, level_of_rule}
@@ -16,16 +16,16 @@ use Rattle.latex2mathml_parser.specs.declared.parse.frames.Frame.TheVariants as 
 use Rattle.latex2mathml_parser.specs.{declared.parse.frames.Group.Group, declared.parse.frames.GroupEnd.GroupEnd}
 use Rattle.latex2mathml_parser.specs.declared.parse.frames.Group.TheVariants as group
 use Rattle.latex2mathml_parser.specs.declared.parse.frames.GroupEnd.TheVariants as group_end
-use Rattle.latex2mathml_parser.specs.{declared.parse.frames.Pair.Pair, declared.reader.mark.Sign.Sign}
+use Rattle.latex2mathml_parser.specs.{declared.parse.frames.Pair.Pair, declared.lexer.mark.Sign.Sign}
 use Rattle.latex2mathml_parser.specs.declared.parse.frames.Pair.TheVariants as pair
-use Rattle.latex2mathml_parser.specs.declared.reader.mark.Sign.TheVariants.{Sub, Sup}
+use Rattle.latex2mathml_parser.specs.declared.lexer.mark.Sign.TheVariants.{Sub, Sup}
 
--- what carries a script, with the script of this sign
+-- the base x with the script y of this sign
 abbrev pub script : Sign → Tree → Tree → Tree
 script Sub x y = subscript x y
 script Sup x y = superscript x y
 
--- the last tree is the script of the one before it
+-- the trees, with the last as the script of the one before it
 abbrev pub with_script : Sign → List Tree → List Tree
 with_script sign ts = script sign (top (drop 1 ts)) (top ts) ∷ drop 2 ts
 
@@ -43,7 +43,7 @@ after_members group.Degree ts xs = of_degree xs
 after_members (group.Fence opening) ts xs = after_fence_members (fence_text opening) xs
 after_members group.Environment ts xs = after_environment_members (words_of (top ts)) xs
 
--- the sign that a second single stands after
+-- the sign before a second single
 abbrev pub pair_sign : Pair → Sign
 pair_sign (pair.Overbrace c) = Sup
 pair_sign (pair.Underbrace c) = Sub
@@ -74,13 +74,13 @@ abbrev pub after_first : Pair → List Tree → Tree → Rule
 after_first p ts =
     with_second (sign_token (pair_sign p)) (λ x. top (put (one_of_pair p) (x ∷ ts))) (λ x y. top (put (two_of_pair p) (y ∷ x ∷ ts)))
 
--- the rule of an operator with its limits, of which these read the rest where its sign stands first
+-- the rule of an operator with its limits: `below` or `above` reads the rest, according to the sign that comes first
 abbrev pub with_limits : ℕ → Pair → Pair → List Tree → Rule
 with_limits c below above ts =
     reads_sign Underscore (reads_part single (after_first below ts))
     (reads_sign Circumflex (reads_part single (after_first above ts)) (gives (operator c)))
 
--- the rule that was begun, at the part that is to be read next
+-- the unfinished rule, at the part that is to be read next
 abbrev pub standing_of : Frame → List Tree → Standing
 standing_of (frame.Members g n) ts = awaits_members (end_of g) (λ xs. after_members g (drop n ts) (reverse (take n ts) ++ xs))
 standing_of (frame.Operand k) ts = awaits_part operand (λ x. gives (top (put k (x ∷ ts))))
@@ -92,7 +92,7 @@ standing_of frame.Slashed ts = awaits_part node under_slash
 standing_of (frame.Stretch got) ts = awaits_part single (λ x. stretched_or_refused (lexeme_tok got) (stretched_operator x))
 standing_of (frame.Script sign) ts = awaits_part node (λ y. gives (script sign (top ts) y))
 
--- what the frame is a rule of
+-- the sort of part that the frame's rule makes
 abbrev pub sort_made : Frame → Sort
 sort_made (frame.Script sign) = node
 sort_made f = core
@@ -108,7 +108,7 @@ takes_script due.Node = true
 takes_script due.Single = false
 takes_script due.Core = false
 
--- how many of the trees beside it belong to the frame. The name of an environment stands below its members.
+-- how many of the trees belong to the frame. The name of an environment is below its members.
 abbrev pub tree_count : Frame → ℕ
 tree_count (frame.Members group.Environment n) = n + 1
 tree_count (frame.Members g n) = n
@@ -117,7 +117,7 @@ tree_count (frame.Last k) = arity k - 1
 tree_count (frame.Script sign) = 1
 tree_count f = 0
 
--- 0 where the part that the frame makes has as many operands as the frame waits for, with those that were read
+-- 0 where the part that the frame makes has as many operands as were read and are still awaited
 abbrev pub unfit : Frame → ℕ
 unfit (frame.Operand k) = 1 - arity k
 unfit (frame.Last k) = 1 - arity k
@@ -136,11 +136,11 @@ abbrev pub inside_all : Level → List Frame → List Tree → Level
 inside_all l [] ts = l
 inside_all l (f ∷ fs) ts = enter f ts (inside_all l fs (drop (tree_count f) ts))
 
--- .. and the innermost last, as on the stack
+-- the level inside all frames, the innermost last, as on the stack
 abbrev pub inside : List Tok → List Frame → List Tree → Level
 inside input fs ts = inside_all (whole input) (reverse fs) ts
 
--- .. and one more frame inside them
+-- the level inside these frames and one more, which is inside them
 abbrev pub within : List Tok → List Frame → Frame → List Tree → Level
 within input fs f ts = enter f ts (inside input fs (drop (tree_count f) ts))
 
@@ -152,10 +152,10 @@ first_due (f ∷ fs) = awaits f
 abbrev pub innermost : List Frame → Due
 innermost fs = first_due (reverse fs)
 
--- a stack with this frame on the others
+-- a stack with this frame on top of the others
 abbrev pub IsOn : Frame → List Frame → List Frame → Type 0
 IsOn f fs gs = gs ≡ fs ++ f ∷ []
 
--- no frame is on a stack, before and after
+-- no frame is on the stack, before or after
 abbrev pub AreEmpty : List Frame → List Frame → Type 0
 AreEmpty fs gs = (fs ≡ []) × (gs ≡ [])

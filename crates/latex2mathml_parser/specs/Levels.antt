@@ -1,5 +1,5 @@
--- What is due while a rule is read, and where its outcome leads. These words serve the contracts of the parser's
--- functions; they know no frame. A continuation K says of each outcome what it leads to.
+-- What is due while a rule is read, and where its outcome leads. These definitions serve the contracts of the parser's
+-- functions; they know no frame. A continuation K says what each outcome leads to.
 use Rattle.std.specs.Prelude.{◌≢◌, List, [], ◌∷◌, Some, codes}
 use Rattle.latex2mathml_grammar.specs.Grammar.{Sort, core, single, node, Rule, reads_part, reads_members, rule_after_core, rule_after_single, Outcome, Read, Refused, Reads, ReadsRule, ReadsAll}
 use Rattle.latex2mathml_tokens.specs.Tok.{Tok, End, Paren, RBrace, Right}
@@ -15,7 +15,7 @@ end_token group_end.Bracket = Paren (codes "]")
 end_token group_end.Right = Right
 end_token group_end.End = End
 
--- what a rule that was begun waits for: a part, or members up to an end; and what follows
+-- what an unfinished rule waits for: a part, or members up to an end; and what follows
 pub data Standing : Type 0 where
   awaits_part : Sort → (Tree → Rule) → Standing
   awaits_members : GroupEnd → (List Tree → Rule) → Standing
@@ -46,7 +46,7 @@ abbrev pub MayBegin : Due → List Tok → Type 0
 MayBegin (due.Member end) place = IsMember end place
 MayBegin d place = Unit {0}
 
--- whatever the rule comes to from here, it leads to K
+-- every outcome of the rule from here leads to K
 pub record RuleLeads (r : Rule) (K : Outcome Tree → Type 0) (place : List Tok) : Type 0 where
   pub to : (o : Outcome Tree) → ReadsRule r place o → K o
 
@@ -62,7 +62,7 @@ As core node K = Then rule_after_core (Then rule_after_single K)
 As single node K = Then rule_after_single K
 As s t K = K
 
--- the outcome of members of which this one was read first
+-- the outcome of members, with this one before them
 abbrev pub behind : Tree → Outcome (List Tree) → Outcome (List Tree)
 behind x (Read xs place) = Read (x ∷ xs) place
 behind x (Refused r) = Refused r
@@ -80,7 +80,7 @@ abbrev pub sort_of : Level → Sort
 sort_of (part s K) = s
 sort_of (members end K) = node
 
--- whatever what is due comes to from here, it leads where the level says
+-- every outcome, from here, of what is due leads where the level says
 abbrev pub Leads : Level → List Tok → Type 0
 Leads (part s K) place = (o : Outcome Tree) → Reads s place o → K o
 Leads (members end K) place = (o : Outcome (List Tree)) → ReadsAll (Some (end_token end)) place o → K o
@@ -95,7 +95,7 @@ Accepts (members end K) (Refused r) = K (Refused r)
 abbrev pub Made : Sort → Level → Outcome Tree → Type 0
 Made s l = As s (sort_of l) (Accepts l)
 
--- the level within a rule of this sort that was begun at a level
+-- the level within a rule of this sort that began at the given level
 abbrev pub level_of_rule : Standing → Sort → Level → Level
 level_of_rule (awaits_part s then) made l = part s (Then then (Made made l))
 level_of_rule (awaits_members end then) made l = members end (Then then (Made made l))

@@ -5,8 +5,8 @@ use Rattle.latex2mathml_grammar.specs.{Counts.backslashes, Cutting.slices_of, Gr
 use Rattle.latex2mathml_parser.specs.Marks.{NameStands, rest_of}
 use Rattle.latex2mathml_tokens.specs.Tok.{Tok, EOF}
 
--- the slices that are left and their tokens, how many tokens were taken, how many of the slices that are left begin with a
--- backslash, and how many names were compared for those that were taken
+-- the slices that are left and their tokens, the number of tokens taken, the number of slices left that begin with a
+-- backslash, and the number of names compared for the slices taken
 pub record Unread : Type 0 where
   pub slices : List Slice
   pub list : List Tok
@@ -35,12 +35,12 @@ slices_in text = slices_of false (chars text)
 abbrev pub TakesName : List ℕ → Unread → Unread → Type 0
 TakesName bytes old new = NameStands bytes old.list new.list
 
--- of these slices, the first ones were taken, as many as tokens, and the others are left
+-- of these slices, the first ones were taken, one for each token taken, and the others are left
 abbrev pub IsLeftOf : List Slice → Unread → Type 0
 IsLeftOf slices unread = unread.slices ≡ drop unread.tokens slices
 
--- the counts went on as the tokens went: a token that is not left was taken, and each slice with a backslash that is
--- read took 1 to 9 comparisons
+-- the counts went on with the tokens: a token that is no longer left was taken, and k slices read that begin with a
+-- backslash took k to 9 * k comparisons
 pub record GoesOn (old new : Unread) : Type 0 where
   pub tokens : new.tokens + length new.list ≡ old.tokens + length old.list
   pub more : old.tokens ≤ new.tokens
@@ -48,7 +48,7 @@ pub record GoesOn (old new : Unread) : Type 0 where
   pub at_least : old.comparisons + old.backslashes ≤ new.comparisons + new.backslashes
   pub at_most : new.comparisons + 9 * new.backslashes ≤ old.comparisons + 9 * old.backslashes
 
--- the token that stood next is t, and was taken; where none stood, t is the end
+-- t is the next token, which was taken; where no token was left, t is the end
 pub record Takes (t : Tok) (old new : Unread) : Type 0 where
   pub token : t ≡ first_or_end old.list
   pub list : new.list ≡ rest_of old.list
@@ -56,7 +56,7 @@ pub record Takes (t : Tok) (old new : Unread) : Type 0 where
   pub counts : GoesOn old new
 
 -- Reading went on from what was left to what is left now, and the greatest number of frames, which was `before`, is
--- `after`: each frame was opened for a token that was taken, and each such token opened one at most.
+-- `after`: each frame was opened for a token that was taken, and each such token opened at most one.
 pub record OpensFor (old new : Unread) (before after : ℕ) : Type 0 where
   pub taken : after + old.tokens ≤ before + new.tokens
   pub openers : after + openers new.list ≤ before + openers old.list

@@ -9,16 +9,16 @@ ghost use Rattle.latex2mathml_parser.specs.Unread.{GoesOn};
 ghost use Rattle.latex2mathml_tokens.specs.{Lexemes.lexeme_tok, Refusal.IfRefused, Tok.Tok};
 ghost use Rattle.latex2mathml_trees.specs.Tree.{Tree};
 
+use crate::lexer::Lexer;
 use crate::parse::begin::symbol;
 use crate::parse::{Parser, State};
-use crate::reader::Reader;
 use latex2mathml_parts::kind::Kind;
 use latex2mathml_parts::write::write_leaf;
 use latex2mathml_tokens::lexeme::Lexeme;
 use latex2mathml_tokens::{DisplayStyle, LatexError};
 use std::alloc::{AllocError, Global};
 
-/// Room for the markup of most formulas, in bytes. It is asked for at once, and grows for longer ones.
+/// Room for the markup of most formulas, in bytes. It is allocated at once, and grows for longer ones.
 const ROOM: usize = 1024;
 
 /// Appends the `math` element of the tokens that are left. Each node is written and dropped before the next is read, so
@@ -30,17 +30,17 @@ pub(crate) fn append_math(
     markup: &mut String,
 ) -> Result<(), LatexError>
     requires { parser.old.frames.stack.items ≡ [] }
-    ensures rendering { OnOk result ((xs : List Tree) × ReadsFormula parser.old.reader.list xs
+    ensures rendering { OnOk result ((xs : List Tree) × ReadsFormula parser.old.lexer.list xs
         × (string_bytes markup.new ≡ string_bytes markup.old ++ math_print display xs)) }
-    ensures refused { IfRefused result (Refuses parser.old.reader.list) }
-    ensures within { IfRefused result (IsRefusedWithin parser.old.reader parser.new.reader) }
-    ensures all { OnOk result (parser.new.reader.list ≡ []) }
+    ensures refused { IfRefused result (Refuses parser.old.lexer.list) }
+    ensures within { IfRefused result (IsRefusedWithin parser.old.lexer parser.new.lexer) }
+    ensures all { OnOk result (parser.new.lexer.list ≡ []) }
     ensures counted { Counted 0 parser.old parser.new }
     ensures stack { StacksWithin parser.old parser.new }
 {
     markup.push_str(opening_tag(display))?;
     'nodes: loop {
-        let lexeme = parser.reader.take();
+        let lexeme = parser.lexer.take();
         if let Lexeme::EOF = lexeme {
             break 'nodes;
         }
@@ -57,9 +57,9 @@ pub(crate) fn append_math(
 pub(crate) fn math(parser: &mut Parser, display: DisplayStyle) -> Result<String, LatexError>
     requires { parser.old.frames.stack.items ≡ [] }
     ensures rendering { IfOk result (λ markup. IsMathOf parser.old display (string_bytes markup)) }
-    ensures refused { IfRefused result (Refuses parser.old.reader.list) }
-    ensures within { IfRefused result (IsRefusedWithin parser.old.reader parser.new.reader) }
-    ensures all { OnOk result (parser.new.reader.list ≡ []) }
+    ensures refused { IfRefused result (Refuses parser.old.lexer.list) }
+    ensures within { IfRefused result (IsRefusedWithin parser.old.lexer parser.new.lexer) }
+    ensures all { OnOk result (parser.new.lexer.list ≡ []) }
     ensures counted { Counted 0 parser.old parser.new }
 {
     let mut markup = String::with_capacity(parser.alloc, ROOM)?;
@@ -67,7 +67,7 @@ pub(crate) fn math(parser: &mut Parser, display: DisplayStyle) -> Result<String,
     Ok(markup)
 }
 
-/// The tag that opens the `math` element.
+/// Returns the tag that opens the `math` element.
 fn opening_tag(display: DisplayStyle) -> &'static str
     ensures { result.now ≡ math_opening display }
 {
@@ -79,8 +79,8 @@ fn opening_tag(display: DisplayStyle) -> &'static str
     }
 }
 
-/// Appends the node of the formula that begins with this lexeme, which was taken. Returns whether it could be read: where
-/// it could not, the parser holds why the formula is refused.
+/// Appends the node of the formula that begins with this lexeme, which was taken. Returns whether it could be read: if
+/// not, the parser holds why the formula is refused.
 #[inline(always)]
 fn append_node<'a>(
     parser: &mut Parser<'a>,
@@ -88,12 +88,12 @@ fn append_node<'a>(
     markup: &mut String,
 ) -> Result<bool, AllocError>
     requires { parser.old.frames.stack.items ≡ [] }
-    ensures node { (input : List Tok) → input ≡ lexeme_tok lexeme.entry ∷ parser.old.reader.list
+    ensures node { (input : List Tok) → input ≡ lexeme_tok lexeme.entry ∷ parser.old.lexer.list
         → IfOk result (IsAppended input parser.new markup.old markup.new) }
     ensures counted { Counted (opens (lexeme_tok lexeme.entry)) parser.old parser.new }
 {
-    // Most nodes are one such lexeme. These need no part.
-    if let Some(leaf) = lone_leaf(&mut parser.reader, lexeme) {
+    // Most nodes are one lexeme by itself, which needs no part.
+    if let Some(leaf) = lone_leaf(&mut parser.lexer, lexeme) {
         write_leaf(leaf, markup)?;
         return Ok(true);
     }
@@ -102,15 +102,15 @@ fn append_node<'a>(
     append_rest(parser, state, markup)
 }
 
-/// The part of a lexeme, which was taken, if it is a node by itself: it has no operands, and no mark follows it.
+/// Returns the part of a lexeme, which was taken, if it is a node by itself: it has no operands, and no mark follows it.
 #[inline(always)]
-fn lone_leaf<'a>(reader: &mut Reader<'a>, lexeme: Lexeme<'a>) -> Option<Kind<'a>>
-    ensures leaf { IfSome result (IsLoneLeaf lexeme.entry reader.old.list) }
-    ensures list { reader.new.list ≡ reader.old.list }
-    ensures counts { GoesOn reader.old reader.new }
+fn lone_leaf<'a>(lexer: &mut Lexer<'a>, lexeme: Lexeme<'a>) -> Option<Kind<'a>>
+    ensures leaf { IfSome result (IsLoneLeaf lexeme.entry lexer.old.list) }
+    ensures list { lexer.new.list ≡ lexer.old.list }
+    ensures counts { GoesOn lexer.old lexer.new }
 {
     let leaf = symbol(lexeme)?;
-    match reader.mark() {
+    match lexer.mark() {
         None => Some(leaf),
         Some(_) => None,
     }
@@ -132,14 +132,14 @@ fn append_rest(parser: &mut Parser, begun: State, markup: &mut String) -> Result
     Ok(true)
 }
 
-/// Converts the formulas of a text, one after another. It keeps the room that it works in from each to the next.
+/// Converts the formulas of a text, one after another. It keeps its working memory from each to the next.
 #[derive(Drop)]
 pub struct Converter<'a> {
     parser: Parser<'a>,
 }
 
 impl<'a> Converter<'a> {
-    /// A converter that has no room yet.
+    /// Returns a converter that has no working memory yet.
     pub fn new(alloc: Global) -> Converter<'a> {
         Converter {
             parser: Parser::new(alloc, ""),
@@ -147,6 +147,10 @@ impl<'a> Converter<'a> {
     }
 
     /// Appends the markup of a formula to the text, whatever was converted before it.
+    ///
+    /// # Errors
+    ///
+    /// The same as those of [`latex_to_mathml`](crate::latex_to_mathml). A part of the markup may have been appended then.
     pub fn append(
         &mut self,
         text: &mut String,

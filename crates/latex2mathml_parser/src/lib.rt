@@ -1,7 +1,7 @@
 //! One formula, from its text to its markup.
 //!
-//! The crate `latex2mathml_grammar` defines what each formula means, and has laws of that. The crate `latex2mathml` re-exports
-//! what its callers need from this one.
+//! The crate `latex2mathml_grammar` defines what each formula means, and has laws about it. The crate `latex2mathml`
+//! re-exports what its callers need from this one.
 #![tactic(auto)]
 
 ghost use Rattle.std.specs.Prelude.{◌≢◌, ◌≤◌, IfOk, is_ok, length, string_bytes};
@@ -12,30 +12,30 @@ ghost use Rattle.latex2mathml_tokens.specs.Refusal.{IfRefused, InvalidNumberOfDo
 ghost use Rattle.latex2mathml_grammar.specs.Rendering.{IsRendering, IsFormulaRefusal};
 
 mod formula;
+mod lexer;
 mod parse;
-mod reader;
 
 pub use formula::Converter;
 use latex2mathml_tokens::{DisplayStyle, LatexError};
 use parse::Parser;
 use std::alloc::Global;
 
-/// The `math` element of a formula.
+/// Returns the `math` element of a formula.
 ///
-/// A character or a command that has no meaning is no refusal: it stands in the markup as
-/// `<mtext>[PARSE ERROR: ..]</mtext>`. An `Err` leaves nothing behind:
+/// A character or a command that has no meaning is not refused: it appears in the markup as
+/// `<mtext>[PARSE ERROR: ..]</mtext>`. An `Err` leaves nothing behind. It is one of these:
 ///
 /// - [`LatexError::UnexpectedToken`]: a group is open at the end of the text, or no parenthesis follows a size.
-/// - [`LatexError::MissingParensethis`]: no fence follows `\left` or `\right`, or `\middle` stands before what does not
-///   stretch.
-/// - [`LatexError::UnknownEnvironment`]: `\begin` names an environment that there is not.
-/// - [`LatexError::OutOfMemory`]: an allocation was refused.
+/// - [`LatexError::MissingParensethis`]: no fence follows `\left` or `\right`, or what follows `\middle` does not stretch.
+/// - [`LatexError::UnknownEnvironment`]: `\begin` names an environment that does not exist.
+/// - [`LatexError::OutOfMemory`]: an allocation failed.
 ///
-/// [`LatexError::InvalidNumberOfDollarSigns`] never comes: it is a refusal of documents.
+/// [`LatexError::InvalidNumberOfDollarSigns`] is never returned: it is a refusal of documents.
 ///
-/// Neither reading nor printing recurses, however deep the formula is nested: what is nested takes memory for a list.
+/// Neither reading nor printing recurses, however deeply the formula is nested: nesting takes memory for a list.
 ///
-/// `x<y`, inline, is `<math xmlns="http://www.w3.org/1998/Math/MathML" display="inline"><mi>x</mi><mo>&lt;</mo><mi>y</mi></math>`.
+/// `x<y`, inline, is
+/// `<math xmlns="http://www.w3.org/1998/Math/MathML" display="inline"><mi>x</mi><mo>&lt;</mo><mi>y</mi></math>`.
 pub fn latex_to_mathml(
     alloc: Global,
     latex: &str,
@@ -62,7 +62,7 @@ pub struct Steps {
     pub frames: u128,
 }
 
-/// The `math` element of a formula, as [`latex_to_mathml`] answers it, and how many steps the reading took.
+/// Returns the `math` element of a formula, as [`latex_to_mathml`] does, and how many steps the reading took.
 pub fn latex_to_mathml_counted(
     alloc: Global,
     latex: &str,
@@ -82,8 +82,8 @@ pub fn latex_to_mathml_counted(
     let mut parser = Parser::new(alloc, latex);
     let result = formula::math(&mut parser, display);
     let steps = Steps {
-        tokens: parser.reader.tokens(),
-        comparisons: parser.reader.comparisons(),
+        tokens: parser.lexer.tokens(),
+        comparisons: parser.lexer.comparisons(),
         frames: parser.frames.greatest,
     };
     (result, steps)

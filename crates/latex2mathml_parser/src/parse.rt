@@ -15,7 +15,7 @@ mod deliver;
 pub(crate) mod frames;
 mod marks;
 
-use crate::reader::Reader;
+use crate::lexer::Lexer;
 use frames::{Due, Frame, Frames};
 use latex2mathml_parts::parts::Parts;
 use latex2mathml_parts::work::Works;
@@ -25,14 +25,14 @@ use latex2mathml_tokens::token::Token;
 use std::alloc::{AllocError, Global};
 use std::mem;
 
-/// What the next step has to do. The part that it speaks of is the last tree.
+/// What the next step has to do. The part that it refers to is the last tree.
 #[derive(Clone, Copy)]
 pub(crate) enum State {
-    /// To read what is due.
+    /// Read what is due.
     Next,
-    /// To go on after a core.
+    /// Go on after a core.
     Core,
-    /// To give the innermost frame the part that it waits for.
+    /// Give the innermost frame the part that it waits for.
     Part,
     /// Nothing: the node of the formula is read.
     End,
@@ -44,30 +44,30 @@ pub(crate) enum State {
 #[derive(Drop)]
 pub(crate) struct Parser<'a> {
     pub(crate) alloc: Global,
-    pub(crate) reader: Reader<'a>,
+    pub(crate) lexer: Lexer<'a>,
     pub(crate) frames: Frames<'a>,
     /// The trees that were read.
     pub(crate) parts: Parts<'a>,
     /// Room for the writer.
     pub(crate) works: Works,
-    /// Why the formula is refused. It lies here so that what each step returns is small.
+    /// Why the formula is refused. It is kept here so that what each step returns is small.
     refusal: LatexError,
 }
 
 impl<'a> Parser<'a> {
-    /// A parser that has read nothing.
+    /// Returns a parser that has read nothing.
     pub(crate) fn new(alloc: Global, text: &'a str) -> Parser<'a>
-        ensures slices { result.reader.slices ≡ slices_in text.now }
-        ensures list { result.reader.list ≡ token_list (slices_in text.now) }
-        ensures tokens { result.reader.tokens ≡ 0 }
-        ensures backslashes { result.reader.backslashes ≡ backslashes (slices_in text.now) }
-        ensures comparisons { result.reader.comparisons ≡ 0 }
+        ensures slices { result.lexer.slices ≡ slices_in text.now }
+        ensures list { result.lexer.list ≡ token_list (slices_in text.now) }
+        ensures tokens { result.lexer.tokens ≡ 0 }
+        ensures backslashes { result.lexer.backslashes ≡ backslashes (slices_in text.now) }
+        ensures comparisons { result.lexer.comparisons ≡ 0 }
         ensures closed { result.frames.stack.items ≡ [] }
         ensures greatest { result.frames.greatest ≡ 0 }
     {
         Parser {
             alloc,
-            reader: Reader::new(text),
+            lexer: Lexer::new(text),
             frames: Frames::new(alloc),
             parts: Parts::new(alloc),
             works: Works::new(alloc),
@@ -75,18 +75,18 @@ impl<'a> Parser<'a> {
         }
     }
 
-    /// Begins anew with a text. The lists keep their room.
+    /// Starts again with this text. The lists keep their room.
     pub(crate) fn restart(&mut self, text: &'a str)
-        ensures list { self.new.reader.list ≡ token_list (slices_in text.now) }
+        ensures list { self.new.lexer.list ≡ token_list (slices_in text.now) }
         ensures closed { self.new.frames.stack.items ≡ [] }
     {
-        self.reader = Reader::new(text);
+        self.lexer = Lexer::new(text);
         self.frames.clear();
         self.parts.clear();
     }
 
     /// Goes on until the node of the formula is read, or the formula is refused. Returns whether the node is read: it is
-    /// the last tree then.
+    /// then the last tree.
     #[inline(always)]
     #[tactic(auto, using(crate::proofs::Stepping::counted_none, crate::proofs::Stepping::stacks_within))]
     pub(crate) fn finish(&mut self, begun: State) -> Result<bool, AllocError>
@@ -106,7 +106,7 @@ impl<'a> Parser<'a> {
         }
     }
 
-    /// Takes out why the formula is refused.
+    /// Takes out the reason why the formula is refused.
     #[cold]
     pub(crate) fn refusal(&mut self) -> LatexError
         ensures refusal { result ≡ self.old.refusal }
@@ -138,7 +138,7 @@ impl<'a> Parser<'a> {
         ensures holds { Keeps State.Next self.old self.new result }
         ensures step { IsStep 0 (weight_of State.Next self.old) self.old self.new result }
     {
-        let lexeme = self.reader.take();
+        let lexeme = self.lexer.take();
         if let Lexeme::EOF = lexeme {
             return self.at_end();
         }
@@ -148,11 +148,11 @@ impl<'a> Parser<'a> {
         self.begin_any(lexeme)
     }
 
-    /// What is due where no token is left: an open group is refused, and any other part is `EOF`, marked as an error.
+    /// Goes on where no token is left: an open group is refused, and any other part that is due is `EOF`, marked as an error.
     #[tactic(auto, using(crate::proofs::Stacks::group_open, crate::proofs::Stacks::nothing_begun))]
     fn at_end(&mut self) -> Result<State, AllocError>
         requires { HasTrees 0 self.old }
-        ensures holds { self.old.reader.list ≡ [] → Keeps State.Next self.old self.new result }
+        ensures holds { self.old.lexer.list ≡ [] → Keeps State.Next self.old self.new result }
         ensures step { IsStep 0 (weight_of State.Next self.old) self.old self.new result }
     {
         if let Due::Member(end) = self.frames.due() {
@@ -175,7 +175,7 @@ impl<'a> Parser<'a> {
         State::Refused
     }
 
-    /// Refuses the formula, because this lexeme stands after a token where a fence must stand.
+    /// Refuses the formula, because this lexeme follows a token that a fence must follow.
     #[cold]
     fn refuse_fence(&mut self, location: Token, got: Lexeme) -> Result<State, AllocError>
         requires { HasTrees 0 self.old }
@@ -187,7 +187,7 @@ impl<'a> Parser<'a> {
         Ok(self.refuse(LatexError::MissingParensethis { location, got }))
     }
 
-    /// Opens a frame. Its next part is due then.
+    /// Opens a frame. Its next part is then due.
     #[tactic(auto, using(crate::proofs::Stacks::put_on))]
     fn open(&mut self, frame: Frame<'a>) -> Result<State, AllocError>
         requires fit { unfit frame ≡ 0 }
@@ -199,7 +199,7 @@ impl<'a> Parser<'a> {
         Ok(State::Next)
     }
 
-    /// Puts a frame back that was taken off. Its next part is due then. This is no opening: the frame was counted before.
+    /// Puts back a frame that was taken off. Its next part is then due. This opens no frame: the frame was counted before.
     #[tactic(auto, using(crate::proofs::Stacks::put_on))]
     fn put_back(&mut self, frame: Frame<'a>) -> Result<State, AllocError>
         requires fit { unfit frame ≡ 0 }

@@ -16,11 +16,11 @@ grouped_row [] h = refl
 grouped_row (x ∷ []) h = absurd (h refl)
 grouped_row (x ∷ y ∷ ys) h = refl
 
--- several trees are a row
+-- no tree or several trees are a row
 pub last_trees : (count : ℕ) (ts : List Tree) → count ≢ 1 → count ≤ length ts → group_tree (reverse (take count ts)) ≡ row (trees_of (reverse (take count ts)))
 last_trees count ts h k = grouped_row (reverse (take count ts)) (λ g. h (sym (length-take-le count ts k) ∙ sym (length-reverse (take count ts)) ∙ g))
 
--- a matrix is put after one member, which is no row
+-- a matrix is put after one member, which is not a row
 pub matrix_one : (texts : List (List ℕ)) (align : ColumnAlign) (ts : List Tree) → 0 < length ts → matrix_members (top ts) ≡ more_trees (top ts) no_trees → put_form texts (form.Matrix 1 None align) ts ≡ matrix_of align (top ts) ∷ drop 2 ts
 matrix_one texts align [] h e = absurd (omega arith)
 matrix_one texts align (t ∷ ts) h e = ap (λ xs. matrix xs align ∷ drop 1 ts) (all_plain (more_trees t no_trees) ∙ sym e)
@@ -46,7 +46,7 @@ stands_spread texts ps align count style start h a k e s t w =
       below = ap (λ n. forest texts (take n ps)) (omega arith) ∙ t ∙ ap (drop 2) e ∙ drop_one_more count ts;
     }
 
--- below so many trees stands one more
+-- below the last `count` trees there is one more
 pub some_below : (texts : List (List ℕ)) (ps : List Part) (count start : ℕ) → count < length (forest texts ps) → forest texts (take start ps) ≡ drop count (forest texts ps) → 0 < start
 some_below texts ps count zero h t = let e : length (forest texts (take zero ps)) ≡ length (drop count (forest texts ps)) = ap length t in absurd (omega (arith, h, e, length-drop count (forest texts ps)))
 some_below texts ps count (suc n) h t = omega arith

@@ -1,4 +1,4 @@
--- The trees of a list of parts: where they stand, and what they become when a part is put or changed.
+-- The trees of a list of parts: where they are, and what they become when a part is put or changed.
 use Rattle.std.proofs.Common.{◌≡◌, ℕ, ◌+◌, ◌-◌, ◌<◌, ◌≤◌, List, [], ◌∷◌, ◌++◌, length, length-append, take, drop, slice_index_or, slice_set, suc, zero, refl, sym, ap, ◌∙◌, arith, subst, ◌⊎◌, inl, inr}
 use Rattle.std.proofs.lemmas.List.{get_or-take, length-set, length-take-le, take-append-le, take-take}
 use Rattle.std.proofs.{lemmas.Grind.take-set_at, Math.Seq.take-suc, Math.Seq.take-length, Math.Seq.get_or-append_seam}
@@ -13,12 +13,12 @@ pub forest_on-append : (texts : List (List ℕ)) (ts : List Tree) (ps qs : List 
 forest_on-append texts ts [] qs = refl
 forest_on-append texts ts (p ∷ ps) qs = forest_on-append texts (put_form texts p.form ts) ps qs
 
--- a part of a whole list stands at its place
+-- a part of a whole list is at its place
 pub part_stands : (texts : List (List ℕ)) (ps : List Part) (n : ℕ) (p : Part) → AreWhole texts ps → n < length ps → p ≡ slice_index_or ps n p → Stands texts ps n p
 unfolding AreWhole
 part_stands texts ps n p w h e = subst (Stands texts ps n) (sym e) (w n p h)
 
--- the forest of one part more
+-- the forest of one more part
 pub forest_more : (texts : List (List ℕ)) (ps : List Part) (n : ℕ) (d : Part) → n < length ps → forest texts (take (suc n) ps) ≡ put_form texts (slice_index_or ps n d).form (forest texts (take n ps))
 forest_more texts ps n d h = ap (forest texts) (take-suc ps n d h) ∙ forest_on-append texts [] (take n ps) (slice_index_or ps n d ∷ [])
 
@@ -28,7 +28,7 @@ forest_pushed texts ps p = forest_on-append texts [] ps (p ∷ [])
 same_forest : (texts : List (List ℕ)) (ps : List Part) (p : Part) (n : ℕ) → n ≤ length ps → forest texts (take n (ps ++ p ∷ [])) ≡ forest texts (take n ps)
 same_forest texts ps p n h = ap (forest texts) (take-append-le n ps (p ∷ []) h)
 
--- a part stands where it stood, if the trees before it are the same
+-- a part is where it was, if the trees before it are the same
 stands_among : (texts us : List (List ℕ)) (ps qs : List Part) (n : ℕ) (p : Part) → HasText us p.form → ((m : ℕ) → m ≤ n → forest us (take m qs) ≡ forest texts (take m ps)) → Stands texts ps n p → Stands us qs n p
 stands_among texts us ps qs n p h same s = record {
   text = h;
@@ -60,7 +60,7 @@ whole_pushed texts ps p start w x a s z t n d h = at (eq-or-lt_of_le {n = n} {m 
     at (inl e) = subst (λ m. Stands texts (ps ++ p ∷ []) m (slice_index_or (ps ++ p ∷ []) m d)) (sym e) (subst (Stands texts (ps ++ p ∷ []) (length ps)) (sym (get_or-append_seam ps p [] d)) (stands_last texts ps p start x a s z t))
     at (inr k) = subst (Stands texts (ps ++ p ∷ []) n) (sym (get_or-append ps (p ∷ []) d n k)) (stands_among texts texts ps (ps ++ p ∷ []) n _ (w n d k).text (λ m i. same_forest texts ps p m (omega arith)) (w n d k))
 
--- the first parts of whole ones
+-- the first parts of a whole list
 pub whole_taken : (texts : List (List ℕ)) (ps : List Part) (n : ℕ) → n ≤ length ps → AreWhole texts ps → AreWhole texts (take n ps)
 unfolding AreWhole
 whole_taken texts ps n h w m d i =
@@ -102,7 +102,7 @@ last_set ps q h =
     let qs = slice_set ps (length ps - 1) q in
     sym (take-length qs) ∙ ap (λ n. take n qs) (length-set ps (length ps - 1) q) ∙ take-set_at ps (length ps - 1) (length ps) q (omega arith) (omega arith)
 
--- a text more is set aside
+-- one more text is set aside
 form_kept : (texts : List (List ℕ)) (t : List ℕ) (f : Form) (ts : List Tree) → HasText texts f → put_form (texts ++ t ∷ []) f ts ≡ put_form texts f ts
 form_kept texts t (form.Name place) ts h = ap (λ l. function l ∷ ts) (get_or-append texts (t ∷ []) [] place h)
 form_kept texts t (form.Words place) ts h = ap (λ l. words l ∷ ts) (get_or-append texts (t ∷ []) [] place h)
@@ -140,7 +140,7 @@ whole_aside texts t ps w n d h =
 pub all_taken : (texts : List (List ℕ)) (ps : List Part) → forest texts (take (length ps) ps) ≡ forest texts ps
 all_taken texts ps = ap (forest texts) (take-length ps)
 
--- a part of another form stands where a part stands, if it has as many operands
+-- a part of another form can be where a part is, if it has as many operands
 pub stands_as : (texts : List (List ℕ)) (ps : List Part) (n : ℕ) (p : Part) (f : Form) → arity_of f ≡ arity_of p.form → HasText texts f → Stands texts ps n p → Stands texts ps n (record { form = f; size = p.size })
 stands_as texts ps n p f a x s = record {
   text = x;

@@ -23,7 +23,7 @@ group_print (group.Matrix align) s xs =
     three (codes "<mtable") (align_text align) (codes "><mtr><mtd>") (members_in (group.Matrix align) s xs ++ close)
     ∙ ap (λ l. codes "<mtable" ++ (align_text align ++ (codes "><mtr><mtd>" ++ (l ++ close)))) (sym (cells-in align s xs))
 
--- what is put of members is less than what there is to write of the group
+-- what is pushed for members is less than what there is to write of the group
 pub group_weight : (g : Group) (s : Option Variant) (xs : List Tree) → print_weight (tree_of_group g (all_in s (trees_of (reverse xs)))) ≡ sum_by print_weight xs + 16
 group_weight group.Row s xs = omega (arith, members_weight s xs)
 group_weight (group.Matrix align) s xs = omega (arith, members_weight s xs)

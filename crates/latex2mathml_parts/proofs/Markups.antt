@@ -1,4 +1,4 @@
--- The markup of trees, as it is written: the parts of it that are fixed stand together.
+-- The markup of trees, as it is written: its fixed parts are joined.
 use Rattle.std.proofs.Common.{◌≡◌, ℕ, List, ◌++◌, append_assoc, codes, Some}
 use Rattle.std.specs.Fmt.{digits}
 use Rattle.latex2mathml_trees.specs.{Print.print, Print.style_open, Tree.Tree, Tree.operator}

@@ -6,12 +6,12 @@ use Rattle.latex2mathml_parts.specs.declared.kind.Kind.TheVariants as kind
 use Rattle.latex2mathml_parts.specs.declared.form.Form.{Form}
 use Rattle.latex2mathml_parts.specs.declared.form.Form.TheVariants as form
 
--- below a part stand the trees that are not its operands
+-- below a part are the trees that are not its operands
 pub below_put : (k : Kind) (ts : List Tree) → drop 1 (put k ts) ≡ drop (arity k) ts
 below_put (kind.Number digits) ts = refl
 below_put k ts = refl
 
--- The same of the parts of the list.
+-- The same for the parts of the list.
 
 pub below_form : (texts : List (List ℕ)) (f : Form) (ts : List Tree) → drop 1 (put_form texts f ts) ≡ drop (arity_of f) ts
 below_form texts (form.Of k) ts = below_put k ts

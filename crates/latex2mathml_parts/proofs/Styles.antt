@@ -6,7 +6,7 @@ use Rattle.latex2mathml_trees.specs.Tree.{Tree, Trees, no_trees, more_trees, let
 use Rattle.latex2mathml_tokens.specs.declared.attribute.Variant.{Variant}
 use Rattle.latex2mathml_parts.specs.Forms.{all_in, in_style}
 
--- no style changes nothing
+-- giving no style changes nothing
 mutual
   pub plain : (x : Tree) → in_style None x ≡ x
   plain (letter c own) = refl
@@ -17,7 +17,7 @@ mutual
   all_plain no_trees = refl
   all_plain (more_trees x rest) = cc (plain x, all_plain rest)
 
--- of two styles the one that is given later stays
+-- of two styles, the one that is given later stays
 mutual
   restyled : (v : Variant) (s : Option Variant) (x : Tree) → in_style (Some v) x ≡ styled v (in_style s x)
   restyled v s (letter c own) = refl
@@ -39,7 +39,7 @@ mutual
   weights_in s no_trees = refl
   weights_in s (more_trees x rest) = cc (weight_in s x, weights_in s rest)
 
--- of two styles the outer one stays
+-- of two styles, the outer one stays
 mutual
   twice : (s o : Option Variant) (x : Tree) → in_style s (in_style o x) ≡ in_style (option_or s o) x
   twice None o (letter c own) = refl

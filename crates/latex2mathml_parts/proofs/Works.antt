@@ -13,7 +13,7 @@ sum_reversed : (xs : List Tree) → sum_by print_weight (reverse xs) ≡ sum_by 
 sum_reversed [] = refl
 sum_reversed (x ∷ xs) = rw (reverse-append (x ∷ []) xs) (omega (arith, sum_by_push print_weight (reverse xs) x, sum_reversed xs, sum_by-cons print_weight x xs))
 
--- the members that are left, of which the last is put on the list
+-- the members that are left, of which the last is pushed onto the list
 pub members_step : (f : Tree → List ℕ) (j : ℕ) (ts us : List Tree) (d e : List ℕ) → suc j ≤ length ts → us ≡ drop 1 ts → e ≡ f (top ts) ++ d → flat_map f (reverse (take j us)) ++ e ≡ flat_map f (reverse (take (suc j) ts)) ++ d
 members_step f j [] us d e h i g = absurd (omega arith)
 members_step f j (t ∷ ts) us d e h i g =
@@ -27,6 +27,6 @@ weights_of : (xs : List Tree) → sum_by print_weight xs ≡ weights (trees_of x
 weights_of [] = refl
 weights_of (x ∷ xs) = omega (arith, weights_of xs, sum_by-cons print_weight x xs)
 
--- what is put of members is what there is to write of them
+-- what is pushed for members is what there is to write of them
 pub members_weight : (s : Option Variant) (xs : List Tree) → sum_by print_weight xs ≡ weights (all_in s (trees_of (reverse xs))) * 8
 members_weight s xs = omega (arith, weights_in s (trees_of (reverse xs)), weights_of (reverse xs), sum_reversed xs)

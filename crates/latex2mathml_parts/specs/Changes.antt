@@ -9,7 +9,7 @@ use Rattle.latex2mathml_tokens.specs.{Lexemes.lexeme_tok, TokenText.token_text, 
 abbrev pub Makes : Tree → ℕ → Forest → Forest → Type 0
 Makes x n old new = trees_in new ≡ x ∷ drop n (trees_in old)
 
--- .. where there is such a tree
+-- this tree, where there is one, took the place of the last n
 abbrev pub MakesSome : Option Tree → ℕ → Forest → Forest → Type 0
 MakesSome made n old new = (x : Tree) × (made ≡ Some x) × Makes x n old new
 
@@ -21,7 +21,7 @@ MakesNone made old new = (made ≡ None) × (trees_in new ≡ trees_in old)
 abbrev pub error_tree : Lexeme → Tree
 error_tree lexeme = undefined (token_text (lexeme_tok lexeme))
 
--- the last n trees as one
+-- the last n trees as one tree
 abbrev pub group_of : Forest → ℕ → Tree
 group_of f n = group_tree (reverse (take n (trees_in f)))
 

@@ -12,7 +12,7 @@ forest_on texts ts (p ∷ ps) = forest_on texts (put_form texts p.form ts) ps
 abbrev pub forest : List (List ℕ) → List Part → List Tree
 forest texts = forest_on texts []
 
--- a part stands at this place after its operands, and its size leads to where they begin
+-- the part is at this place, after its operands, and its size leads to where they begin
 pub record Stands (texts : List (List ℕ)) (ps : List Part) (n : ℕ) (p : Part) : Type 0 where
   pub text : HasText texts p.form
   pub fits : arity_of p.form ≤ length (forest texts (take n ps))
@@ -23,11 +23,11 @@ pub record Stands (texts : List (List ℕ)) (ps : List Part) (n : ℕ) (p : Part
 unfoldable pub AreWhole : List (List ℕ) → List Part → Type 0
 AreWhole texts ps = (n : ℕ) (d : Part) → n < length ps → Stands texts ps n (slice_index_or ps n d)
 
--- the texts that stand aside, as their bytes
+-- the texts set aside, as their bytes
 abbrev pub aside : List (String Global) → List (List ℕ)
 aside = map string_bytes
 
--- The list of the parts with the texts that stand aside, as contracts see it.
+-- The list of the parts with the texts set aside, as contracts see it.
 pub record Forest : Type 0 where
   pub texts : List (List ℕ)
   pub list : List Part
@@ -36,11 +36,11 @@ pub record Forest : Type 0 where
 abbrev pub trees_in : Forest → List Tree
 trees_in f = forest f.texts f.list
 
--- the trees of so many of its parts
+-- the trees of its first `end` parts
 abbrev pub trees_at : Forest → ℕ → List Tree
 trees_at f end = forest f.texts (take end f.list)
 
--- the last of them
+-- the last of these trees
 abbrev pub tree_at : Forest → ℕ → Tree
 tree_at f end = top (trees_at f end)
 
@@ -52,7 +52,7 @@ last_in f = top (trees_in f)
 abbrev pub with_form : Forest → Form → ℕ → List Tree
 with_form f form end = put_form f.texts form (trees_at f end)
 
--- the last tree of these
+-- the last of these trees
 abbrev pub form_tree : Forest → Form → ℕ → Tree
 form_tree f form end = top (with_form f form end)
 
@@ -60,7 +60,7 @@ form_tree f form end = top (with_form f form end)
 abbrev pub one_more : Forest → Form → List Tree
 one_more f form = put_form f.texts form (trees_in f)
 
--- .. and in place of the last part
+-- all trees, with a part of this form in place of the last part
 abbrev pub last_as : Forest → Form → List Tree
 last_as f form = with_form f form (length f.list - 1)
 
@@ -68,6 +68,6 @@ last_as f form = with_form f form (length f.list - 1)
 abbrev pub members_at : Forest → ℕ → ℕ → List Tree
 members_at f count end = reverse (take count (trees_at f end))
 
--- a tree ends after so many parts
+-- a tree ends after the first `end` parts
 abbrev pub IsPlace : Forest → ℕ → Type 0
 IsPlace f end = (0 < end) × (end ≤ length f.list)

@@ -26,7 +26,7 @@ arity_of (form.Row count style) = count
 arity_of (form.Matrix count style align) = suc count
 arity_of f = 0
 
--- the trees with a part of this form after them, where these texts stand aside
+-- the trees with a part of this form after them, where these are the texts set aside
 abbrev pub put_form : List (List ℕ) → Form → List Tree → List Tree
 put_form texts (form.Of kind) ts = put kind ts
 put_form texts (form.Name place) ts = function (slice_index_or texts place []) ∷ ts
@@ -38,18 +38,18 @@ put_form texts form.Slashed ts = slashed (top ts) ∷ drop 1 ts
 put_form texts (form.Row count style) ts = in_style style (row (trees_of (reverse (take count ts)))) ∷ drop count ts
 put_form texts (form.Matrix count style align) ts = matrix (all_in style (trees_of (reverse (take count ts)))) align ∷ drop (suc count) ts
 
--- the text of a part stands aside
+-- the text of a part, if it has one, is set aside
 abbrev pub HasText : List (List ℕ) → Form → Type 0
 HasText texts (form.Name place) = place < length texts
 HasText texts (form.Words place) = place < length texts
 HasText texts (form.Undefined place) = place < length texts
 HasText texts f = Unit {0}
 
--- a part of this form is no operator that grows
+-- a part of this form is not an operator that grows
 abbrev pub IsNoOperator : Form → Type 0
 IsNoOperator f = (texts : List (List ℕ)) (ts : List Tree) → stretched_operator (top (put_form texts f ts)) ≡ None
 
--- the second form is that of the operator which grew
+-- the second form is that of the grown operator
 abbrev pub StretchesTo : Form → Form → Type 0
 StretchesTo f grown =
     (arity_of f ≡ 0)
@@ -58,7 +58,7 @@ StretchesTo f grown =
     × ((texts : List (List ℕ)) (ts : List Tree) → (stretched_operator (top (put_form texts f ts)) ≡ Some (top (put_form texts grown ts)))
     × (put_form texts grown ts ≡ top (put_form texts grown ts) ∷ ts))
 
--- a part of this form is no row, so it is the only member of a matrix
+-- a part of this form is not a row, so it is the only member of a matrix
 abbrev pub IsNoRow : Form → Type 0
 IsNoRow f =
     (texts : List (List ℕ)) (ts : List Tree)

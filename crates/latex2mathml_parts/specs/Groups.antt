@@ -1,4 +1,4 @@
--- Groups of trees: the members, and what stands around them.
+-- Groups of trees: the members, and what surrounds them.
 use Rattle.std.specs.Prelude.{ℕ, List, ◌++◌, Option, codes}
 use Rattle.std.specs.List.{flat_map}
 use Rattle.latex2mathml_trees.specs.Print.{member_print, print}

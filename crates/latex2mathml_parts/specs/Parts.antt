@@ -1,4 +1,4 @@
--- What a part makes of the trees before it. The last tree stands first in a list of trees.
+-- What a part makes of the trees before it. A list of trees begins with the last tree.
 use Rattle.std.specs.Prelude.{ℕ, List, [], ◌∷◌, Option, Some, None, drop}
 use Rattle.latex2mathml_trees.specs.Productions.{binomial_tree, overbrace_tree, labelled_overbrace_tree, prime_mark, underbrace_tree, labelled_underbrace_tree}
 use Rattle.latex2mathml_trees.specs.Tree.{Tree, ampersand, fenced, frac, function, letter, new_line, number, operator, other_operator, over_op, overset, root, sized_paren, space, sqrt, sub_sup, subscript, superscript, under, under_op, under_over, underset, words}
@@ -81,7 +81,7 @@ put (kind.LimitsAboveBelow c) ts = under_over (operator c) (top ts) (top (drop 1
 put (kind.LimitsSubSup c) ts = sub_sup (operator c) (top (drop 1 ts)) (top ts) ∷ drop 2 ts
 put (kind.LimitsSupSub c) ts = sub_sup (operator c) (top ts) (top (drop 1 ts)) ∷ drop 2 ts
 
--- the text of words, and nothing of any other tree
+-- the text of words, and nothing for any other tree
 abbrev pub words_of : Tree → List ℕ
 words_of (words text) = text
 words_of x = []

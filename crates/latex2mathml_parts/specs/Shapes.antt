@@ -1,4 +1,4 @@
--- The markup of parts with operands: what stands before the operands, between them and after them.
+-- The markup of parts with operands: what precedes the operands, what is between them and what follows them.
 use Rattle.std.specs.Prelude.{◌≡◌, ℕ, ◌+◌, ◌*◌, ◌≤◌, List, ◌++◌, Option, Some, None, codes, drop}
 use Rattle.latex2mathml_trees.specs.{Print.print, Tree.Tree, Tree.operator, Tree.sized_paren, Tree.slashed, Weight.weight}
 use Rattle.latex2mathml_tokens.specs.{Attributes.accent_text, Escape.content, Escape.content_char, Names.paren_text, Names.size_text}
@@ -7,11 +7,11 @@ use Rattle.latex2mathml_parts.specs.{Forms.put_form, Parts.put, Parts.top, decla
 use Rattle.latex2mathml_parts.specs.declared.write.shapes.Operands.{Operands}
 use Rattle.latex2mathml_parts.specs.declared.write.shapes.Operands.TheVariants as operands
 
--- the sign over or under a tree, and what stands after it
+-- the sign over or under a tree, and what follows it
 unfoldable pub sign_print : ℕ → Accent → List ℕ → List ℕ
 sign_print c accent after = codes "<mo accent=\"" ++ (accent_text accent ++ (codes "\">" ++ (content_char c ++ after)))
 
--- how much there is to write of a tree: of it, and of each node and list in it, no more than eight works
+-- how much there is to write of a tree: no more than eight works for it, and for each node and list in it
 abbrev pub print_weight : Tree → ℕ
 print_weight x = weight x * 8 + 8
 
@@ -38,7 +38,7 @@ slashed_print texts f ts = print (slashed (top (put_form texts f ts)))
 abbrev pub HidesSlash : Form → Type 0
 HidesSlash f = (texts : List (List ℕ)) (ts : List Tree) → slashed_print texts f ts ≡ print (top (put_form texts f ts))
 
--- what stands before the first operand
+-- what precedes the first operand
 abbrev pub opening : List ℕ → Option ℕ → List ℕ
 opening tag None = tag
 opening tag (Some c) = tag ++ print (operator c)
@@ -48,7 +48,7 @@ abbrev pub count_of : Operands → ℕ
 count_of operands.One = 1
 count_of o = 2
 
--- the operands, which are the last of these trees, and what stands after them
+-- the operands, which are the last of these trees, and what follows them
 abbrev pub operands_print : Operands → List ℕ → List Tree → List ℕ → List ℕ
 operands_print operands.One tag ts after = print (top ts) ++ after
 operands_print operands.Two tag ts after = print (top (drop 1 ts)) ++ (print (top ts) ++ after)

@@ -20,7 +20,7 @@ work_print f (work.SignUnder c accent) = sign_print c accent (codes "</mo></mund
 abbrev pub due : Forest → List Work → List ℕ
 due f ws = flat_map (work_print f) (reverse ws)
 
--- a work is about a tree that there is
+-- the tree that a work is about, if it is about one, exists
 abbrev pub IsIn : Forest → Work → Type 0
 IsIn f (work.Tree end style) = IsPlace f end
 IsIn f k = Unit {0}
@@ -37,7 +37,7 @@ work_weight f k = 1
 abbrev pub load : Forest → List Work → ℕ
 load f = sum_by (work_weight f)
 
--- the tree that is written next, where there is one
+-- the tree that is written next, if there is one
 abbrev pub next_print : Forest → Option ℕ → List ℕ
 next_print f None = []
 next_print f (Some end) = print (tree_at f end)
@@ -50,13 +50,13 @@ abbrev pub IsNext : Forest → Option ℕ → Type 0
 IsNext f None = Unit {0}
 IsNext f (Some end) = IsPlace f end
 
--- A text and what was due become a text, a tree that is next, if one is, and what is due then: they come to the same with
--- this markup between the text and what was due.
+-- A text and what was due become a new text, the next tree, if there is one, and what is then due. Together, these are
+-- the old text, this markup and what was due.
 abbrev pub Writes : Forest → String Global → Vec Work Global → String Global → Vec Work Global → List ℕ → Option ℕ → Type 0
 Writes f old ws new vs markup next =
     string_bytes new ++ (next_print f next ++ due f vs.items) ≡ string_bytes old ++ (markup ++ due f ws.items)
 
--- What is left, with the tree that is next, is about trees that there are, and is less than this much more.
+-- What is left, with the next tree, is about trees that exist, and is less than what was due plus this much.
 abbrev pub Leaves : Forest → Vec Work Global → Vec Work Global → ℕ → Option ℕ → Type 0
 Leaves f ws vs more next =
     AreIn f vs.items × (IsNext f next × (load f vs.items + next_weight f next < load f ws.items + more))
@@ -65,13 +65,13 @@ Leaves f ws vs more next =
 abbrev pub Adds : Forest → Vec Work Global → Vec Work Global → List ℕ → Type 0
 Adds f ws vs markup = due f vs.items ≡ markup ++ due f ws.items
 
--- the tree that is next and what is due then come to the same as the operands of a shape and what was due
+-- the next tree and what is then due give the same markup as the operands of a shape and what was due
 abbrev pub WritesOperands : Forest → Shape → ℕ → Vec Work Global → Vec Work Global → ℕ → Type 0
 WritesOperands f shape end ws vs next =
     print (tree_at f next) ++ due f vs.items
     ≡ operands_print shape.operands shape.before.now (trees_at f end) (work_print f shape.after) ++ due f ws.items
 
--- .. and there is less left to write
+-- what is left, with the next tree, is less than what was due plus the operands of the shape plus 4
 abbrev pub LeavesOperands : Forest → Shape → ℕ → Vec Work Global → Vec Work Global → ℕ → Type 0
 LeavesOperands f shape end ws vs next =
     load f vs.items + print_weight (tree_at f next) < load f ws.items + operands_weight shape.operands (trees_at f end) + 4

@@ -1,4 +1,4 @@
-//! What the parser calls: it puts a part, and changes the last trees.
+//! The functions that the parser calls: they put a part, or change the last trees.
 ghost use Rattle.std.specs.Prelude.{◌≡◌, ◌-◌, ◌<◌, ◌≤◌, suc, IfOk, MatchBool, OnOk, length, string_bytes};
 ghost use Rattle.latex2mathml_trees.specs.Productions.{matrix_of, stretched_operator};
 ghost use Rattle.latex2mathml_trees.specs.{Style.styled, Tree.function, Tree.slashed, Tree.words};
@@ -17,7 +17,7 @@ use latex2mathml_tokens::token::text::TokenText;
 use std::alloc::AllocError;
 
 impl<'a> Parts<'a> {
-    /// Puts a part after its operands, which are the last trees. It and they are one tree then.
+    /// Puts a part after its operands, which are the last trees. Together, they are then one tree.
     #[inline(always)]
     pub fn put(&mut self, kind: Kind<'a>) -> Result<(), AllocError>
         requires { arity kind ≤ length (trees_in self.old) }
@@ -26,7 +26,7 @@ impl<'a> Parts<'a> {
         self.push(kind.arity(), Form::Of(kind))
     }
 
-    /// Puts a token that has no meaning where it stands. It is marked as an error.
+    /// Puts a token that has no meaning where it appears. It is marked as an error.
     #[inline(never)]
     pub fn put_error(&mut self, lexeme: Lexeme<'a>) -> Result<(), AllocError>
         ensures { OnOk result (Makes (error_tree lexeme.entry) 0 self.old self.new) }
@@ -74,7 +74,7 @@ impl<'a> Parts<'a> {
         });
     }
 
-    /// Lets the last tree grow with what stands around it, and returns whether it is an operator that does.
+    /// Lets the last tree grow with what surrounds it, and returns whether it is an operator that does.
     #[inline(always)]
     pub fn stretch(&mut self) -> bool
         requires { 0 < length (trees_in self.old) }
@@ -95,7 +95,7 @@ impl<'a> Parts<'a> {
         }
     }
 
-    /// Makes one tree of the last trees, which are so many: one is itself, none or several are a row.
+    /// Makes one tree of the last `count` trees: one tree stays as it is, none or several become a row.
     #[inline(always)]
     #[tactic(auto, using(crate::proofs::Styles::plain, crate::proofs::Styles::all_plain, crate::proofs::Changes::last_trees))]
     pub fn group(&mut self, count: usize) -> Result<(), AllocError>
@@ -108,8 +108,8 @@ impl<'a> Parts<'a> {
         self.push(count, Form::Row(count, None))
     }
 
-    /// Makes an environment of the last trees, which are so many, and of its name, which stands below them as words.
-    /// Returns whether there is an environment of this name.
+    /// Makes an environment of the last `count` trees and of its name, which is below them as words. Returns whether
+    /// there is an environment of this name.
     pub fn environment(&mut self, count: usize) -> Result<bool, AllocError>
         requires { count < length (trees_in self.old) }
         ensures { IfOk result (λ made. MatchBool made
@@ -130,7 +130,7 @@ impl<'a> Parts<'a> {
         }
     }
 
-    /// The words below the last trees, which are so many. It is empty where no words stand there.
+    /// Returns the words below the last `count` trees, or an empty text where there are none.
     #[tactic(auto, using(crate::proofs::Changes::some_below))]
     pub fn name(&self, count: usize) -> &str
         requires { count < length (trees_in self.now) }
@@ -142,7 +142,7 @@ impl<'a> Parts<'a> {
         }
     }
 
-    /// Makes a matrix of the last trees, which are so many, and of the name below them.
+    /// Makes a matrix of the last `count` trees and of the name below them.
     #[tactic(auto, using(crate::proofs::Styles::all_plain, crate::proofs::Changes::last_trees))]
     fn matrix(&mut self, align: ColumnAlign, count: usize) -> Result<(), AllocError>
         requires { count < length (trees_in self.old) }

@@ -1,4 +1,4 @@
-//! The environments that there are.
+//! The environments that exist.
 ghost use Rattle.std.specs.Prelude.{◌≡◌, None, MatchOption};
 ghost use Rattle.latex2mathml_trees.specs.{Productions.environment_tree, Tree.Tree};
 ghost use Rattle.latex2mathml_parts.specs.Environments.{IsNamed};
@@ -15,7 +15,7 @@ pub(crate) enum Environment {
 }
 
 impl Environment {
-    /// The environment of this name, if there is one.
+    /// Returns the environment of this name, if there is one.
     pub(crate) fn of(name: &str) -> Option<Environment>
         ensures { MatchOption result
             ((group : Tree) → environment_tree name.now group ≡ None)

@@ -9,8 +9,8 @@ use crate::kind::Kind;
 use latex2mathml_tokens::attribute::{ColumnAlign, Variant};
 use latex2mathml_tokens::names::Paren;
 
-/// What a part of the list is: of a kind, or what comes of parts that were put together. A text that was spelled out
-/// stands aside, and its part has its place.
+/// What a part of the list is: a part of a kind, or the result of putting parts together. A text that was spelled out is
+/// set aside, and the part holds the place of that text.
 #[derive(Clone, Copy)]
 pub(crate) enum Form<'a> {
     Of(Kind<'a>),
@@ -18,17 +18,17 @@ pub(crate) enum Form<'a> {
     /// The name of a function that was spelled out.
     Name(usize),
     Words(usize),
-    /// The text of a token that has no meaning where it stands.
+    /// The text of a token that has no meaning where it appears.
     Undefined(usize),
     /// An operator that grows.
     Stretched(char),
     StretchedParen(Paren),
     // A part of one operand.
     Slashed,
-    // Parts of as many operands as they say.
-    /// So many members, and the style that was given to them.
+    // Parts that say how many operands they have.
+    /// The number of members, and the style that was given to them.
     Row(usize, Option<Variant>),
-    /// The same, and how the columns are aligned. One operand more stands before the members: the environment's name.
+    /// The same, and how the columns are aligned. One more operand precedes the members: the environment's name.
     Matrix(usize, Option<Variant>, ColumnAlign),
 }
 
@@ -41,7 +41,7 @@ pub(crate) struct Part<'a> {
 }
 
 impl<'a> Form<'a> {
-    /// The form of a part whose tree is given a style.
+    /// Returns the form of a part whose tree is given a style.
     #[inline(always)]
     #[tactic(auto, using(crate::proofs::Styles::all_restyled))]
     pub(crate) fn with_style(self, variant: Variant) -> Form<'a>
@@ -57,7 +57,7 @@ impl<'a> Form<'a> {
         }
     }
 
-    /// The form of a part whose tree grows with what stands around it, if the tree is an operator.
+    /// Returns the form of a part whose tree grows with what surrounds it, if the tree is an operator.
     #[inline(always)]
     pub(crate) fn stretch(self) -> Option<Form<'a>>
         ensures { MatchOption result (IsNoOperator self.entry) (StretchesTo self.entry) }
@@ -69,7 +69,7 @@ impl<'a> Form<'a> {
         }
     }
 
-    /// How many members a part has whose tree is a row, and their style.
+    /// Returns how many members a part has whose tree is a row, and their style.
     #[inline(always)]
     pub(crate) fn members(self) -> Option<(usize, Option<Variant>)>
         ensures { MatchOption result (IsNoRow self.entry)

@@ -6,12 +6,12 @@ use latex2mathml_tokens::DisplayStyle;
 use latex2mathml_tokens::attribute::{Accent, Variant};
 use latex2mathml_tokens::names::{FunctionName, LimitName, Paren, Size};
 
-/// What a part is, in the order of how many operands it has.
+/// What a part is, ordered by how many operands it has.
 #[derive(Clone, Copy)]
 pub enum Kind<'a> {
     // Parts without operands.
     Number(&'a str),
-    /// A letter, or any other character that stands for itself, and its style.
+    /// A letter, or any other character that represents itself, and its style.
     Letter(char, Variant),
     Operator(char),
     Paren(Paren),
@@ -46,7 +46,7 @@ pub enum Kind<'a> {
     LimitSup(char),
     /// The name of a function, and the operand as the limit under it.
     LimitUnder(LimitName),
-    /// The operand between two fences. A missing one is a period in the formula.
+    /// The operand between two fences. A missing fence is a period in the formula.
     Fenced(Option<Paren>, Option<Paren>),
     // Parts of two operands, which follow one another.
     /// A base and its subscript.
@@ -57,15 +57,15 @@ pub enum Kind<'a> {
     Frac,
     /// The upper and the lower number of a binomial coefficient.
     Binom(Option<DisplayStyle>),
-    /// What stands over, and then the base.
+    /// What is over the base, and then the base.
     Overset,
-    /// What stands under, and then the base.
+    /// What is under the base, and then the base.
     Underset,
     /// The degree, and then the radicand.
     Root,
-    /// What stands under a brace, and then the label over the brace.
+    /// What is under a brace, and then the label over the brace.
     OverbraceWith(char),
-    /// What stands over a brace, and then the label under the brace.
+    /// What is over a brace, and then the label under the brace.
     UnderbraceWith(char),
     /// An operator between two limits: the one under it, and then the one over it.
     LimitsBelowAbove(char),
@@ -78,7 +78,7 @@ pub enum Kind<'a> {
 }
 
 impl Kind<'_> {
-    /// How many operands a part of this kind has.
+    /// Returns how many operands a part of this kind has.
     #[inline(always)]
     pub fn arity(self) -> usize
         ensures { result ≡ arity self.entry }

@@ -1,7 +1,7 @@
 //! The parts of formulas in postfix order, and their markup.
 //!
-//! A parser puts each part after its operands, as it reads them. So the parts of a tree lie side by side in one list,
-//! and no part has memory of its own. Contracts speak of the list of the trees, the last first.
+//! A parser puts each part after its operands, as it reads them. So the parts of a tree are next to each other in one
+//! list, and no part has memory of its own. Contracts refer to the list of the trees, the last first.
 #![tactic(auto)]
 
 mod change;

@@ -1,4 +1,4 @@
-//! The list of the parts: where the trees in it stand, and how a part is put or replaced.
+//! The list of the parts: where the trees in it are, and how a part is put or replaced.
 ghost use Rattle.std.specs.Prelude.{◌≡◌, ◌-◌, ◌<◌, ◌≤◌, [], IfOk, OnOk, drop, length, slice_index_or, string_bytes};
 ghost use Rattle.latex2mathml_parts.specs.Forests.{IsPlace, Stands, last_as, one_more};
 ghost use Rattle.latex2mathml_parts.specs.Forests.{trees_at, trees_in, with_form};
@@ -9,11 +9,11 @@ use crate::work::Works;
 use std::alloc::{AllocError, Global};
 use std::marker::Model;
 
-/// For how many parts room is asked for at once.
+/// The number of parts for which room is reserved at once.
 const ROOM: usize = 16;
 
 /// The parts of the trees that were read and are not yet written, in postfix order, with the texts that were spelled out.
-/// Contracts see both. By `trees_in`, they speak of the list of the trees, the last first.
+/// Contracts see both. Through `trees_in`, they refer to the list of the trees, the last first.
 #[derive(Drop)]
 pub struct Parts<'a> {
     pub(crate) alloc: Global,
@@ -32,7 +32,7 @@ impl<'a> Model for Parts<'a> {
 }
 
 impl<'a> Parts<'a> {
-    /// No parts.
+    /// Returns a list without parts.
     #[tactic(auto, using(crate::proofs::Forests::whole_empty))]
     pub fn new(alloc: Global) -> Parts<'a>
         ensures { trees_in result ≡ [] }
@@ -44,7 +44,7 @@ impl<'a> Parts<'a> {
         }
     }
 
-    /// Asks for room for a node of common length at once, so that the lists do not grow for each part.
+    /// Reserves room for a node of common length at once, so that the lists do not grow for each part.
     #[inline(always)]
     pub fn make_room(&mut self, works: &mut Works) -> Result<(), AllocError>
         ensures { self.new ≡ self.old }
@@ -64,7 +64,7 @@ impl<'a> Parts<'a> {
         self.texts.clear();
     }
 
-    /// How many parts there are: at least as many as trees.
+    /// Returns how many parts there are: at least as many as trees.
     #[tactic(auto, using(crate::proofs::Forests::forest_length))]
     pub fn len(&self) -> usize
         ensures count { result ≡ length self.now.list }
@@ -73,7 +73,7 @@ impl<'a> Parts<'a> {
         self.list.as_slice().len()
     }
 
-    /// A text that stands aside.
+    /// Returns a text that was set aside.
     pub(crate) fn text(&self, place: usize) -> &str
         requires { place < length self.now.texts }
         ensures { result.now ≡ slice_index_or self.now.texts place [] }
@@ -81,7 +81,7 @@ impl<'a> Parts<'a> {
         self.texts[place].as_str()
     }
 
-    /// The last of so many parts.
+    /// Returns the last of the first `end` parts.
     #[tactic(auto, using(crate::proofs::Forests::forest_more))]
     pub(crate) fn part_at(&self, end: usize) -> Part<'a>
         requires { IsPlace self.now end }
@@ -91,7 +91,7 @@ impl<'a> Parts<'a> {
         self.list[end - 1]
     }
 
-    /// The last part of all.
+    /// Returns the last part of all.
     pub(crate) fn last(&self) -> Part<'a>
         requires { 0 < length (trees_in self.now) }
         ensures stands { Stands self.now.texts self.now.list (length self.now.list - 1) result }
@@ -100,7 +100,7 @@ impl<'a> Parts<'a> {
         self.part_at(self.len())
     }
 
-    /// Where the trees before the last of so many parts end.
+    /// Returns where the trees before the last of the first `end` parts end.
     #[tactic(auto, using(crate::proofs::Puts::below_form))]
     pub(crate) fn before_last(&self, end: usize) -> usize
         requires { IsPlace self.now end }
@@ -110,7 +110,7 @@ impl<'a> Parts<'a> {
         end - self.part_at(end).size
     }
 
-    /// Where the last trees begin, which are so many.
+    /// Returns where the last `count` trees begin.
     #[inline(always)]
     pub(crate) fn before(&self, count: usize) -> usize
         requires { count ≤ length (trees_in self.now) }

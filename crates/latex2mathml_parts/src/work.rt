@@ -10,7 +10,7 @@ pub struct Works {
 }
 
 impl Works {
-    /// No room yet.
+    /// Returns a `Works` that has no room yet.
     pub fn new(alloc: Global) -> Works {
         Works {
             list: Vec::new(alloc),
@@ -21,7 +21,7 @@ impl Works {
 /// What is still to be written.
 #[derive(Clone, Copy)]
 pub(crate) enum Work {
-    /// The last tree of so many parts, in a style.
+    /// The last tree of the given number of parts, in a style.
     Tree(usize, Option<Variant>),
     Markup(&'static str),
     Operator(char),

@@ -28,7 +28,7 @@ pub use leaves::write_leaf;
 use std::alloc::AllocError;
 
 impl Parts<'_> {
-    /// Writes the markup of the last tree after the text. It does not recurse: what is still to be written stands in
+    /// Writes the markup of the last tree after the text. It does not recurse: what is still to be written is kept in
     /// `works`. The only `Err` is out of memory, for that list or for the text.
     #[tactic(auto, using(crate::proofs::Styles::plain, crate::proofs::Forests::all_taken, std::proofs::lemmas::Grind::common_steps), unfolding(crate::specs::Works::AreIn))]
     pub fn write(&self, works: &mut Works, out: &mut String) -> Result<(), AllocError>
@@ -44,7 +44,7 @@ impl Parts<'_> {
         Ok(())
     }
 
-    /// Does a work.
+    /// Carries out a work.
     #[inline(always)]
     fn write_work(
         &self,
@@ -70,7 +70,7 @@ impl Parts<'_> {
         }
     }
 
-    /// Writes the last tree of so many parts down to its first leaf, and puts what follows on the list.
+    /// Writes the last tree of the first `end` parts down to its first leaf, and pushes what follows onto the list.
     #[tactic(auto, using(crate::proofs::Styles::plain, std::proofs::lemmas::Grind::common_steps))]
     fn write_down(
         &self,
@@ -93,7 +93,7 @@ impl Parts<'_> {
         Ok(())
     }
 
-    /// Writes what stands first of a tree, and puts what follows on the list. Returns the tree that is next, if one is.
+    /// Writes the beginning of a tree, and pushes what follows onto the list. Returns the tree that comes next, if one does.
     #[inline(always)]
     fn write_at(
         &self,
@@ -112,7 +112,7 @@ impl Parts<'_> {
         self.write_form(self.part_at(end).form, style, end - 1, works, out)
     }
 
-    /// Writes what stands first of the tree of a part, after so many parts, and puts what follows on the list.
+    /// Writes the beginning of the tree of a part that follows the first `end` parts, and pushes the rest onto the list.
     #[inline(always)]
     #[tactic(auto, using(crate::proofs::Styles::all_twice, crate::proofs::Styles::weights_in, std::proofs::lemmas::Grind::common_steps))]
     fn write_form(
@@ -146,7 +146,7 @@ impl Parts<'_> {
                 | Kind::SizedParen(_, _) => write_leaf(kind, out)?,
                 _ => return self.write_operands(kind, end, works, out),
             },
-            // Of two styles the outer one stays.
+            // Of two styles, the outer one stays.
             Form::Row(count, own) => {
                 self.write_group(Group::Row, count, style.or(own), end, works, out)?;
             }
@@ -163,7 +163,7 @@ impl Parts<'_> {
         Ok(None)
     }
 
-    /// Writes what a slash stands through: a letter and an operator show it, no other tree does.
+    /// Writes what a slash strikes through: a letter or an operator shows the slash, no other tree does.
     fn write_under_slash(
         &self,
         end: usize,

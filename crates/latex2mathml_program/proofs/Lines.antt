@@ -1,4 +1,4 @@
--- What writing a line results in.
+-- How writing a line may end.
 use Rattle.std.proofs.Common.{◌≡◌, ◌==◌, ◌↔◌, ℕ, suc, ◌+◌, ◌<◌, ◌≤◌, Bool, true, false, IsTrue, List, [], ◌∷◌, ◌++◌, Option, None, Some, Result, Ok, Err, IfErr, OnOk, inl, inr, length, true-eqb, map, take, drop, refl, sym, ap, ◌∙◌, subst, append-nil, append_assoc, arith, take-append-drop, slice_index_or}
 use Rattle.std.proofs.{KnownBytes.Appends-trans, Math.Seq.drop-cons, lemmas.List.map-append, lemmas.List.take_more}
 use Rattle.std.specs.{Io.KnownBytes.Appends, Io.KnownBytes.Keeps, Result.is_ok}
@@ -9,7 +9,7 @@ use Rattle.latex2mathml.specs.declared.error.WriteCause.TheVariants.{Failed, Too
 use Rattle.latex2mathml.specs.declared.files.Unconverted.{Unconverted}
 use Rattle.latex2mathml_program.specs.Serving.{JoinsSomeOf, LinesPrinted, ExitsWithLines, IsSilent, done, not_done, StoppedAt, LineWritten, LinePrinted, Whole, Found, LeftOut, Stopped, unconverted_line}
 
--- a writing of a line ends in one of these ways
+-- writing a line ends in one of these ways
 pub put : (line : List ℕ) (old new : StreamState) (result : Result Unit FileFault)
     → OnOk result (Takes old new line)
     → OnOk result (CanGoOn new)
@@ -25,7 +25,7 @@ put line old new (Err Entry) taken ready stopped = absurd stopped
 put line old new (Err TooDeep) taken ready stopped = absurd stopped
 put line old new (Err Create) taken ready stopped = absurd stopped
 
--- a line that memory was found for, and that is this one
+-- memory was found for a line, which is this one
 pub put_same : (line text : List ℕ) (old new : StreamState) → line ≡ text → LineWritten line old new → LinePrinted text old new
 put_same line text old new same is = Found (subst (λ l. LineWritten l old new) same is)
 
@@ -36,7 +36,7 @@ halted TookNothing new (_, ended) (_, unended) = let k : true ≡ false = sym en
 not_told : (told : Bool) (P : Type 0) → told ≡ false → IsTrue told → P
 not_told told P is also = absurd (let k : true ≡ false = sym also ∙ is in cc)
 
--- a writing tells whether the stream can take more
+-- the result of writing shows whether the stream can take more
 pub can_go_on : (line : List ℕ) (old new : StreamState) (result : Result Unit FileFault) (told : Bool)
     → told ≡ is_ok result
     → OnOk result (CanGoOn new)
@@ -80,7 +80,7 @@ next_said start old new lines line text said so_far (LeftOut (ready, keeps)) can
     (text, said_less lines line text said, appends_kept start.bytes old.bytes new.bytes text so_far keeps)
 next_said start old new lines line text said so_far (Found (Stopped written cause is)) can = absurd (halted cause new is.2 can)
 
--- one line more was put, and the stream can take more
+-- one more line was written, and the stream can take more
 pub put_next : (start old new : StreamState) (all : List Unconverted) (index : ℕ) (one : Unconverted) (text : List ℕ)
     → index < length all
     → one ≡ slice_index_or all index one
@@ -117,7 +117,7 @@ two (a ∷ []) first second least most is also = absurd (omega arith)
 two (a ∷ b ∷ []) first second least most is also = cc
 two (a ∷ b ∷ c ∷ all) first second least most is also = absurd (omega arith)
 
--- what is told of nothing, and of something
+-- what is reported if nothing was left unconverted, and if something was
 pub none_told : (all : List Unconverted) (old new : StreamState) → true ≡ (length all == 0) → IsSilent old new → ExitsWithLines all old new done
 none_told [] old new is silent = (refl, silent)
 none_told (one ∷ more) old new is silent = absurd (let k : suc (length more) ≡ 0 = true-eqb _ _ is in cc)

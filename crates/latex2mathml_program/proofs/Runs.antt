@@ -19,7 +19,7 @@ missed conversion bytes input old new Entry is ready keeps = absurd is
 missed conversion bytes input old new TooDeep is ready keeps = absurd is
 missed conversion bytes input old new Create is ready keeps = absurd is
 
--- and that holds of the fault that a `?` passes on
+-- the same holds for the fault that a `?` passes on
 pub missed_by : (conversion : Conversion) (bytes : List ℕ) (input output : StreamState) (fault : FileFault)
     (result : Result Unit FileFault) → IsErrAnd result (λ e. e ≡ fault)
     → IsMissed conversion bytes input fault → CanGoOn output

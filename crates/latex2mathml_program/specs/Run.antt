@@ -1,4 +1,4 @@
--- What a run of the program makes of the bytes that it read, and what it may come to.
+-- What a run of the program makes of the bytes that it read, and how it may end.
 use Rattle.std.specs.Prelude.{◌≡◌, ℕ, List, ◌++◌, Result, Ok, Err, String, codes, string_bytes}
 use Rattle.std.specs.{Io.KnownBytes.Keeps, declared.alloc.Global.Global}
 use Rattle.latex2mathml.specs.Conversions.{Conversion, IsConverted, formula, document}
@@ -9,18 +9,18 @@ use Rattle.latex2mathml.specs.declared.error.FileFault.TheVariants.{Write}
 use Rattle.latex2mathml_program.specs.declared.job.Job.{Job}
 use Rattle.latex2mathml_program.specs.declared.job.Job.TheVariants.{Inline, Block, Document}
 
--- as what the job converts its input
+-- what the job converts its input as
 abbrev pub conversion_of : Job → Conversion
 conversion_of Inline = formula display.Inline
 conversion_of Block = formula display.Block
 conversion_of Document = document
 
--- what is put out for the markup: that of a formula is a line, and to that of a document nothing is added
+-- what is written for the markup: that of a formula becomes a line, and that of a document is written as it is
 abbrev pub printed : Conversion → List ℕ → List ℕ
 printed (formula display) markup = markup ++ codes "\n"
 printed document markup = markup
 
--- what is put out for a text
+-- what is written for a text
 abbrev pub IsProduct : Conversion → List ℕ → List ℕ → Type 0
 IsProduct conversion text product =
     (markup : List ℕ) × IsConverted conversion text markup × (product ≡ printed conversion markup)
@@ -37,7 +37,7 @@ IsMade conversion old new result =
     × Gives old new bytes
     × IsMadeOf conversion bytes new result
 
--- what a run on the bytes read may come to, by what is known of the input then, and of the output before and then
+-- how a run on these bytes may end, by what is known of the input after it, and of the output before and after it
 abbrev pub IsRunOn : List ℕ → Conversion → StreamState → StreamState → StreamState → Result Unit FileFault → Type 0
 IsRunOn bytes conversion input old new (Ok _) =
     IsWholeText bytes input
@@ -51,7 +51,7 @@ IsRunOn bytes conversion input old new (Err fault) =
     × CanGoOn new
     × Keeps old.bytes new.bytes
 
--- what a run of the job may come to, by what is known of the input before and after it, and of the output
+-- how a run of the job may end, by what is known of the input and of the output before and after it
 abbrev pub IsRun : Job → StreamState → StreamState → StreamState → StreamState → Result Unit FileFault → Type 0
 IsRun job input_old input_new output_old output_new result =
     (bytes : List ℕ)

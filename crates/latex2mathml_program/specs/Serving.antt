@@ -1,4 +1,4 @@
--- What the words of the command line ask for, and the lines and the status that answer them.
+-- What the arguments ask for, and the lines and the status that answer them. The words are the arguments.
 use Rattle.std.specs.Prelude.{◌≡◌, ◌⊎◌, ℕ, List, [], ◌∷◌, ◌++◌, Option, Result, Ok, Err, codes, map, string_bytes}
 use Rattle.std.specs.Io.KnownBytes.{Keeps}
 use Rattle.latex2mathml.specs.{Faults.fault_text, Files.Answer, Files.IsWhollyWalked, declared.error.FileFault.FileFault}
@@ -14,7 +14,7 @@ word_of Inline = codes "inline"
 word_of Block = codes "block"
 word_of Document = codes "document"
 
--- the words ask for the job: they are its word, and no other word stands beside it
+-- the words ask for the job: they are its word and no other
 abbrev pub AskFor : Job → List (List ℕ) → Type 0
 AskFor job words = words ≡ word_of job ∷ []
 
@@ -22,7 +22,7 @@ AskFor job words = words ≡ word_of job ∷ []
 abbrev pub AskForNoJob : List (List ℕ) → Type 0
 AskForNoJob words = (job : Job) → ¬ AskFor job words
 
--- the words ask for the files under the path: the path stands after the word `html`, and no other word beside them
+-- the words ask for the files under the path: they are the word `html`, the path and no other
 abbrev pub AskForFiles : List ℕ → List (List ℕ) → Type 0
 AskForFiles path words = words ≡ codes "html" ∷ path ∷ []
 
@@ -34,22 +34,22 @@ AskForNoFiles words = (path : List ℕ) → ¬ AskForFiles path words
 abbrev pub AreWrong : List (List ℕ) → Type 0
 AreWrong words = AskForNoJob words × AskForNoFiles words
 
--- the line that tells a fault
+-- the line that reports a fault
 abbrev pub fault_line : FileFault → List ℕ
 fault_line fault = codes "LaTeX2MathML Error: " ++ (fault_text fault ++ codes "\n")
 
--- the line that tells why a file or a directory was not converted
+-- the line that says why a file or a directory was not converted
 abbrev pub unconverted_line : Unconverted → List ℕ
 unconverted_line unconverted =
     codes "LaTeX2MathML Error: " ++ (string_bytes unconverted.path ++ (codes ": " ++ (fault_text unconverted.fault ++ codes "\n")))
 
--- In what follows the first state says what is known of the stream of errors before, and the second what is known then.
+-- In what follows, the first state is what is known of the error stream before, and the second what is known after.
 
 -- the stream took nothing
 abbrev pub IsSilent : StreamState → StreamState → Type 0
 IsSilent old new = CanGoOn new × Keeps old.bytes new.bytes
 
--- what putting a line on a stream may come to, where the line is at hand
+-- how writing a line to a stream may end, where the line is at hand
 pub data LineWritten (line : List ℕ) (old new : StreamState) : Type 0 where
   -- the stream took the line
   Whole : CanGoOn new
@@ -60,7 +60,7 @@ pub data LineWritten (line : List ℕ) (old new : StreamState) : Type 0 where
       → IsStopped (Write written cause) line old new
       → LineWritten line old new
 
--- what putting a line on a stream may come to, where memory is asked for the line
+-- how writing a line to a stream may end, where memory is needed for the line
 pub data LinePrinted (line : List ℕ) (old new : StreamState) : Type 0 where
   -- memory was found
   Found : LineWritten line old new → LinePrinted line old new
@@ -74,7 +74,7 @@ JoinsSomeOf (line ∷ lines) text =
     JoinsSomeOf lines text
     ⊎ ((rest : List ℕ) × (text ≡ line ++ rest) × JoinsSomeOf lines rest)
 
--- what putting lines on a stream may come to
+-- how writing lines to a stream may end
 pub data LinesPrinted (lines : List (List ℕ)) (old new : StreamState) : Type 0 where
   -- the stream took each line for which memory was found
   AllPut : CanGoOn new
@@ -82,7 +82,7 @@ pub data LinesPrinted (lines : List (List ℕ)) (old new : StreamState) : Type 0
       → JoinsSomeOf lines text
       → Takes old new text
       → LinesPrinted lines old new
-  -- the stream took so much of the lines before one of them, then the first bytes of that one, and failed or took no more
+  -- the stream took the lines before one of them, some left out, then the first bytes of that one, and failed or took no more
   StoppedAt : (before : List (List ℕ)) (line : List ℕ) (after : List (List ℕ))
       → lines ≡ before ++ (line ∷ after)
       → (text : List ℕ) (middle : StreamState)
@@ -92,7 +92,7 @@ pub data LinesPrinted (lines : List (List ℕ)) (old new : StreamState) : Type 0
       → IsStopped (Write written cause) line middle new
       → LinesPrinted lines old new
 
--- the status where a run is done, where it is not, and where the words are wrong
+-- the status of a run that is done, of one that is not, and of wrong words
 abbrev pub done : ℕ
 done = 0
 
@@ -106,36 +106,36 @@ wrong_words = 2
 abbrev pub UnconvertedPrinted : Unconverted → StreamState → StreamState → Type 0
 UnconvertedPrinted one old new = LinePrinted (unconverted_line one) old new
 
--- .. and the lines of these
+-- the lines of all these that were not converted
 abbrev pub AllUnconvertedPrinted : List Unconverted → StreamState → StreamState → Type 0
 AllUnconvertedPrinted all old new = LinesPrinted (map unconverted_line all) old new
 
--- the status and the stream of errors tell what a run came to
+-- the status and the error stream report the result of a run
 abbrev pub ExitsWith : Result Unit FileFault → StreamState → StreamState → ℕ → Type 0
 ExitsWith (Ok _) old new status = (status ≡ done) × IsSilent old new
 ExitsWith (Err fault) old new status = (status ≡ not_done) × LinePrinted (fault_line fault) old new
 
--- the status and the stream of errors tell what was not converted
+-- the status and the error stream report what was not converted
 abbrev pub ExitsWithLines : List Unconverted → StreamState → StreamState → ℕ → Type 0
 ExitsWithLines [] old new status = (status ≡ done) × IsSilent old new
 ExitsWithLines (one ∷ more) old new status = (status ≡ not_done) × AllUnconvertedPrinted (one ∷ more) old new
 
--- the status and the stream of errors tell what converting the files under a path came to, by what the site answered
+-- the status and the error stream report the result of converting the files under a path, by what the site answered
 pub data ExitsAfterWalk (path : List ℕ) (before after : Option (List Answer)) (old new : StreamState) (status : ℕ) : Type 0 where
   -- the files were walked, and these were not converted
   WalkEnded : (unconverted : List Unconverted)
       → IsWhollyWalked path before after unconverted
       → ExitsWithLines unconverted old new status
       → ExitsAfterWalk path before after old new status
-  -- no memory was found to walk on
+  -- memory ran out during the walk
   NoMemory : status ≡ not_done
       → LineWritten (fault_line (Refused OutOfMemory)) old new
       → ExitsAfterWalk path before after old new status
 
--- what serving the words may come to, by what the site had answered before and then, and by what is known of the input, the
--- output and the stream of errors before, and of each of them then
+-- how serving the words may end, by what the site answered before and after, and by what is known of the input, the output
+-- and the error stream before and after
 pub data IsServed (words : List (List ℕ)) (before after : Option (List Answer)) (input_old input_new output_old output_new errors_old errors_new : StreamState) (status : ℕ) : Type 0 where
-  -- the words are wrong. A line was put out: which one is not said, since a derived `Display` tells no text.
+  -- The words are wrong. A line was written. Which one is not said, since the contract of a derived `Display` gives no text.
   WrongWords : AreWrong words
       → status ≡ wrong_words
       → after ≡ before

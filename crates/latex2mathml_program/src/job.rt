@@ -1,4 +1,4 @@
-//! A run of the program, from its input to its output.
+//! Runs the program, from its input to its output.
 ghost use Rattle.std.specs.Prelude.{◌≡◌, ◌++◌, IfOk, IsTrue, codes, string_bytes};
 ghost use Rattle.std.specs.Io.KnownBytes.{IsAtEnd};
 ghost use Rattle.latex2mathml.specs.{Conversions.formula, Conversions.document, Formulas.IfRefused, Formulas.IsFormulaRefusal};
@@ -35,7 +35,7 @@ pub enum Job {
 /// - [`FileFault::Write`] if the output stopped. It then took the first bytes of the result, as many as the fault says.
 ///
 /// After the first three, nothing was written, and the output can go on. If the input failed, or memory ran out while it was
-/// read, only a part of it was read.
+/// being read, only a part of it was read.
 pub fn run<R: Source, W: Sink>(
     alloc: Global,
     job: Job,

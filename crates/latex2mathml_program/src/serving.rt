@@ -17,7 +17,7 @@ use thiserror::Error;
 #[error("usage: latex2mathml inline | block | document | html PATH")]
 struct Usage;
 
-/// The line that is printed if the walk runs out of memory. To print it allocates nothing.
+/// The line that is printed if the walk runs out of memory. Printing it allocates nothing.
 const OUT_OF_MEMORY: &str = "LaTeX2MathML Error: Memory could not be found.\n";
 
 const DONE: u8 = 0;
@@ -26,7 +26,7 @@ const REFUSED: u8 = 1;
 
 const WRONG_WORDS: u8 = 2;
 
-/// Does what the arguments request, and returns the exit status:
+/// Does what the arguments request and returns the exit status:
 ///
 /// - 0 if everything is done.
 /// - 1 if something is not done. `errors` then gets a line that says why. For `html` it gets a line for each file or
@@ -121,7 +121,7 @@ fn convert<S: Site, E: Sink>(site: &mut S, alloc: Global, path: &str, errors: &m
     tell(alloc, errors, unconverted.as_slice())
 }
 
-/// Writes a line for each of these, which were not converted, and returns the status.
+/// Writes a line for each file or directory that was not converted, and returns the status.
 fn tell<E: Sink>(alloc: Global, errors: &mut E, all: &[Unconverted]) -> u8
     requires { CanGoOn (E.state errors.old) }
     ensures told { ExitsWithLines all.now
@@ -134,7 +134,7 @@ fn tell<E: Sink>(alloc: Global, errors: &mut E, all: &[Unconverted]) -> u8
     REFUSED
 }
 
-/// Writes a line for each of these, until the stream does not take one completely.
+/// Writes a line for each file or directory that was not converted, until the stream does not take one completely.
 fn put_all_unconverted<E: Sink>(alloc: Global, errors: &mut E, all: &[Unconverted])
     requires { CanGoOn (E.state errors.old) }
     ensures put { AllUnconvertedPrinted all.now (E.state errors.old) (E.state errors.new) }

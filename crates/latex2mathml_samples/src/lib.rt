@@ -1,4 +1,4 @@
-//! Nodes that the tests make by hand, of plain values.
+//! Nodes that the tests make by hand from plain values.
 #![tactic(auto)]
 
 pub mod places;

@@ -5,7 +5,7 @@ use latex2mathml_nodes::ast::Node;
 use latex2mathml_tokens::attribute::{Accent, ColumnAlign, LineThickness};
 use std::alloc::{AllocError, Global};
 
-/// A place of a node in another one. In lists, others may be before and after it.
+/// A place of a node in another one. In lists, other nodes may be before and after it.
 #[derive(Clone, Copy)]
 pub enum Place {
     Argument,
@@ -19,7 +19,7 @@ pub enum Place {
     Matrix(Option<bool>, Option<bool>),
 }
 
-/// Each place of each kind of node, by a name.
+/// Each place in each kind of node, with a name.
 pub static PLACES: [(&str, Place); 34] = [
     ("argument", Place::Argument),
     ("below-sign", Place::Framed(Frame::Over('^', Accent::True))),
@@ -86,7 +86,7 @@ impl Place {
     }
 }
 
-/// Returns a letter inside so many nodes, each of which has the one before in this place.
+/// Returns a letter inside the given number of nodes, each of which has the previous one in this place.
 pub fn nested(
     alloc: Global,
     place: Place,
@@ -100,7 +100,7 @@ pub fn nested(
     Ok(x)
 }
 
-/// What may be before and after a node in a list: nodes that hold none, and nodes that hold one.
+/// Returns a node that may be before or after a node in a list: one that holds no node, or one that holds a node.
 fn beside(alloc: Global, is_compound: bool) -> Result<Node, AllocError> {
     if is_compound {
         Frame::Slash.around(alloc, leaf('a'))
@@ -109,7 +109,7 @@ fn beside(alloc: Global, is_compound: bool) -> Result<Node, AllocError> {
     }
 }
 
-/// Adds what may be beside a node, if something is.
+/// Adds what may be next to a node, if anything is.
 fn push_beside(
     alloc: Global,
     nodes: &mut Vec<Node>,
@@ -121,7 +121,7 @@ fn push_beside(
     Ok(())
 }
 
-/// The node between others of the list, which may be missing.
+/// Returns the node between others of the list, which may be missing.
 fn between(
     alloc: Global,
     before: Option<bool>,

@@ -1,4 +1,4 @@
-//! Nodes made by hand, of plain values. Only what takes one node, text or list in its hands at a time is cheap to prove.
+//! Nodes made by hand from plain values. Only code that handles one node, text or list at a time is cheap to prove.
 
 use latex2mathml_nodes::ast::Node;
 use latex2mathml_tokens::DisplayStyle;
@@ -88,7 +88,7 @@ impl Pair {
     }
 }
 
-/// A kind of node that holds three nodes: the target, what stands below it, and what stands above it.
+/// A kind of node that holds three nodes: the target, what is below it, and what is above it.
 #[derive(Clone, Copy)]
 pub enum Triple {
     SubSup,
@@ -121,14 +121,14 @@ impl Triple {
     }
 }
 
-/// A function that is applied, as no formula has one.
+/// Returns a function with an argument. No formula has such a node.
 pub fn apply(alloc: Global, name: &str, argument: Node) -> Result<Node, AllocError> {
     let name = String::from_str(alloc, name)?;
     let argument = Box::new(alloc, argument)?;
     Ok(Node::Function(name, Some(argument)))
 }
 
-/// A letter, the end of a cell, the end of a row, or else the operator of this character.
+/// Returns a letter, the end of a cell, the end of a row, or otherwise the operator of this character.
 pub fn leaf(c: char) -> Node {
     match c {
         '&' => Node::Ampersand,
@@ -138,7 +138,7 @@ pub fn leaf(c: char) -> Node {
     }
 }
 
-/// The leaves of these characters.
+/// Returns the leaves of these characters.
 pub fn leaves(alloc: Global, text: &str) -> Result<Vec<Node>, AllocError> {
     let mut nodes = Vec::new(alloc);
     for c in text.chars() {
@@ -147,7 +147,7 @@ pub fn leaves(alloc: Global, text: &str) -> Result<Vec<Node>, AllocError> {
     Ok(nodes)
 }
 
-/// A node by plain values: characters stand for their leaves.
+/// A node as plain values. Characters represent their leaves.
 #[derive(Clone, Copy)]
 pub enum Sample {
     Letter(char, Variant),

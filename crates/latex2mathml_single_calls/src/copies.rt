@@ -59,7 +59,7 @@ fn copy_refusal(rt: &HostRuntime) -> io::Result<()> {
     compare(rt, &source, copy)
 }
 
-/// Copies the value that the word names, and answers whether it names one.
+/// Copies the value that the word names, and returns whether it names one.
 pub fn copy(rt: &HostRuntime, word: &str) -> io::Result<bool> {
     match word {
         "node" => copy_node(rt)?,

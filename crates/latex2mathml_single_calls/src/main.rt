@@ -15,13 +15,13 @@ use std::fmt::Display;
 use std::process::ExitCode;
 use std::{env, io};
 
-/// A request for so many bytes marks the beginning of a call. Nothing else asks for as many.
+/// A request for this number of bytes marks the beginning of a call. Nothing else requests that many.
 const BEGINNING: usize = 7919;
 
-/// A request for so many bytes marks the end of a call.
+/// A request for this number of bytes marks the end of a call.
 const END: usize = 7927;
 
-/// Requests so many bytes.
+/// Requests the given number of bytes.
 fn mark(alloc: Global, size: usize) -> Result<(), AllocError> {
     let _mark: Vec<u8> = Vec::with_capacity(alloc, size)?;
     Ok(())
@@ -42,7 +42,7 @@ fn formula(rt: &HostRuntime, latex: &str) -> io::Result<()> {
     tell(rt, &answer)
 }
 
-/// The answer, and the tokens and frames of one that is no refusal.
+/// Prints the answer, and its tokens and frames if it is not a refusal.
 fn counted_formula(rt: &HostRuntime, latex: &str) -> io::Result<()> {
     mark(rt.alloc(), BEGINNING)?;
     let (answer, steps) = latex_to_mathml_counted(rt.alloc(), latex, DisplayStyle::Block);
@@ -54,7 +54,7 @@ fn counted_formula(rt: &HostRuntime, latex: &str) -> io::Result<()> {
     Ok(())
 }
 
-/// The answer or the refusal, and the steps that it took.
+/// Prints the answer or the refusal, and the steps that it took.
 fn steps(rt: &HostRuntime, latex: &str) -> io::Result<()> {
     let (answer, steps) = latex_to_mathml_counted(rt.alloc(), latex, DisplayStyle::Inline);
     tell(rt, &answer)?;
@@ -72,7 +72,7 @@ fn tex_formula(rt: &HostRuntime, tex: &str) -> io::Result<()> {
     tell(rt, &answer)
 }
 
-/// What a converter answers for a formula in a line of text.
+/// Returns what a converter answers for a formula in a line of text.
 fn converted<'a>(
     alloc: Global,
     converter: &mut Converter<'a>,
@@ -84,8 +84,8 @@ fn converted<'a>(
     Ok(text)
 }
 
-/// The answers of one converter to a formula, and then twice to a second one: memory may be refused in the first of these
-/// two calls alone.
+/// Prints the answers of one converter to a formula, and then twice to a second one: memory may be refused only in the
+/// first of these two calls.
 fn tex_formulas<'a>(rt: &HostRuntime, first: &'a str, second: &'a str) -> io::Result<()> {
     let mut converter = Converter::new(rt.alloc());
     tell(rt, &converted(rt.alloc(), &mut converter, first))?;
@@ -103,7 +103,7 @@ fn document(rt: &HostRuntime, input: &str) -> io::Result<()> {
     tell(rt, &answer)
 }
 
-/// The answer for a document that is read.
+/// Prints the answer for a document that is read.
 fn read(rt: &HostRuntime, input: &str) -> io::Result<()> {
     let mut source = Stream::new(input.as_bytes());
     mark(rt.alloc(), BEGINNING)?;
@@ -116,7 +116,7 @@ fn read(rt: &HostRuntime, input: &str) -> io::Result<()> {
     }
 }
 
-/// What was not converted under a path, a line each.
+/// Prints what was not converted under a path, one line each.
 fn files(rt: &HostRuntime, path: &str) -> io::Result<()> {
     mark(rt.alloc(), BEGINNING)?;
     let unconverted = convert_html(rt, rt.alloc(), path);
@@ -132,7 +132,7 @@ fn files(rt: &HostRuntime, path: &str) -> io::Result<()> {
     }
 }
 
-/// Makes the call of this name on a text, and answers whether there is one.
+/// Makes the call with this name on a text, and returns whether there is one.
 fn call_on(rt: &HostRuntime, name: &str, text: &str) -> io::Result<bool> {
     match name {
         "latex_to_mathml" => formula(rt, text)?,
@@ -148,7 +148,7 @@ fn call_on(rt: &HostRuntime, name: &str, text: &str) -> io::Result<bool> {
     Ok(true)
 }
 
-/// Makes the call that the words name, and answers whether they name one.
+/// Makes the call that the words name, and returns whether they name one.
 fn call(rt: &HostRuntime) -> io::Result<bool> {
     let words: Vec<String> = env::args(rt)?.skip(1).collect(rt.alloc())?;
     match words.as_slice() {

@@ -1,11 +1,11 @@
-//! A node that has each kind of node in it.
+//! A node that contains each kind of node.
 
 use latex2mathml::DisplayStyle;
 use latex2mathml::ast::Node;
 use latex2mathml::attribute::{Accent, ColumnAlign, LineThickness, Variant};
 use std::alloc::{AllocError, Global};
 
-/// A node that holds memory, so that one that is not freed is noticed.
+/// Returns a node that holds memory, so that a node that is not freed is noticed.
 fn inner(alloc: Global) -> Result<Box<Node>, AllocError> {
     let digits = String::from_str(alloc, "3.14")?;
     Ok(Box::new(alloc, Node::Number(digits))?)
@@ -97,7 +97,7 @@ fn with_three(alloc: Global) -> Result<Node, AllocError> {
     Ok(Node::Row(nodes))
 }
 
-/// A matrix of rows of nodes, which are of all kinds.
+/// Returns a matrix whose rows have nodes of all kinds.
 pub fn every_kind(alloc: Global) -> Result<Node, AllocError> {
     let mut rows = Vec::new(alloc);
     rows.push(with_none(alloc)?)?;

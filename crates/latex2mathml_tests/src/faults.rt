@@ -1,4 +1,4 @@
-//! The texts of faults.
+//! Tests of the texts of faults.
 
 use latex2mathml::{FileFault, LatexError, WriteCause};
 use std::test::Fail;
@@ -15,7 +15,7 @@ static FAULTS: [&str; 8] = [
     "The output stopped after 2 bytes.",
 ];
 
-/// The fault of this number.
+/// Returns the fault with this number.
 fn fault(number: usize) -> FileFault {
     match number {
         0 => FileFault::List,

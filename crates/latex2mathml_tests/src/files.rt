@@ -1,4 +1,4 @@
-//! Paths that cannot be an argument of the program, and others where nothing stands.
+//! Tests of paths that cannot be an argument of the program, and of others where nothing exists.
 
 use latex2mathml::convert_html;
 use std::test::Fail;

@@ -1,4 +1,5 @@
-//! Each call that reads or writes, and the text of a fault, at small and at large sizes. Each call succeeds if there is memory.
+//! Tests of each call that reads or writes, and of the text of a fault, at small and at large sizes. Each call succeeds if
+//! there is memory.
 
 use crate::streams::stream;
 use latex2mathml::{FileFault, LatexError, Sink, Source, write_document};
@@ -7,7 +8,7 @@ use std::io;
 use std::io::{Read, Write};
 use std::test::Fail;
 
-/// This many copies of the character.
+/// Returns the given number of copies of the character.
 fn repeat(alloc: Global, c: char, count: usize) -> Result<String, AllocError> {
     let mut text = String::new(alloc);
     for _ in 0..count {
@@ -16,7 +17,7 @@ fn repeat(alloc: Global, c: char, count: usize) -> Result<String, AllocError> {
     Ok(text)
 }
 
-/// Whether a text is these parts, one of them many times over.
+/// Whether a text consists of these parts, with `part` repeated `count` times.
 fn is_repeated(text: &str, before: &str, part: &str, count: usize, after: &str) -> bool {
     let Some(mut rest) = text.strip_prefix(before) else {
         return false;
@@ -30,10 +31,10 @@ fn is_repeated(text: &str, before: &str, part: &str, count: usize, after: &str) 
     rest == after
 }
 
-/// Around a page of memory, and past what a buffer or a limit would hold.
+/// Sizes around a page of memory, and beyond what a buffer or a limit would hold.
 const SIZES: [usize; 4] = [1, 4096, 4097, 8 << 20];
 
-/// Whether a fault prints whose refusal has a text of this length.
+/// Whether a fault whose refusal has a text of this length prints.
 fn fault_is_told(alloc: Global, size: usize) -> Result<bool, AllocError> {
     let fault = FileFault::Refused(LatexError::UnknownEnvironment(repeat(alloc, 'z', size)?));
     let said = fault.to_string(alloc)?;
@@ -54,7 +55,7 @@ fn faults(rt: HostRuntime) -> Result<(), Fail> {
     Ok(())
 }
 
-/// Gives as many bytes as there is room for. Takes all bytes, and counts them and the calls.
+/// A reader and a writer. It gives as many bytes as there is room for, takes all bytes, and counts them and the calls.
 #[derive(Drop)]
 struct Pipe {
     taken: u64,

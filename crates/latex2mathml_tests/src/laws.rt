@@ -1,4 +1,4 @@
-//! Each law, called. A law returns nothing, and its statement is proved, so the call only has to return.
+//! Calls each law. A law returns nothing, and its statement is proved, so the call only has to return.
 
 use latex2mathml::token::Token;
 use latex2mathml::{DisplayStyle, laws};

@@ -1,5 +1,5 @@
-//! Tests of what neither the program nor the library for C can show: faults, streams that fail, and laws; and of what the program
-//! calls.
+//! Tests of what neither the program nor the library for C can show, which is faults, streams that fail, and laws. Also tests
+//! of what the program calls.
 #![tactic(auto)]
 
 #[cfg(test)]

@@ -1,10 +1,10 @@
-//! What the program does, called as its `main` calls it.
+//! Tests of what the program does, called as its `main` calls it.
 use crate::streams::{Writer, stream};
 use latex2mathml::{Disk, FileFault, LatexError, Stream, WriteCause};
 use latex2mathml_program::{Job, run, serve};
 use std::test::Fail;
 
-/// The markup of `x<y`, as the crate upstream writes it, and a line feed.
+/// The markup of `x<y`, as the upstream crate writes it, and a line feed.
 const LINE: &str =
     "<math xmlns=\"http://www.w3.org/1998/Math/MathML\" display=\"inline\"><mi>x</mi><mo>&lt;</mo><mi>y</mi></math>\n";
 

@@ -1,4 +1,4 @@
-//! Documents from readers that give a few bytes per call, or fail.
+//! Tests of documents from readers that give a few bytes per call, or fail.
 
 use crate::streams::{Reader, stream};
 use latex2mathml::{FileFault, LatexError, Reading, read_document};
@@ -7,8 +7,8 @@ use std::test::Fail;
 
 const ENOUGH: usize = 100_000;
 
-/// Whether the document, read this many bytes per call, is read to its end and converted to this answer, or unchanged if there is
-/// none.
+/// Whether the document, read this many bytes per call, is read to its end and converted to this answer, or unchanged if there
+/// is none.
 fn is_read(alloc: Global, document: &str, step: usize, answer: Option<&str>) -> Result<bool, Fail> {
     let mut from = stream(Reader {
         bytes: document.as_bytes(),
@@ -63,7 +63,7 @@ fn comes_to(alloc: Global, bytes: &[u8], calls: usize, fault: &FileFault) -> boo
     is_due && from.failed == has_failed && from.ended != has_failed
 }
 
-/// A reader that fails at each call in turn, also at the one that would report the end.
+/// A reader that fails at each call in turn, including the one that would report the end.
 #[test]
 fn failing_reader(rt: HostRuntime) {
     for calls in 0..4 {

@@ -1,4 +1,4 @@
-//! Readers and writers that fail.
+//! Tests of readers and writers that fail.
 ghost use Rattle.std.specs.Prelude.{◌≤◌, IfOk, IsFalse};
 
 use latex2mathml::{FileFault, Sink, Source, Stream, WriteCause, write_document};
@@ -7,7 +7,7 @@ use std::io;
 use std::io::{Read, Write};
 use std::test::Fail;
 
-/// Takes this many bytes per call. After this many calls it takes none, or fails.
+/// A writer that takes `step` bytes per call. After `calls_left` calls it takes none, or fails.
 #[derive(Drop)]
 pub struct Writer {
     pub held: Vec<u8>,
@@ -36,7 +36,7 @@ impl Write for Writer {
     }
 }
 
-/// Gives this many bytes per call, and fails after this many calls.
+/// A reader that gives `step` bytes per call, and fails after `calls_left` calls.
 #[derive(Drop)]
 pub struct Reader<'a> {
     pub bytes: &'a [u8],
@@ -68,7 +68,8 @@ pub fn stream<T>(inner: T) -> Stream<T>
     }
 }
 
-/// What is written to a writer, and how the writer behaves: it takes `step` bytes per call, and after `calls` calls none, or fails.
+/// What is written to a writer, and how the writer behaves: it takes `step` bytes per call, and after `calls` calls it takes
+/// none, or fails.
 #[derive(Clone, Copy)]
 struct Writing {
     text: &'static str,
@@ -78,8 +79,8 @@ struct Writing {
 }
 
 impl Writing {
-    /// Whether the writer then has exactly the bytes that the result reports, and the result has the cause, or none if all bytes
-    /// were taken.
+    /// Whether the writer then has exactly the bytes that the result reports, and the result has the cause, or none if all
+    /// bytes were taken.
     fn ends(self, alloc: Global, cause: Option<WriteCause>, written: usize) -> bool {
         let mut sink = stream(Writer {
             held: Vec::new(alloc),
@@ -156,7 +157,7 @@ fn writer_takes_nothing(rt: HostRuntime) {
     }
 }
 
-/// A reader that gives one byte per call, and ends. The rest of the room stays as it is.
+/// A reader that gives one byte per call, and ends. The rest of the room is unchanged.
 #[test]
 fn reader_gives(rt: HostRuntime) {
     let mut room = [7u8; 4];
@@ -204,7 +205,7 @@ fn sink_answers(rt: HostRuntime) {
     assert!(rt; !sink.failed && sink.ended);
 }
 
-/// Fails once, and gives or takes one byte at each later call.
+/// A reader and a writer. It fails once, and gives or takes one byte at each later call.
 #[derive(Drop)]
 struct Flawed {
     kind: io::ErrorKind,
@@ -212,7 +213,7 @@ struct Flawed {
 }
 
 impl Flawed {
-    /// How many of these bytes this call moves.
+    /// Returns how many of these bytes this call moves.
     fn take_step(&mut self, due: usize) -> io::Result<usize>
         ensures { IfOk result (λ n. n ≤ due) }
     {

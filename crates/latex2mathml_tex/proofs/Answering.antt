@@ -23,11 +23,11 @@ use Rattle.latex2mathml_tex_units.specs.declared.error.TexErrorKind.TheVariants 
 use Rattle.latex2mathml_tex.specs.declared.parse.Form.TheVariants as form
 use Rattle.latex2mathml_tex.specs.declared.parse.State.TheVariants as state
 
--- before the first step the formula comes to what its units come to as atoms
+-- before the first step the outcome of the formula is that of its units as atoms
 pub begins : (p : Parser) → p.frames.stack.items ≡ [] → Holds (start_of form.Atoms p) p state.Next
 begins p e = record { style = refl; claims = rw e (λ o d. d) }
 
--- .. or as rows, which are one atom
+-- before the first step the outcome of the formula is that of its units as rows, which are one atom
 
 only_atom : (style : Style) (base : Atom) (o : Outcome Atom) {at : ℕ} → ReadsScripts (formula_context style) base (no_scripts base.kind Beside) (End at) o → o ≡ Read base (End at)
 only_atom style base o (scripts_end s) = refl
@@ -72,7 +72,7 @@ module _ (read : Form) (p : Parser) where
   refused None h = h
   refused (Some r) d = d
 
--- As atoms, and then, where they ask for it, as rows
+-- Reading as atoms, and then as rows, if the atoms are refused because of `&` or `\\`
 
 abbrev is_outside_found : Option Kind → Bool
 is_outside_found None = false
@@ -91,7 +91,7 @@ pub refused_outside : {A : Type 0} (P : Refusal → Type 0) (result : Result A T
 refused_outside P (Ok x) s h = cc
 refused_outside P (Err error) s h = outside_so P (kind_of_error error.kind) error.place (sym (found_outside error.kind) ∙ s) h
 
--- .. and of others
+-- what holds of other refusals
 others_so : (P Q : Refusal → Type 0) (found : Option Kind) (place : ℕ) → is_outside_found found ≡ false → ((r : Refusal) → is_outside r.kind ≡ false → P r → Q r) → IfSome (option_map (λ k. refusal_at k place) found) P → IfSome (option_map (λ k. refusal_at k place) found) Q
 others_so P Q None place s f h = tt
 others_so P Q (Some k) place s f h = f (refusal_at k place) s h
@@ -122,19 +122,19 @@ module _ (style : Style) (l : Units) (r : Refusal) (asked : ReadsAs form.Atoms s
 pub expands_so : (m : Macros) (table : Table) (text : List ℕ) (l : Units) → l ≡ expanded (macros_in m) text → SameMacros table (macros_in m) → IsExpansion table text l
 expands_so m table text l e same = same_expansion (λ name. sym (same name)) (rw e (has_expansion (macros_in m) text))
 
--- so the row is a reading of the text
+-- the row is a reading of the text
 pub reading_of : (result : Result ℕ TexError) (table : Table) (tex : List ℕ) (l : Units) (read style : Style) (xs : List Element) → IsExpansion table (chars tex) l → read ≡ style → IfOk result (λ n. HasRead (ReadsFormula read l) n xs) → IfOk result (λ n. (row : Row) × IsReading table (chars tex) style row × AreUppermost row n xs)
 unfolding IsReading
 reading_of (Ok n) table tex l read style xs units e (row, (at, d, upper)) = (row, (l, units, (at, subst (λ s. ReadsFormula s l (Read row (End at))) e d)), upper)
 reading_of (Err error) table tex l read style xs units e h = tt
 
--- and what was appended is an answer
+-- what was appended is an answer
 pub answered : (table : Table) (tex : List ℕ) (style : Style) (count : ℕ) (xs : List Element) (old new : List ℕ) → (row : Row) × IsReading table (chars tex) style row × AreUppermost row count xs → new ≡ old ++ formula_print (is_display style) (children (reverse (take count xs))) → (markup : List ℕ) × IsAnswer table tex style markup × (new ≡ old ++ markup)
 answered table tex style count xs old new (row, reading, upper) is =
     let markup : new ≡ old ++ row_print style row = rw upper.elements is in
     (row_print style row, (row, reading, refl), markup)
 
--- .. with its source
+-- what was appended is an answer with its source
 pub answered_with_source : (table : Table) (tex : List ℕ) (style : Style) (count : ℕ) (xs ys : List Element) (old new : List ℕ) → (row : Row) × IsReading table (chars tex) style row × AreUppermost row count xs → ys ≡ row_element (take count xs) ∷ drop count xs → new ≡ old ++ annotated_print (is_display style) (top ys) (source_text (chars tex)) → (markup : List ℕ) × IsAnswerWithSource table tex style markup × (new ≡ old ++ markup)
 answered_with_source table tex style count xs ys old new (row, reading, upper) one is =
     let shown : top ys ≡ row_element row.elements = rw upper.elements (ap top one) in
@@ -146,12 +146,12 @@ unfolding formula.IsRefusal
 refusal_is None table tex l style units h = tt
 refusal_is (Some r) table tex l style units d = (l, units, d)
 
--- and the refusal that of the text
+-- the refusal is that of the text
 pub refuses_text : {A : Type 0} (result : Result A TexError) (table : Table) (tex : List ℕ) (l : Units) (read style : Style) → IsExpansion table (chars tex) l → read ≡ style → IfRefused result (λ r. ReadsFormula read l (Refused r)) → IfRefused result (IsRefusal table tex style)
 refuses_text (Ok a) table tex l read style units e h = tt
 refuses_text (Err error) table tex l read style units e h = refusal_is (refusal_of error) table tex l style units (subst (λ s. IfSome (refusal_of error) (λ r. ReadsFormula s l (Refused r))) e h)
 
--- An answer is one `math` element, and can stand in a page of XML or between dollar signs.
+-- An answer is one `math` element, and can be in a page of XML or between dollar signs.
 
 pub one_element : (macros : Table) (tex : List ℕ) (style : Style) (markup : List ℕ) → IsAnswer macros tex style markup → IsMathElement markup
 one_element macros tex style markup (row, reading, is) = rw is (print_as_elements.formulas (is_display style) (children (reverse row.elements)))
@@ -162,7 +162,7 @@ sound_text definitions macros tex style markup h (row, reading, is) = rw is (mar
 pub no_dollar : (macros : Table) (tex : List ℕ) (style : Style) (markup : List ℕ) → IsAnswer macros tex style markup → IsDollarFree markup
 no_dollar macros tex style markup (row, reading, is) = rw is (dollar_free (is_display style) (children (reverse row.elements)))
 
--- .. also with its source
+-- An answer with its source is one `math` element, and can be in a page of XML or between dollar signs.
 
 pub one_element_with_source : (macros : Table) (tex : List ℕ) (style : Style) (markup : List ℕ) → IsAnswerWithSource macros tex style markup → IsAnnotatedMathElement markup
 one_element_with_source macros tex style markup (row, reading, is) = rw is (annotated_print_as_elements.formulas (is_display style) (row_element row.elements) (source_text (chars tex)))

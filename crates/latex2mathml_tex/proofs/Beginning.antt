@@ -39,7 +39,7 @@ use Rattle.latex2mathml_tex.proofs.Marks.{core_refuses}
 use Rattle.latex2mathml_tex_units.proofs.Nexts.{no_more_past_space}
 use Rattle.latex2mathml_tex.proofs.Opening.{begins_in, context_is, out_of_frame, pushed}
 
--- What stands next behind white space
+-- What comes next after white space
 
 module _ (l : Units) (i : Input) (past : units_at i ≡ past_space l) where
   pub ends_next : (at : ℕ) → i.next ≡ next.End at → past_space l ≡ End at
@@ -54,11 +54,11 @@ module _ (l : Units) (i : Input) (past : units_at i ≡ past_space l) where
   pub taken_next : (u : Unit) (m : Units) → i.next ≡ next.Unit u → units_at i ≡ put_back i.next m → past_space l ≡ Next (unit_of u) m
   taken_next u m is e = sym past ∙ e ∙ ap (λ n. put_back n m) is
 
-  -- no unit came back
+  -- there are no more units than before
   pub no_more_next : unit_count (units_at i) ≤ unit_count l
   no_more_next = rw past (no_more_past_space l)
 
-  -- .. and one was taken
+  -- there is at least one unit less than before, if one was taken
   pub one_less_next : (u : Unit) (m : Units) → i.next ≡ next.Unit u → units_at i ≡ put_back i.next m → suc (unit_count m) ≤ unit_count l
   one_less_next u m is e =
       let one : unit_count (past_space l) ≡ suc (unit_count m) = ap unit_count (taken_next u m is e) in
@@ -163,7 +163,7 @@ module _ (s : Start) (p : Parser) (u : Unit) (due : (place : ℕ) × AwaitsOpera
       let same = ap context_of e ∙ context_is s p.style p.frames.stack.items f (elements_of p) g.style i in
       rw (none, same) led
 
-  -- a digit is all of the operand
+  -- a digit is the whole operand
   pub digit_taken : (b : Built) (k : Context) (f : Frame) (c : CodeCore) (digit : ℕ) → k ≡ frame_context f → InnermostIs f p → u.piece ≡ piece.Character digit → is_ascii_digit digit ≡ true → elements_in b ≡ (number (option_map alphabet_of k.alphabet) (digit ∷ [])).element ∷ elements_of p → ((x : Element) → core_with c x ≡ core (atom (Plain Ordinary) false x)) → Holds s (record p { builder = b }) (state.Core c)
   digit_taken b k f c digit e i is one put made =
       let starts : operand_start (piece_of u.piece) ≡ DigitStart (digit ∷ []) = rw some (rw is (rw one refl)) in

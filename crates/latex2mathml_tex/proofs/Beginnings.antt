@@ -27,7 +27,7 @@ use Rattle.latex2mathml_tex.proofs.Leading.{atom_due, base_due, rest_due, script
 use Rattle.latex2mathml_tex.proofs.Opening.{into_frame, out_of_frame}
 use Rattle.latex2mathml_tex_grammar.proofs.Spaces.{past_twice}
 
--- a prime or a script begins an atom, on a row without atoms
+-- a prime or a script begins an atom, whose base is a row without atoms
 pub begins_scripts : (change : Option Change) (m : Mark) → (m ≡ mark.Prime) ⊎ ((on : Side) × (m ≡ mark.Script on)) → start_of_mark change (Some (mark_model m)) ≡ ScriptStart
 begins_scripts change mark.Prime h = refl
 begins_scripts change (mark.Script side.Below) h = refl
@@ -83,7 +83,7 @@ module _ (s : Start) (p : Parser) (u : CodeUnit) (e : Ending) (due : (place : �
         (λ place c xs K k. base_due t.next (some place) (start place) k);
   }
 
-  -- what is no mark begins an atom, or changes what stands after it
+  -- what is not a mark begins an atom, or changes what follows it
   pub unmarked_begun : ((place : ℕ) → atom_start (ending_of e place) (piece_of u.piece) ≡ start_of_change (change_by (piece_of u.piece))) → TookUnmarked u s p
   unmarked_begun start = record {
     begins = λ none. rule_begun (λ place. start place ∙ ap start_of_change none);

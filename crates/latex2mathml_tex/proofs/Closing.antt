@@ -40,7 +40,7 @@ module _ (s : Start) (p : Parser) (b : Built) (place : ℕ) (row : CodeRow) (one
       let x = row_element (take row.count (elements_of p)) in
       rw (one, same) (operand_due (λ y. gives (root x y.element)) (rw none_beside at g.leads))
 
-  -- what stands above the arrow is due, in a script of the context of the level
+  -- the label above the arrow is due, in a script of the context of the level
   pub arrow_closed : (f : Frame) (c small : Context) → InnermostIs f p → c ≡ frame_context f → small ≡ record c { style = style.InScript } → ClosesRow ending.BelowArrow place row s p → Leads (level_within (frame.Last last.OverAndUnderArrow place small) 0 s (record p { builder = b })) (left_of p)
   arrow_closed f c small inner is smaller g =
       let same = ap context_of is ∙ context_is s p.style p.frames.stack.items f (drop (row.count + 1) (elements_of p)) g.style inner in

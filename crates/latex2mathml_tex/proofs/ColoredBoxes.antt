@@ -1,4 +1,4 @@
--- What holds of the parser where the color of a box around an operand is taken, or none stands there.
+-- What holds of the parser where the color of a box around an operand is taken, or there is none.
 use Rattle.std.proofs.Common.{◌≡◌, ℕ, ◌+◌, Option, Some, None, Result, option_map, subst, arith}
 use Rattle.std.specs.declared.alloc.AllocError.{AllocError}
 use Rattle.latex2mathml_elements.specs.Colors.{Color}

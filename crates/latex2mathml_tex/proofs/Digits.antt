@@ -1,4 +1,4 @@
--- The digits that stand next, one after the other.
+-- The digits that come next, one after the other.
 use Rattle.std.proofs.Common.{◌≡◌, ℕ, ◌≤◌, Bool, true, false, List, [], ◌∷◌, ◌++◌, Option, Some, None, refl, sym, ap, ◌∙◌, append_assoc, append-nil, inl, inr, arith}
 use Rattle.std.proofs.lemmas.Bool.{cases_Bool}
 use Rattle.latex2mathml_elements.specs.Element.{Element, token, space, rectangle, container, pair, triple, table}
@@ -9,7 +9,7 @@ use Rattle.latex2mathml_tex_grammar.specs.{Rules.a_digit, Symbols.Alphabet}
 use Rattle.latex2mathml_tex_grammar.specs.Units.{Units, Next, End, Stop}
 use Rattle.latex2mathml_tex_units.specs.Left.{unit_count}
 
--- where no digit stands next
+-- if no digit comes next
 pub no_digit : (l : Units) → next_are (a_digit ∷ []) l ≡ None → digits_next l ≡ ([], past_space l)
 no_digit (Next u us) e = elim (cases_Bool (is_space_piece u.piece)) [
   | inl h ↦ rw h (no_digit us (rw h at e))
@@ -22,7 +22,7 @@ no_digit (Next u us) e = elim (cases_Bool (is_space_piece u.piece)) [
 no_digit (End place) e = refl
 no_digit (Stop r) e = refl
 
--- where a digit does
+-- if a digit comes next
 pub one_digit : (l m : Units) (c : ℕ) → next_are (a_digit ∷ []) l ≡ Some (c ∷ [], m) → digits_next l ≡ (c ∷ (digits_next m).0, (digits_next m).1)
 one_digit (Next u us) m c e = elim (cases_Bool (is_space_piece u.piece)) [
   | inl h ↦ rw h (one_digit us m c (rw h at e))
@@ -70,7 +70,7 @@ lengthened_by_nothing (pair p a x y ∷ xs) = refl
 lengthened_by_nothing (triple t a x y z ∷ xs) = refl
 lengthened_by_nothing (table a rows ∷ xs) = refl
 
--- another digit, and those that stand next behind it
+-- another digit, and those that come next after it
 pub one_digit_longer : (a : Option Alphabet) (l m : Units) (c : ℕ) (xs : List Element) → next_are (a_digit ∷ []) l ≡ Some (c ∷ [], m) → lengthened (digits_in a (digits_next m).0) (lengthened (digits_in a (c ∷ [])) xs) ≡ lengthened (digits_in a (digits_next l).0) xs
 one_digit_longer a l m c xs e = lengthened_twice (digits_in a (c ∷ [])) (digits_in a (digits_next m).0) xs ∙ ap (λ ds. lengthened ds xs) (sym (one_more_digit a c (digits_next m).0) ∙ ap (λ found. digits_in a found.0) (sym (one_digit l m c e)))
 
@@ -78,7 +78,7 @@ pub no_digit_longer : (a : Option Alphabet) (l : Units) (xs : List Element) → 
 no_digit_longer None l xs e = ap (λ found. lengthened found.0 xs) (no_digit l e) ∙ lengthened_by_nothing xs
 no_digit_longer (Some a) l xs e = ap (λ found. lengthened (digits_in (Some a) found.0) xs) (no_digit l e) ∙ lengthened_by_nothing xs
 
--- digits behind digits
+-- digits after digits
 pub digits_together : (a : Option Alphabet) (first second : List ℕ) → digits_in a (first ++ second) ≡ digits_in a first ++ digits_in a second
 digits_together None first second = refl
 digits_together (Some a) [] second = refl
@@ -88,14 +88,14 @@ digits_together (Some a) (d ∷ first) second = simp (digits_together (Some a) f
 pub longer_number : (a : Option Alphabet) (first second : List ℕ) (xs ys zs : List Element) → ys ≡ (number a first).element ∷ xs → zs ≡ lengthened (digits_in a second) ys → zs ≡ (number a (first ++ second)).element ∷ xs
 longer_number a first second xs ys zs e f = rw (f, e, digits_together a first second) refl
 
--- .. by a point, a digit, and more digits
+-- a number becomes longer, by a point, a digit, and more digits
 pub longer_by_point : (a : Option Alphabet) (first : List ℕ) (c d : ℕ) (more : List ℕ) (xs ys zs us vs : List Element) → ys ≡ (number a first).element ∷ xs → zs ≡ lengthened (digits_in a (c ∷ [])) ys → us ≡ lengthened (digits_in a (d ∷ [])) zs → vs ≡ lengthened (digits_in a more) us → vs ≡ (number a ((first ++ c ∷ d ∷ []) ++ more)).element ∷ xs
 longer_by_point a first c d more xs ys zs us vs e f g h =
     let point : zs ≡ (number a (first ++ c ∷ [])).element ∷ xs = longer_number a first (c ∷ []) xs ys zs e f in
     let digit : us ≡ (number a ((first ++ c ∷ []) ++ d ∷ [])).element ∷ xs = longer_number a (first ++ c ∷ []) (d ∷ []) xs zs us point g in
     longer_number a (first ++ c ∷ d ∷ []) more xs us vs (digit ∙ ap (λ ds. (number a ds).element ∷ xs) (append_assoc first (c ∷ []) (d ∷ []))) h
 
--- how many units are left behind the digits that stand next
+-- how many units are left after the digits that come next
 pub no_more_behind_digits : (l : Units) → unit_count (digits_next l).1 ≤ unit_count l
 no_more_behind_digits (Next u us) = shortened (is_space_piece u.piece) (a_digit u.piece) (digits_next us) (no_more_behind_digits us)
   where

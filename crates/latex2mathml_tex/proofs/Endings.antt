@@ -66,7 +66,7 @@ pub is_high : (high : Bool) → not high ≡ false → high ≡ true
 is_high true e = refl
 is_high false e = cc e
 
--- what stands there is no higher than a letter, unless the row is high
+-- the dividers among the first n are no higher than a letter, unless the row is high
 pub record Lowered (high : Bool) (n : ℕ) (xs ys : List Element) : Type 0 where
   pub first : take n ys ≡ lowered high (take n xs)
   pub below : drop n ys ≡ drop n xs

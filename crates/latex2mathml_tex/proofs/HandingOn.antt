@@ -35,7 +35,7 @@ module _ {A : Type 0} (part : (A → Rule) → Rule) (p q : Parser) where
   pub stopped_within : (m : ℕ) → 0 < m → HasElements 0 p → TookBy part p q None → Follows (to_do p + m) q state.Refused
   stopped_within m some enough (r, (same, (reported, (fewer, on)))) = refused_within p q q.input q.refusal state.Refused same refl m some fewer enough
 
--- a part behind another
+-- a part after another
 module _ {A B : Type 0} (first : (A → Rule) → Rule) (second : A → (B → Rule) → Rule) (p q t : Parser) where
   abbrev pub both : (B → Rule) → Rule
   both more = first (λ x. second x more)

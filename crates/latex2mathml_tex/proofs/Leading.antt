@@ -88,7 +88,7 @@ module _ {K : Outcome Core → Type 0} {l : Units} where
   }
   rows_due then k (Refused r) d = k.to _ (rows_refused d)
 
--- Atoms behind a row
+-- Atoms after a row
 
 module _ {ending : Ending} {c : Context} {xs : Row} {K : Outcome Row → Type 0} {l : Units} where
   pub row_ends_text : {at : ℕ} → past_space l ≡ End at → unended ending ≡ None → Leads (row ending c xs K) l → K (Read (finished c.style xs) (End at))
@@ -124,7 +124,7 @@ module _ {ending : Ending} {c : Context} {xs : Row} {K : Outcome Row → Type 0}
   pub base_due : {u : Unit} {m : Units} → past_space l ≡ Next u m → IsFalse (ends ending u.piece) → atom_start ending u.piece ≡ RuleStart → Leads (row ending c xs K) l → RuleLeads (rule u.place c u.piece) (CoreMade (row ending c xs K)) m
   base_due p e s k = record { to = λ o d. base_made p e s k o d }
 
-  -- what stands after a change is due
+  -- what follows a change is due
   going_on : {u : Unit} {m : Units} {change : Change} → past_space l ≡ Next u m → IsFalse (ends ending u.piece) → atom_start ending u.piece ≡ ChangeStart change → Leads (row ending c xs K) l → (rest : Rest) → rest_of change c xs u.place m ≡ rest → FollowsChange ending K rest
   going_on p e s k (GoesOnIn d ys n) r = λ o reads. k o (rest_read p e s r reads)
   going_on p e s k (NoRest refusal) r = k _ (change_refused p e s r)
@@ -132,7 +132,7 @@ module _ {ending : Ending} {c : Context} {xs : Row} {K : Outcome Row → Type 0}
   pub rest_due : {u : Unit} {m : Units} {change : Change} → past_space l ≡ Next u m → IsFalse (ends ending u.piece) → atom_start ending u.piece ≡ ChangeStart change → Leads (row ending c xs K) l → RestLeads change u.place (row ending c xs K) m
   rest_due {u = u} {m = m} {change = change} p e s k = going_on p e s k (rest_of change c xs u.place m) refl
 
--- What stands after an atom
+-- What follows an atom
 
 -- where the operand of a script leads
 abbrev pub ScriptLeads : Level → Atom → (Element → Scripts) → Outcome Operand → Type 0

@@ -1,4 +1,4 @@
--- What holds of the parser behind a mark, and behind the operand of a script.
+-- What holds of the parser after a mark, and after the operand of a script.
 use Rattle.std.proofs.Common.{◌≡◌, ℕ, zero, suc, ◌+◌, ◌<◌, ◌≤◌, Bool, true, false, List, [], ◌∷◌, Option, Some, None, drop, take, length, reverse, refl, sym, ap, ◌∙◌, subst, arith}
 use Rattle.latex2mathml_elements.specs.Element.{Element}
 use Rattle.latex2mathml_builder.specs.Built.{Built, elements_in}
@@ -84,7 +84,7 @@ module _ (r : Refusal) where
   all_refuse s [] xs k = k
   all_refuse s (f ∷ fs) xs k = frame_refuses s (inside_all s fs (drop (element_count f) xs)) (λ h. all_refuse s fs (drop (element_count f) xs) h) f xs k
 
--- A mark at any level; scripts stand in rows alone
+-- A mark at any level; scripts are only in rows
 
 module _ (base : Atom) (scripts : Scripts) (before m : Units) (u : Unit) (p : past_space before ≡ Next u m) where
   pub goes_on : (l : Level) {more : Scripts} → step_of_mark scripts (mark_of u.piece) ≡ Some (GoesOn more) → ScriptsLead l base scripts before → ScriptsLead l base more m
@@ -174,7 +174,7 @@ primes_before : (primes : ℕ) (xs : List Element) (x : Element) → 0 < primes 
 primes_before zero xs x h = absurd (omega (arith, h))
 primes_before (suc n) xs x h = refl
 
--- Behind a mark
+-- After a mark
 
 module _ (s : Start) (p : Parser) (c : CodeCore) (scripts : CodeScripts) (m : Mark) (place : ℕ) where
   -- the elements, and the scripts that were read
@@ -194,7 +194,7 @@ module _ (s : Start) (p : Parser) (c : CodeCore) (scripts : CodeScripts) (m : Ma
   abbrev refused_for : TexErrorKind → Parser
   refused_for kind = record p { refusal = record { kind = kind; place = place } }
 
-  -- what the unit does that was taken
+  -- what the unit that was taken does
   step_is : (g : TookIt) (k : starts.Mark) → mark_model m ≡ k → step_of_mark read (mark_of g.unit.piece) ≡ Some (step_of read read.below read.above k)
   step_is g k e = ap (λ o. step_of_mark read o) (g.is ∙ ap (λ k. Some k) e)
 
@@ -204,7 +204,7 @@ module _ (s : Start) (p : Parser) (c : CodeCore) (scripts : CodeScripts) (m : Ma
     claims = goes_on _ read g.before _ g.unit g.next at_row (step_is g (starts.LimitsAt (limit_place_of limits)) (ap mark_model e) ∙ ap (λ x. Some x) (limits_step read (limit_place_of limits) read.below read.above some)) g.leads;
   }
 
-  -- no script stands above
+  -- there is no script above
   none_there : scripts.above ≡ false → read.above ≡ None
   none_there e = ap (λ b. element_above scripts.below b scripts.is_exchanged here) e ∙ none_above scripts.below scripts.is_exchanged here
 
@@ -213,7 +213,7 @@ module _ (s : Start) (p : Parser) (c : CodeCore) (scripts : CodeScripts) (m : Ma
       let same : step_of read read.below read.above starts.Prime ≡ GoesOn (record read { primes = primes }) = ap (λ o. step_of read read.below o starts.Prime) (none_there none) ∙ prime_step read read.below ∙ ap (λ n. GoesOn (record read { primes = n })) (sym more) in
       record { style = g.style; claims = goes_on _ read g.before _ g.unit g.next at_row (step_is g starts.Prime (ap mark_model e) ∙ ap (λ x. Some x) same) g.leads }
 
-  -- .. a second script
+  -- a second script is refused
   second : (k : starts.Mark) (kind : Kind) → mark_model m ≡ k → step_of read read.below read.above k ≡ Forbidden kind → TookIt → Whole s (Refused (refusal_at kind place))
   second k kind e same g = subst (λ at. Whole s (Refused (refusal_at kind at))) g.at (all_refuse (refusal_at kind g.unit.place) s (reverse p.frames.stack.items) _ (comes_twice _ read g.before _ g.unit g.next at_row (step_is g k e ∙ ap (λ x. Some x) same) g.leads))
 
@@ -250,7 +250,7 @@ module _ (s : Start) (p : Parser) (c : CodeCore) (scripts : CodeScripts) (m : Ma
   script_read side.Below x = record read { below = Some x }
   script_read side.Above x = record read { above = Some (behind_primes scripts.primes x) }
 
-  -- these elements are those that were there, above them a mark of the primes that stand before a script on this side
+  -- these elements are those that were there, with a mark above them of the primes that precede a script on this side
   abbrev pub MarkPut : Side → List Element → Type 0
   MarkPut on ys =
       (drop (primes_put on scripts.primes + (script_count scripts + 1)) ys ≡ drop (script_count scripts + 1) here)
@@ -272,7 +272,7 @@ module _ (s : Start) (p : Parser) (c : CodeCore) (scripts : CodeScripts) (m : Ma
   frame_opened on ys context e none same put g =
       rw (same, sym g.at) (takes_operand _ read g.before _ g.unit g.next at_row (script_read on) (step_is g _ (ap mark_model e) ∙ ap (λ x. Some x) (takes on none)) g.leads (ScriptMade (frame_level on ys) c scripts on ys) (λ o k. read_made on ys none put o k))
 
-  -- .. by a parser that has put the mark
+  -- the operand of a script is due within its frame, for a parser that has put the mark of primes
   pub script_opened : (q : Parser) (b : Built) → q ≡ record p { builder = b } → (on : Side) (f : Frame) (context : Context) → m ≡ mark.Script on → has_script on scripts ≡ false → context ≡ record (frame_context f) { style = code_style.InScript } → MarkPut on (elements_in b) → TookIt → InnermostIs f q → (s.style ≡ style_of q.style) × Leads (level_within (frame.Script c scripts on place context) 0 s q) (left_of q)
   script_opened q b same on f context e none styled_so put g i =
       let inner : InnermostIs f p = subst (λ q. InnermostIs f q) same i in
@@ -295,18 +295,18 @@ module _ (s : Start) (p : Parser) (c : CodeCore) (scripts : CodeScripts) (m : Ma
       let count : primes_put side.Above scripts.primes + (script_count scripts + 1) ≡ suc (script_count scripts + 1) = omega (arith, one_put) in
       subst (λ ys. MarkPut side.Above ys) (sym e) (ap (λ k. drop k all) count, ap (λ k. drop k all) one_put, λ x. ap (λ y. record read { above = Some y }) (primes_before scripts.primes here x some))
 
--- Behind the operand of a script
+-- After the operand of a script
 
 -- these scripts
 abbrev scripts_of : Bool → ℕ → Bool → Bool → Bool → CodeLimitPlace → CodeScripts
 scripts_of takes primes below above exchanged limits = record { primes = primes; below = below; above = above; is_exchanged = exchanged; limits = limits; takes_limits = takes }
 
 module _ (s : Start) (fs : List Frame) (c : CodeCore) (takes : Bool) (limits : CodeLimitPlace) (m : Units) where
-  -- what stands behind them leads on; their elements are uppermost
+  -- what follows these scripts leads on; their elements are uppermost
   abbrev AllLead : CodeScripts → List Element → Type 0
   AllLead scripts xs = ScriptsLead (inside s fs (drop (script_count scripts + 1) xs)) (base_of c scripts xs).atom (scripts_with scripts xs) m
 
-  -- the uppermost element is that of an operand, which is a script beside them
+  -- the uppermost element is that of an operand, which is a script in addition to them
   abbrev ScriptLeadsOn : CodeScripts → Side → List Element → Type 0
   ScriptLeadsOn scripts on xs = (class : Class) (high : Bool) → ScriptMade (inside s fs (drop (primes_put on scripts.primes + (script_count scripts + 2)) xs)) c scripts on (drop 1 xs) (Read (record { element = top xs; class = class; high = high }) m)
 
@@ -326,7 +326,7 @@ module _ (s : Start) (fs : List Frame) (c : CodeCore) (takes : Bool) (limits : C
   above_read false false exchanged [] k = (k class.Ordinary false).1
   above_read false false exchanged (x ∷ xs) k = (k class.Ordinary false).1
 
-  -- .. behind a mark of primes
+  -- what follows these scripts leads on, with a superscript after a mark of primes
   behind_read : (primes : ℕ) (below above exchanged : Bool) (xs : List Element) → 2 ≤ length xs → ScriptLeadsOn (scripts_of takes (suc primes) below above exchanged limits) side.Above xs → AllLead (scripts_of takes (suc primes) below true false limits) (row_element (take 2 xs) ∷ drop 2 xs)
   behind_read primes below true exchanged xs enough k = cc (k class.Ordinary false).0
   behind_read primes below above exchanged [] enough k = absurd (omega arith)

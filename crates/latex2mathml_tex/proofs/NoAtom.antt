@@ -1,4 +1,4 @@
--- Where no atom begins in a row: its ending stands there, the text ends, or what stands there is no unit.
+-- Where no atom begins in a row: its ending is there, the text ends, or what is there is not a unit.
 use Rattle.std.proofs.Common.{◌≡◌, ◌≢◌, refl, ◌∙◌, ℕ, suc, ◌+◌, ◌≤◌, true, Some, List, length, reverse, sum_by, Result, sym, ap, arith, subst}
 use Rattle.std.proofs.lemmas.{Bool.and_parts, List.Sums.sum_by_push}
 use Rattle.std.specs.declared.alloc.AllocError.{AllocError}
@@ -47,7 +47,7 @@ frames_left style fs others f (on_top h) =
     let brought : sum_by frame_weight fs ≡ sum_by frame_weight others + frame_weight f = ap (sum_by frame_weight) h ∙ sum_by_push frame_weight others f in
     omega (arith, brought)
 
--- what a row leaves behind its end
+-- what a row leaves after its end
 is_left : (e : Ending) (place : ℕ) (u : CodeUnit) (l m : Units) → past_space l ≡ Next (unit_of u) m → IsLeft e u (left_behind (ending_of e place) (unit_of u) m) m
 is_left (ending.Cell t) place u l m next = next_stays l (unit_of u) m next
 is_left ending.Text place u l m next = refl
@@ -63,7 +63,7 @@ module _ (p : Parser) (e : Ending) (place : ℕ) (row : CodeRow) (c : Context) (
     abbrev in_row : (Level → Type 0) → Type 0
     in_row P = P (within s others (frame.Row e place c row) (elements_of p))
 
-    -- what is due leads to the atoms behind the row
+    -- what is due leads to the atoms after the row
     atoms_due : in_row (λ l. Leads l (left_of p))
     atoms_due = into_frame (λ l. Leads l (left_of p)) s p.style h.style p.frames.stack.items others (frame.Row e place c row) (elements_of p) inner h.claims
 
@@ -97,7 +97,7 @@ module _ (p : Parser) (e : Ending) (place : ℕ) (row : CodeRow) (c : Context) (
       leads = row_ended next (sym is) (begun fr f taken);
     }
 
-  -- without its frame, the row can be given to what it was begun for
+  -- without its frame, the row can be given to what it was started for
   pub row_can_close : (i : Input) (fr : Frames) (f : Frame) → IsInnermost p.style p.frames.stack.items f fr.stack.items → HasElements 0 p → Awaits core_made p → CanMake (row_makes e) (row_count row + ending_count e) (record p { input = i; frames = fr })
   row_can_close i fr f taken enough awaits =
       let fs = p.frames.stack.items in
@@ -119,7 +119,7 @@ module _ (p : Parser) (e : Ending) (place : ℕ) (row : CodeRow) (c : Context) (
       let fewer : unit_count (units_at i) ≤ unit_count (left_of p) = rw units (no_more_past_space (left_of p)) in
       step_within p (record p { input = i; frames = fr }) new answer (ending_weight e + 1) 1 (omega (arith, fewer, brought)) step
 
--- a unit that stands next, white space aside
+-- a unit that comes next, after any white space
 pub unit_next : (l m w : Units) (n : CodeNext) (u : CodeUnit) → w ≡ past_space l → w ≡ put_back n m → n ≡ next.Unit u → past_space l ≡ Next (unit_of u) m
 unit_next l m w n u space behind is = sym space ∙ behind ∙ ap (λ n. put_back n m) is
 

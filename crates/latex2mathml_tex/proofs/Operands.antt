@@ -38,7 +38,7 @@ script_taken s p fr c scripts on place context operand i g =
       leads = λ class high. subst (λ ys. ScriptMade (inside s fr.stack.items ys) c scripts on (drop 1 xs) read) others k;
     }
 
--- .. and the last operand of a command
+-- the last operand of a command, whose frame is taken off
 pub last_taken : (s : Start) (p : Parser) (fr : Frames) (last : Last) (place : ℕ) (context : Context) (operand : CodeOperand) → IsInnermost p.style p.frames.stack.items (frame.Last last place context) fr.stack.items → Holds s p (state.Operand operand) → Begins (gives (made_of last (drop 1 (elements_of p)) (operand_with operand (top (elements_of p))))) (last_count last + 1) s (record p { frames = fr })
 last_taken s p fr last place context operand i g =
     let xs = elements_of p in
@@ -104,7 +104,7 @@ innermost_takes : (style : CodeStyle) (fs others : List Frame) (f : Frame) (c : 
 innermost_takes style fs others f c (none_begun h k g) e = let no : ⊥ = rw g at e in absurd no
 innermost_takes style fs others f c (on_top h) e = rw h (subst (λ l. IsTrue (first_accepts operand_made l)) (sym (reverse-append others (f ∷ []))) (takes_operand c f e))
 
--- nothing parts the first atom of a row from what stands before it
+-- nothing separates the first atom of a row from what precedes it
 never_parted : (kind : Kind) → is_parted Nothing kind ≡ false
 never_parted Blank = refl
 never_parted kind = refl
@@ -113,7 +113,7 @@ one_alone : (n : ℕ) (xs : List Element) → n ≡ 1 → n ≤ length xs → ro
 one_alone n [] e h = absurd (omega (arith, e, h))
 one_alone n (x ∷ xs) e h = rw e refl
 
--- a row of this atom alone, whose element stands first, in place of its own
+-- a row of this atom alone, whose element comes first, in place of its own
 module _ (style : Style) (x : Atom) (row : CodeRow) (xs ys : List Element) (longer : row_with row ys ≡ with_atom style empty_row x) (under : drop row.count ys ≡ drop 1 xs) (there : row.count ≤ length ys) where
   one : row.count ≡ 1
   one =

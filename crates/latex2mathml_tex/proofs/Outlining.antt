@@ -15,7 +15,7 @@ module _ (place : ℕ) where
   abbrev outlined : List ℕ → List ℕ → Bool → Option Style → Outline
   outlined opening closing has_line own = record { opening = opening; closing = closing; has_line = has_line; own = own }
 
-  -- what stands behind each part
+  -- what follows each part
   abbrev behind_line : List ℕ → List ℕ → Bool → (Outline → Rule) → Rule
   behind_line opening closing has_line more = a_style place (λ own. more (outlined opening closing has_line own))
 
@@ -61,7 +61,7 @@ module _ (place : ℕ) where
             (mapped_taken (a_style place) (outlined opening closing has_line) d q own
             (by_value numbered_style (λ text. refusal_at MissingArgument place) place (BeforeArgument Number) d q own e))))
 
--- a line, where empty braces do not stand next
+-- a line, if empty braces do not come next
 module _ (place : ℕ) (p q : Parser) (i : Input) (none : next_are empty_braces (left_of p) ≡ None) (kept : units_at i ≡ left_of p) where
   abbrev pub TookWidth : Option ℤ → Type 0
   TookWidth width = TookValue place BeforeLengthInBraces width_of (λ text. refusal_at LengthTooLarge place) (record p { input = i }) q width

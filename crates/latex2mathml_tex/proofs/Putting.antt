@@ -21,18 +21,18 @@ core_put s p b c x k e f g = record {
   claims = rw (e, f) (given g.leads);
 }
 
--- an element is all of an atom
+-- an element is a whole atom
 pub is_put : (c : CodeCore) (x : Element) (k : Core) (old new : List Element) → new ≡ x ∷ old → core_with c x ≡ k → IsPut c k old new
 is_put c x k old new e f = record {
   element = e ∙ ap (λ (j : Core). j.atom.element ∷ old) f;
   is = ap (λ (j : Core). core_with c j.atom.element) (sym f) ∙ f;
 }
 
--- .. and what was put is what the parser then has
+-- what was put is what the parser then has
 pub put_held : (s : Start) (p : Parser) (b : Built) (c : CodeCore) (k : Core) → IsPut c k (elements_of p) (elements_in b) → Begins (gives k) 0 s p → Holds s (record p { builder = b }) (state.Core c)
 put_held s p b c k is g = core_put s p b c k.atom.element k is.element is.is g
 
--- .. and so much is left to do, if no unit came back
+-- how much is left to do where an element was put, if there are no more units than before
 pub core_step : (p : Parser) (i : Input) (b : Built) (c : CodeCore) (x : Element) → CanBegin 0 p → elements_in b ≡ x ∷ elements_of p → unit_count (units_at i) ≤ unit_count (left_of p) → Follows (to_do p + 13) (record p { input = i; builder = b }) (state.Core c)
 core_step p i b c x begins e h = record {
   ready = record { elements = rw e (omega (arith, begins.elements)); may_come = record { accepted = begins.awaits.accepted; nested = begins.awaits.nested } };
@@ -51,7 +51,7 @@ module _ (s : Start) (p : Parser) (i : Input) where
   pub past_none : {tests : List (Piece → Option (List ℕ))} {then : List ℕ → Rule} (otherwise : Rule) → next_are tests (left_of p) ≡ None → units_at i ≡ left_of p → Begins (takes_if tests then otherwise) 0 s p → Begins otherwise 0 s (record p { input = i })
   past_none otherwise e f g = record { style = g.style; leads = rw f (not_taken e g.leads) }
 
--- What begins where a unit stands next that passes a test, and where none does
+-- What begins if a unit that passes a test comes next, and if none does
 module _ (s : Start) (p : Parser) {test : Piece → Bool} {then otherwise : Rule} where
   pub before_unit : follows test (left_of p) ≡ true → Begins (if_follows test then otherwise) 0 s p → Begins then 0 s p
   before_unit e g = record { style = g.style; leads = follows_next e g.leads }

@@ -58,7 +58,7 @@ module _ (s : Start) (p : Parser) (b : Built) (style : CodeStyle) (row whole : C
       (subst (λ zs. MadeOf rest zs (drop (whole.count + ending_count e) ys) (finished (style_of style) (row_with row xs))) (sym below)
       (subst (λ zs. MadeOf rest (drop (row_count row) xs) zs (finished (style_of style) (row_with row xs))) (sym others) leads))
 
--- .. so it can be closed
+-- the finished row can be closed
 closes_by : (s : Start) (p : Parser) (e : Ending) (place : ℕ) (xs : CodeRow) (u : CodeUnit) (rest : Units) → IsLeft e u rest (left_of p) → s.style ≡ style_of p.style → RowMade s e place (drop xs.count (elements_of p)) (level (xs.count + ending_count e) s p) (Read (row_with xs (elements_of p)) rest) → Closes e place xs u s p
 closes_by s p (ending.Cell t) place xs u rest left style leads = record { style = style; before = rest; next = left; leads = leads }
 closes_by s p ending.Text place xs u rest left style leads = record { style = style; leads = subst (λ m. Whole s (Read (row_with xs (elements_of p)) m)) left leads }
@@ -105,7 +105,7 @@ module _ (p : Parser) (fr : Frames) (f : Frame) (e : Ending) (at : ℕ) (context
         awaits = record { accepted = awaits.0; nested = awaits.1 };
       }
 
-  -- .. also behind units that were taken
+  -- the row's frame can be put back, also after units that were taken
   pub rest_can_behind : (q : Parser) (b : Built) (other : CodeRow) → q ≡ record p { frames = fr; input = q.input } → CanBegin 0 p → drop (row_count other) (elements_in b) ≡ drop (row_count row) (elements_of q) → row_count other ≤ length (elements_in b) → CanMake (row_makes e) (row_count other + ending_count e) (record q { builder = b })
   rest_can_behind q b other same can own there =
       let made = rest_can b other can (own ∙ ap (λ (x : Parser). drop (row_count row) (elements_of x)) same) there in
@@ -128,7 +128,7 @@ module _ (p : Parser) (fr : Frames) (f : Frame) (e : Ending) (at : ℕ) (context
     abbrev AllLead : RuleContext → Row → Units → List Element → List Element → Type 0
     AllLead c r m own below = (o : Outcome Row) → ReadsAtoms (ending_of e at) c r m o → RowMade s e at own (inside s others below) o
 
-    -- it is due within the row's frame
+    -- what follows the change is due within the row's frame
     pub rest_begins : (new_context : Context) (c : RuleContext) (other : CodeRow) (ys : List Element) (r : Row) (m : Units) → context_of new_context ≡ c → row_with other ys ≡ r → drop (row_count other) ys ≡ drop (row_count row) (elements_of p) → rest ≡ GoesOnIn c r m → Leads (within s others (frame.Row e at new_context other) ys) m
     rest_begins new_context c other ys r m same_context same_row own is =
         let xs = elements_of p in
@@ -140,7 +140,7 @@ module _ (p : Parser) (fr : Frames) (f : Frame) (e : Ending) (at : ℕ) (context
         (subst (λ zs. AllLead c r m zs (drop (row_count other + ending_count e) ys)) (sym own)
         (subst (λ zs. AllLead c r m (drop (row_count row) xs) zs) (sym below) due)))
 
-    -- it is refused
+    -- what follows the change is refused
     pub no_rest : (q : Parser) (r : Refusal) → rest ≡ NoRest r → q.style ≡ p.style → refusal_of q.refusal ≡ Some r → Holds s q state.Refused
     no_rest q r is same told =
         let led : RowLeads (Refused r) = subst (λ (x : Rest). FollowsChange (ending_of e at) RowLeads x) is follows in

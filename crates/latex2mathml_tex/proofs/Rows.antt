@@ -1,4 +1,4 @@
--- What holds of the parser where an atom is put behind a row.
+-- What holds of the parser where an atom is put after a row.
 use Rattle.std.proofs.Common.{◌≡◌, ℕ, ◌+◌, ◌-◌, ◌<◌, ◌≤◌, ◌&&◌, ◌++◌, Bool, true, false, sum_by, Some, None, Result, Ok, Err, IsTrue, List, [], ◌∷◌, drop, length, refl, sym, ap, ◌∙◌, subst, arith, reverse}
 use Rattle.std.proofs.lemmas.{List.drop-drop, List.length-drop, List.reverse-append, List.Sums.sum_by_push}
 use Rattle.latex2mathml_elements.specs.Element.{Element}
@@ -40,9 +40,9 @@ use Rattle.latex2mathml_tex_units.specs.declared.unit.Next.TheVariants as next
 use Rattle.latex2mathml_tex.proofs.Leading.{scripts_ended}
 use Rattle.latex2mathml_tex.proofs.Opening.{context_is, into_frame}
 
--- A row with an atom behind it
+-- A row with an atom after it
 
--- .. is as long as it was, but for its atoms
+-- a row with an atom after it is as long as it was, except for its atoms
 count_longer : (row longer : CodeRow) (xs ys : List Element) → drop longer.count ys ≡ drop (row.count + 1) xs → row_rest longer ≡ row_rest row → drop (row_count longer) ys ≡ drop (row_count row) (drop 1 xs)
 count_longer row longer xs ys below rest =
     let swap : row.count + 1 ≡ 1 + row.count = omega arith in
@@ -78,7 +78,7 @@ innermost_accepts : (style : Style) (fs others : List Frame) (f : Frame) → IsI
 innermost_accepts style fs others f (none_begun h k is) waits = rw is search
 innermost_accepts style fs others f (on_top h) waits = subst (λ l. IsTrue (first_accepts atom_made l)) (reverse-append others (f ∷ [])) (rw h at waits)
 
--- .. and so the innermost frame is one where an atom is due
+-- the innermost frame is a row, where an atom is due
 pub row_there : (p : Parser) (r : Context × CodeRow) → (f : Frame) × ((others : List Frame) × (IsInnermost p.style p.frames.stack.items f others × (r ≡ frame_row f))) → Awaits atom_made p → (e : Ending) × ((place : ℕ) × ((others : List Frame) × IsInnermost p.style p.frames.stack.items (frame.Row e place r.0 r.1) others))
 row_there p r (f, (others, (i, is))) waits =
     let row = is_row f (innermost_accepts p.style p.frames.stack.items others f i waits.accepted) in
@@ -96,7 +96,7 @@ both true true h = (h, h)
 both true false h = absurd (cc)
 both false b h = absurd (cc)
 
--- .. there are elements for it
+-- there are elements for another row in place of the one that was taken off
 pub others_counted : (style : Style) (fs others : List Frame) (e : Ending) (place : ℕ) (context : Context) (row longer : CodeRow) (xs ys : List Element) → IsInnermost style fs (frame.Row e place context row) others → sum_by element_count fs + 1 ≤ length xs → drop longer.count ys ≡ drop (row.count + 1) xs → row_rest longer ≡ row_rest row → longer.count ≤ length ys → sum_by element_count others + (row_count longer + ending_count e) ≤ length ys
 others_counted style fs others e place context row longer xs ys (none_begun h k g) enough below rest there =
     let none : row_count row + ending_count e ≡ 0 = ap element_count g in
@@ -124,7 +124,7 @@ pub weighed : (style : Style) (fs others : List Frame) (f : Frame) → IsInnermo
 weighed style fs others f (none_begun h k g) = rw (h, k, g) refl
 weighed style fs others f (on_top h) = ap (sum_by frame_weight) h ∙ sum_by_push frame_weight others f
 
--- .. in place of the other one
+-- a row is put back in place of the other one
 pub row_put_back : (p q : Parser) (f : Frame) (others : List Frame) (e : Ending) (place : ℕ) (context : Context) (row longer : CodeRow) → IsInnermost p.style p.frames.stack.items f others → f ≡ frame.Row e place context row → CanMake atom_made 1 p → drop longer.count (elements_of q) ≡ drop (row.count + 1) (elements_of p) → row_rest longer ≡ row_rest row → longer.count ≤ length (elements_of q) → q.frames.stack.items ≡ others ++ frame.Row e place context longer ∷ [] → left_of q ≡ left_of p → Follows (to_do p + 2) q state.Next
 row_put_back p q f others e place context row longer i is can below rest there items left =
     let back = frame.Row e place context longer in
@@ -177,7 +177,7 @@ divider_put s p i b c text e put is g = record {
   leads = rw (put, is) (given (delimited (λ text. gives (core (divider text))) e g.leads));
 }
 
--- Scripts that stand on a row without atoms
+-- Scripts whose base is a row without atoms
 
 pub mark_begins : (s : Start) (p : Parser) (b : Built) (m : Mark) (place : ℕ) (c : CodeCore) (scripts : CodeScripts) → elements_in b ≡ row_element [] ∷ elements_of p → c ≡ record { kind = kind.Plain class.Ordinary; high = false; limits = code_place.Beside } → scripts ≡ record { primes = 0; below = false; above = false; is_exchanged = false; limits = code_place.Beside; takes_limits = false } → TookMark m place (level 0 s p) empty_base (no_scripts empty_base.kind Beside) s p → TookMark m place (inside s p.frames.stack.items (drop (script_count scripts + 1) (elements_in b))) (base_of c scripts (elements_in b)).atom (scripts_with scripts (elements_in b)) s (record p { builder = b })
 mark_begins s p b m place c scripts put is none g = record {
@@ -190,7 +190,7 @@ mark_begins s p b m place c scripts put is none g = record {
   leads = rw (put, is, none) g.leads;
 }
 
--- Behind an atom with its scripts
+-- After an atom with its scripts
 
 no_step : (scripts : Scripts) (n : CodeNext) (l w : Units) → w ≡ put_back n l → ((u : CodeUnit) → n ≡ next.Unit u → mark_of (piece_of u.piece) ≡ None) → step_next scripts w ≡ None
 no_step scripts (next.Unit u) l w e h = rw e (ap (step_of_mark scripts) (h u refl))

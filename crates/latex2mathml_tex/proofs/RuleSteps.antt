@@ -1,4 +1,4 @@
--- What holds of the parser where the rule of a unit is begun.
+-- What holds of the parser where the rule of a unit begins.
 use Rattle.std.proofs.Common.{◌≡◌, ℕ, ◌+◌, ◌≤◌, List, [], ◌∷◌, Option, Some, None, option_map, refl, ap, ◌∙◌}
 use Rattle.std.specs.Option.{unwrap_or}
 use Rattle.latex2mathml_tex_grammar.specs.{Delimiters.delimiter_of, Next.next_are, Next.past_space, Next.refusal_here}
@@ -16,7 +16,7 @@ use Rattle.latex2mathml_tex.specs.declared.parse.State.TheVariants as state
 use Rattle.latex2mathml_tex_units.proofs.Nexts.{no_more_past_space}
 use Rattle.latex2mathml_tex.proofs.{Leading.delimited, Leading.refused, Leading.undelimited, Marks.core_refuses, Rows.refused_here, Rows.refused_step}
 
--- the context does not matter any more
+-- the context no longer matters
 pub begun : {c : Context} {r : Rule} {n : ℕ} {s : Start} {p : Parser} → BeginsIn c r n s p → Begins r n s p
 begun g = record { style = g.style; leads = g.leads }
 
@@ -24,12 +24,12 @@ begun g = record { style = g.style; leads = g.leads }
 pub rule_refuses : (s : Start) (p q : Parser) (st : State) (error : TexError) (r : Refusal) → q ≡ record p { refusal = error } → st ≡ state.Refused → refusal_of error ≡ Some r → Begins (refuses r) 0 s p → Holds s q st
 rule_refuses s p q st error r same is e g = refused_here p q p.input error st same is s r e g.style (core_refuses r (level 0 s p) (refused g.leads))
 
--- Delimiters, where one must stand next
+-- Delimiters, where one must come next
 
 pub past_delimiter : (s : Start) (p : Parser) (i : Input) (then : List ℕ → Rule) (text : List ℕ) → next_are (delimiter_of ∷ []) (left_of p) ≡ Some (text, units_at i) → Begins (takes_delimiter then) 0 s p → Begins (then text) 0 s (record p { input = i })
 past_delimiter s p i then text e g = record { style = g.style; leads = delimited then e g.leads }
 
--- .. and none does; i is the input where one was looked for
+-- delimiters, where none comes next; i is the input where one was looked for
 module _ (p q : Parser) (i : Input) (st : State) (kept : units_at i ≡ left_of p) (same : q ≡ record p { input = q.input; refusal = q.refusal }) (is : st ≡ state.Refused) where
   pub no_delimiter : (s : Start) (then : List ℕ → Rule) → next_are (delimiter_of ∷ []) (left_of p) ≡ None → refusal_of q.refusal ≡ Some (refusal_here MissingDelimiter (past_space (units_at i))) → Begins (takes_delimiter then) 0 s p → Holds s q st
   no_delimiter s then none e g =

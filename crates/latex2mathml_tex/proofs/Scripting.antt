@@ -35,13 +35,13 @@ module _ (f : Element → Element) where
   base_changed zero (x ∷ xs) enough = refl
   base_changed (suc n) (x ∷ xs) enough = base_changed n xs (omega (arith, enough))
 
-  -- .. which leaves what is below it, ..
+  -- changing the base leaves what is below it
   below_changed : (n : ℕ) (xs : List Element) → drop (suc n) (changed_at f n xs) ≡ drop (suc n) xs
   below_changed n [] = refl
   below_changed zero (x ∷ xs) = refl
   below_changed (suc n) (x ∷ xs) = below_changed n xs
 
-  -- .. and the scripts
+  -- changing the base leaves the scripts
   subscript_kept : (below above is_exchanged : Bool) (xs : List Element) → element_below below above is_exchanged (changed_at f (one_if below + one_if above) xs) ≡ element_below below above is_exchanged xs
   subscript_kept false above is_exchanged xs = refl
   subscript_kept true false is_exchanged [] = refl
@@ -82,7 +82,7 @@ assembled : (style : Style) (base : Atom) (scripts : Scripts) (kind : Kind) (lim
 assembled style base scripts kind limits x below above k p q r s some =
     rw (k, p, q, r, s) (with_some style base scripts scripts.below (superscript scripts.primes scripts.above) (λ b a. some (r ∙ b) (s ∙ a)))
 
--- scripts, and the same with a mark of their primes, each with the elements beside it
+-- scripts, and the same with a mark of their primes, each with the elements next to it
 module _ (scripts whole : CodeScripts) (xs ys : List Element) (same : scripts_with whole ys ≡ record (scripts_with scripts xs) { above = superscript scripts.primes (scripts_with scripts xs).above }) (base : drop (script_count whole) ys ≡ drop (script_count scripts) xs) (enough : script_count scripts + 1 ≤ length xs) where
   room : script_count whole + 1 ≤ length ys
   room =

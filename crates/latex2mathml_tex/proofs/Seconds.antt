@@ -1,4 +1,4 @@
--- The last of two operands is due behind the first one.
+-- The last of two operands is due after the first one.
 use Rattle.std.proofs.Common.{◌≡◌, ℕ, Option, drop, ap, ◌∙◌}
 use Rattle.latex2mathml_attributes.specs.declared.attributes.Side.{Side}
 use Rattle.latex2mathml_tex_grammar.specs.Reading.{Read}

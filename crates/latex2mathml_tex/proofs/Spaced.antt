@@ -1,4 +1,4 @@
--- White space behind an atom is nothing to the atoms after it.
+-- White space after an atom does not matter to the atoms after it.
 use Rattle.std.proofs.Common.{◌≡◌, ◌∙◌, ap, sym}
 use Rattle.latex2mathml_tex_grammar.specs.{Atoms.Atom, Next.past_space, Rows.Row, Rules.Context, Rules.Ending, Units.Units}
 use Rattle.latex2mathml_tex_grammar.specs.Reading.{Outcome, Read, ReadsAtoms, atom_read, atom_refused, atoms_end, atoms_stopped, change_refused, never_ended, rest_read, text_ends}

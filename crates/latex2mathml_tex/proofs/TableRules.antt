@@ -39,7 +39,7 @@ use Rattle.latex2mathml_tex_units.proofs.Scanned.{no_more_past, no_more_past_bre
 use Rattle.latex2mathml_tex.proofs.{Marks.all_refuse, Marks.core_refuses, Rows.refused_within, Rows.step_within, Opening.context_is}
 use Rattle.latex2mathml_tex.specs.declared.parse.frames.TableKind.TheVariants as kind
 
--- A formula that is refused without so many elements
+-- A formula that is refused without the n uppermost elements
 pub refused_at : (s : Start) (p q : Parser) (n : ℕ) (r : Refusal) → q.style ≡ p.style → refusal_of q.refusal ≡ Some r → s.style ≡ style_of p.style → Refuses (level n s p) r → Holds s q state.Refused
 refused_at s p q n r same reported style k =
     record { style = style ∙ ap style_of (sym same); claims = rw reported (all_refuse r s (reverse p.frames.stack.items) (drop n (elements_of p)) k) }
@@ -73,7 +73,7 @@ module _ (p q : Parser) (place : ℕ) (spot : Spot) where
     pub text_step : (n : ℕ) (new : Parser) (answer : Result State AllocError) → n ≤ 13 → Advances n q new answer → Advances 13 p new answer
     text_step n = text_within n 13
 
-    -- the formula is refused behind the text
+    -- the formula is refused after the text
 
     module _ (new : Parser) (st : State) (error : TexError) (same : new ≡ record q { refusal = error }) (is : st ≡ state.Refused) where
       pub refused_behind : (s : Start) (n : ℕ) (r : Refusal) → refusal_of error ≡ Some r → s.style ≡ style_of p.style → Refuses (level n s p) r → Holds s new st
@@ -168,7 +168,7 @@ table_made s p b delimiters columns own rows f around said c is inner says put m
     ∙ ap (λ y. between_any texts y ∷ drop rows (elements_of p)) (table_of_lines a (columns_of columns) g.lines (take rows (elements_of p)) g.are) in
     record { style = g.style; claims = rw (one, made x) (given g.leads) }
 
--- behind the sign that ends a row less is left to do
+-- less is left to do after the sign that ends a row
 pub broken_step : (p : Parser) (b : Built) (i : Input) (new : Parser) (answer : Result State AllocError) → units_at i ≡ past_break (left_of p) → Advances 6 (record p { builder = b; input = i }) new answer → Advances 13 p new answer
 broken_step p b i new answer units step =
     let fewer : unit_count (units_at i) ≤ unit_count (left_of p) = rw units (no_more_past_break (left_of p)) in

@@ -84,7 +84,7 @@ goes_on s q t place rows cells ys style r c d due = record {
 abbrev PickedEnd : CodeUnit → Type 0
 PickedEnd u = TableEnds ≡ cell_end (piece_of u.piece)
 
--- so many of some elements, and one at least
+-- the first n of some elements, at least one
 some_first : (n : ℕ) (xs : List Element) → 0 < n → n ≤ length xs → (x : Element) × ((ys : List Element) × (take n xs ≡ x ∷ ys))
 some_first zero xs some there = absurd (omega arith)
 some_first (suc n) [] some there = absurd (omega arith)
@@ -136,11 +136,11 @@ module _ (s : Start) (p : Parser) (t : Table) (place : ℕ) (row : CodeRow) (u :
       subst (λ v. GoesOnTable v place s (record p { builder = b; input = i })) (sym is)
       (goes_on s (record p { builder = b; input = i }) next place (last ∷ rows_of t below) [] outside g.style rows refl all (subst (λ m. Due next place (last ∷ rows_of t below) [] (inside s p.frames.stack.items outside) m) (sym units) due))
 
-  -- the table ends behind the cell
+  -- the table ends after the cell
   pub cell_ends : PickedEnd u → EndsCells t row.count u.place s p
   cell_ends ends = record { style = g.style; leads = (g.leads _ (table_ends g.next (sym ends))).at_unit (unit_of u) (left_of p) g.next }
 
--- .. so it does where the text ends
+-- the table ends after the cell where the text ends
 pub text_ends_cell : (s : Start) (p : Parser) (t : Table) (place at n : ℕ) (row : Row) → s.style ≡ style_of p.style → left_of p ≡ End at → row.elements ≡ take n (elements_of p) → TableMade t place (drop n (elements_of p)) (context_at (level (n + (t.cells + t.rows)) s p)) (CoreMade (level (n + (t.cells + t.rows)) s p)) (Read row (End at)) → EndsCells t n at s p
 text_ends_cell s p t place at n row style left cell k =
     let l = level (n + (t.cells + t.rows)) s p in
@@ -168,7 +168,7 @@ module _ (s : Start) (p : Parser) (t : Table) (count at : ℕ) (g : EndsCells t 
   abbrev Ended : Lines → List Element → Type 0
   Ended lines ys = RuleLeads (behind_rows t (context_at (inside s p.frames.stack.items ys)) lines at) (CoreMade (inside s p.frames.stack.items ys)) (left_of p)
 
-  -- an empty last row is none
+  -- an empty last row does not count
   pub row_is_none : count ≡ 0 → t.cells ≡ 0 → 0 < t.rows → t.rows ≤ length (elements_of p) → EndsRows t.kind t.columns t.rows at s p
   row_is_none empty no_cells some there =
       let others : take t.rows (elements_of p) ≡ rows_of t behind = sym (ap (λ n. take t.rows (drop t.cells (drop n (elements_of p)))) empty ∙ ap (λ n. take t.rows (drop n (elements_of p))) no_cells) in

@@ -46,7 +46,7 @@ module _ {A : Type 0} (value : List ℕ → Option A) (no_value : List ℕ → R
   value_refused s more (r, (same, (reported, (fewer, none)))) style k =
       refused_at s p q 0 r (ap (λ (x : Parser). x.style) same) reported style (core_refuses r (level 0 s p) (none_leads r (CoreMade (level 0 s p)) more none k))
 
-  -- a text was taken, or none stands there
+  -- a text was taken, or there is none
 
   pub value_missing : TookText place spot p q None → TookValue place spot value no_value p q None
   value_missing (r, (same, (reported, missing))) =

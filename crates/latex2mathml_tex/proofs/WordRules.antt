@@ -1,4 +1,4 @@
--- What characters and commands are in words, and what holds of the parser behind them.
+-- What characters and commands are in words, and what holds of the parser after them.
 use Rattle.std.proofs.Common.{◌≡◌, ◌==◌, ◌+◌, ◌||◌, ◌++◌, ◌∷◌, [], Bool, ℕ, ℤ, true, false, drop, Err, List, Ok, Option, Result, Some, None, option_map, refl, subst, sym, ap, ◌∙◌, arith}
 use Rattle.std.proofs.lemmas.Bool.Decides.{nat_tests}
 use Rattle.std.specs.Prelude.{IfOk, OnOk}
@@ -29,7 +29,7 @@ use Rattle.latex2mathml_tex.proofs.{Opening.pushed, Rows.refused_step, Wording.n
 
 -- Commands
 
--- the meaning is none in words
+-- the meaning cannot appear in words
 pub record IsNoWord (m : CodeMeaning) : Type 0 where
   pub no_sign : (symbol : CodeSymbol) → m ≡ code_meaning.Shows symbol → ⊥
   pub no_dots : m ≡ code_meaning.Dots → ⊥
@@ -37,7 +37,7 @@ pub record IsNoWord (m : CodeMeaning) : Type 0 where
   pub no_words : (b : Option CodeAlphabet) → m ≡ code_meaning.Words b → ⊥
   pub no_alphabet : (b : CodeAlphabet) → m ≡ code_meaning.Changes (code_change.ToAlphabet b) → ⊥
 
--- a change of something else than the alphabet
+-- a change of something other than the alphabet
 pub other_change : (m : CodeMeaning) (change : CodeChange) → m ≡ code_meaning.Changes change → ((b : CodeAlphabet) → change ≡ code_change.ToAlphabet b → ⊥) → IsNoWord m
 other_change m change is other = record {
   no_sign = λ symbol e. let k = sym is ∙ e in cc;
@@ -58,7 +58,7 @@ module _ (a : Option Alphabet) (name : List ℕ) where
     pub unknown : meaning_of name ≡ None → word_rule a (Command name) ≡ NoWord (UnknownCommand name)
     unknown e = rw (other, e) refl
 
-    -- most meanings are none in words
+    -- most meanings cannot appear in words
 
     no_word_meant : (m : CodeMeaning) → IsNoWord m → meaning_rule name (Some (Meanings.meaning_of m)) ≡ NoWord (CommandInWords name)
     no_word_meant (code_meaning.Shows symbol) none = absurd (none.no_sign symbol refl)
@@ -71,7 +71,7 @@ module _ (a : Option Alphabet) (name : List ℕ) where
     pub not_in_words : (m : CodeMeaning) → meaning_of name ≡ Some (Meanings.meaning_of m) → IsNoWord m → word_rule a (Command name) ≡ NoWord (CommandInWords name)
     not_in_words m e none = rw (other, e) (no_word_meant m none)
 
--- a command that cannot stand in words is refused, if there is memory for its name
+-- a command that cannot appear in words is refused, if there is memory for its name
 module _ (p q : Parser) (same : q ≡ record p { refusal = q.refusal }) where
   abbrev pub IsRefused : Result State AllocError → Type 0
   IsRefused answer = IfOk answer (λ st. st ≡ state.Refused)
@@ -93,7 +93,7 @@ module _ (p q : Parser) (same : q ≡ record p { refusal = q.refusal }) where
 unequal : (m n : ℕ) → (m ≡ n → ⊥) → m == n ≡ false
 unequal m n h = grind (arith, nat_tests)
 
--- the characters that cannot stand in words
+-- the characters that cannot appear in words
 abbrev pub no_word : ℕ → Bool
 no_word c = c == byte "_" || c == byte "^" || c == byte "&" || c == byte "#"
 
@@ -111,7 +111,7 @@ module _ (a : Option Alphabet) (c : ℕ) where
     pub character_rule : no_word c ≡ false → word_rule a (Character c) ≡ IsWord (Shown (text (word_character a c)))
     character_rule e = rw (unequal c (byte "$") dollar, unequal c (byte "~") tilde, e) refl
 
--- What begins behind words
+-- What begins after words
 
 module _ (s : Start) (p : Parser) (ws : CodeWords) (place : ℕ) where
   -- words in braces

@@ -32,11 +32,11 @@ module _ (s : Start) (p : Parser) (ws : CodeWords) (place : ℕ) (a : Option Cod
     pub none_at_stop : (r : Refusal) → refusal_of q.refusal ≡ Some r → left_of p ≡ Stop r → Holds s q state.Refused
     none_at_stop r reason e = words_refused s p q ws.count r h.style same reason (word_halted (level ws.count s p) (rw e at h.claims))
 
-  -- the unit that stands next was taken
+  -- the unit that comes next was taken
   pub word_begins : (i : Input) (u : Unit) → left_of p ≡ Next (unit_of u) (units_at i) → BeginsWordOf ws (piece_of u.piece) u.place (option_map alphabet_of a) s (record p { input = i })
   word_begins i u e = record { style = h.style; taken_at = place; leads = rw e at h.claims }
 
--- a unit that is no closing brace
+-- a unit that is not a closing brace
 pub other_piece : (piece : Piece) → (piece ≡ code_piece.Close → ⊥) → IsFalse (is_close (piece_of piece))
 other_piece code_piece.Close other = absurd (other refl)
 other_piece code_piece.Space other = refl

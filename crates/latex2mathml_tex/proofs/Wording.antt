@@ -1,4 +1,4 @@
--- Words: what is put behind them, and where what stands in them leads.
+-- Words: what is put after them, and where what is in them leads.
 use Rattle.std.proofs.Common.{◌≡◌, ℕ, ◌+◌, ◌<◌, ◌≤◌, Bool, false, true, zero, suc, IsTrue, IsFalse, List, [], ◌∷◌, Option, Some, length, take, drop, option_map, reverse, refl, sym, ap, ◌∙◌, arith}
 use Rattle.latex2mathml_elements.specs.{Attributes.plain, Element.Element, Element.Mtext, Element.token}
 use Rattle.latex2mathml_builder.specs.{Built.Built, Built.elements_in, Stacks.is_token, Stacks.lengthened}
@@ -32,7 +32,7 @@ use Rattle.latex2mathml_tex.proofs.Leading.{given, word_given, word_refused_at, 
 use Rattle.latex2mathml_tex.proofs.Marks as marks
 use Rattle.latex2mathml_tex.proofs.{Marks.all_refuse, Opening.into_frame, Opening.out_of_frame}
 
--- A text behind words
+-- A text after words
 
 pub text_longer : (more : List ℕ) (n : ℕ) (xs : List Element) → 0 < n → is_token xs ≡ true → take n (lengthened more xs) ≡ with_text true more (take n xs)
 text_longer more zero xs some is = absurd (omega arith)
@@ -108,7 +108,7 @@ part_refuses s p n r k = all_refuse r s (reverse p.frames.stack.items) (drop n (
 pub words_refused : (s : Start) (p q : Parser) (n : ℕ) (r : Refusal) → s.style ≡ style_of p.style → q.style ≡ p.style → refusal_of q.refusal ≡ Some r → PartMade (level n s p) (Refused r) → Holds s q state.Refused
 words_refused s p q n r e f h k = record { style = e ∙ ap style_of (sym f); claims = rw h (part_refuses s p n r k) }
 
--- nothing is put behind words
+-- nothing is put after words
 pub words_stay : (s : Start) (p : Parser) (ws : CodeWords) → WordGiven ws Nothing s p → Holds s p (state.Words ws)
 words_stay s p ws g = record { style = g.style; claims = g.leads }
 

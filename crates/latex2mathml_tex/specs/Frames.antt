@@ -1,5 +1,5 @@
--- What the parser's frames stand for: each is a level that was entered. A frame holds no element: what was read for it are
--- the first of the elements that stand beside it, the uppermost first.
+-- What the parser's frames mean: each is a level that was entered. A frame holds no elements: those that were read for it are
+-- the first of the elements that are given next to it, the uppermost first.
 use Rattle.std.specs.Prelude.{◌≡◌, ℕ, zero, suc, ◌+◌, Bool, true, IsFalse, List, [], ◌∷◌, drop, reverse, option_map, Some}
 use Rattle.latex2mathml_elements.specs.{Attributes.Above, Attributes.plain, Element.Element, Element.Mover, Element.Munderover, Element.pair, Element.triple}
 use Rattle.latex2mathml_attributes.specs.Names.{side_of, stretch_of}
@@ -29,7 +29,7 @@ use Rattle.latex2mathml_tex.specs.declared.parse.frames.Last.TheVariants as last
 use Rattle.latex2mathml_attributes.specs.declared.attributes.Side.{Side}
 use Rattle.latex2mathml_attributes.specs.declared.attributes.Side.TheVariants as side
 
--- what units come to, read in this form
+-- the outcome of units that are read in this form
 abbrev pub ReadsAs : Form → Style → Units → Outcome Row → Type 0
 ReadsAs form.Atoms style l = ReadsAtoms WholeText (formula_context style) empty_row l
 ReadsAs form.Rows style l = λ o. (p : Outcome Core) × ReadsRule (rows_of_text (formula_context style)) l p × (o ≡ alone style p)
@@ -40,7 +40,7 @@ pub record Start : Type 0 where
   pub style : Style
   pub form : Form
 
--- what the whole formula comes to
+-- the outcome of the whole formula
 abbrev pub Whole : Start → Outcome Row → Type 0
 Whole s = ReadsAs s.form s.style s.units
 
@@ -72,11 +72,11 @@ context_at (level.words place a K) = formula_context (InText)
 abbrev pub after_delimiters : List ℕ → Row → Rule
 after_delimiters opening row = takes_delimiter (λ closing. gives (between_delimiters opening closing row))
 
--- an atom of an arrow, what stands below it, and what stands above it
+-- an atom of an arrow, the label below it, and the label above it
 abbrev pub labeled_arrow : Element → Element → Element → Core
 labeled_arrow sign label above = core (atom (Plain Relation) true (triple Munderover plain sign label above))
 
--- where the outcome of a row leads, within this level; these elements stand below the row's own
+-- where the outcome of a row leads, within this level; these elements are below the row's own
 abbrev pub RowMade : Start → Ending → ℕ → List Element → Level → Outcome Row → Type 0
 RowMade s ending.Text place xs l = Whole s
 RowMade s ending.Group place xs l = Then (λ row. gives (core (group (operand_of row)))) (CoreMade l)
@@ -89,7 +89,7 @@ RowMade s (ending.Cell t) place xs l = TableMade t place xs (context_at l) (Core
 
 -- Operands
 
--- what the last operand makes; the first one is the uppermost element here
+-- what the last operand makes; the first operand is the uppermost element here
 abbrev pub made_of : Last → List Element → Operand → Core
 made_of last.Group xs y = core (group y)
 made_of last.SquareRoot xs y = square_root y.element
@@ -107,7 +107,7 @@ made_of (last.StackedRelation style) xs y = stack Above Relation (top xs) (as_ba
 made_of last.OverArrow xs y = core (atom (Plain Relation) true (pair Mover plain (top xs) y.element))
 made_of last.OverAndUnderArrow xs y = labeled_arrow (top (drop 1 xs)) (top xs) y.element
 
--- what follows the first of two operands, which stands at a place, in this context, at a level of that context
+-- what follows the first of two operands, which this place takes in this context, at a level of the outer context
 abbrev pub after_first : First → ℕ → Context → Context → Operand → Rule
 after_first (first.Fraction rule own) place c outer x =
     of_one place c (λ y. fraction (fraction_rule_of rule) (option_map style_of own) x.element y.element)
@@ -115,13 +115,13 @@ after_first (first.Outlined o) place c outer x = of_one place c (λ y. outlined_
 after_first (first.Stack s) place c outer x = of_one place outer (λ y. stack (side_of s) y.class x.element (as_base outer.style y.class y).element)
 after_first first.StackedRelation place c outer x = of_one place outer (λ y. stack Above Relation x.element (as_base outer.style Relation y).element)
 
--- how many marks of primes stand above the other elements of a script that is read
+-- how many marks of primes are above the other elements of a script that is being read
 abbrev pub primes_put : Side → ℕ → ℕ
 primes_put side.Below primes = 0
 primes_put side.Above zero = 0
 primes_put side.Above (suc n) = 1
 
--- a superscript behind the mark that stands uppermost, if there are primes
+-- a superscript after the mark of primes, which is uppermost, if there are primes
 abbrev pub behind_mark : ℕ → List Element → Element → Element
 behind_mark zero xs x = x
 behind_mark (suc n) xs x = row_element (x ∷ top xs ∷ [])
@@ -131,15 +131,15 @@ abbrev pub with_script : Side → makes.Scripts → List Element → Element →
 with_script side.Below scripts xs x = record scripts { below = Some x }
 with_script side.Above scripts xs x = record scripts { above = Some (behind_mark scripts.primes xs x) }
 
--- the elements beside a script's frame without the mark of primes
+-- the elements given next to a script's frame, without the mark of primes
 abbrev pub past_primes : Side → Scripts → List Element → List Element
 past_primes s scripts xs = drop (primes_put s scripts.primes) xs
 
--- the atom that scripts stand on
+-- the atom that is the base of scripts
 abbrev pub base_of : CodeCore → Scripts → List Element → Core
 base_of c scripts xs = core_with c (top (drop (script_count scripts) xs))
 
--- where the outcome of a script's operand leads; it is read where no script stands on this side
+-- where the outcome of a script's operand leads; it is read where there is no script on this side
 abbrev pub ScriptMade : Level → CodeCore → Scripts → Side → List Element → Outcome Operand → Type 0
 ScriptMade l c scripts s xs (Read x m) =
     IsFalse (has_script s scripts)
@@ -158,7 +158,7 @@ enter s (frame.Script base scripts on place c) xs l = level.operand place (conte
 enter s frame.Text xs l = level.part (Then (λ ws. gives (core (words_atom ws))) (CoreMade l))
 enter s (frame.Words place a) xs l = level.words place (option_map alphabet_of a) (PartMade l)
 
--- how many of the elements beside it belong to a frame
+-- how many of the elements given next to a frame belong to it
 abbrev pub ending_count : Ending → ℕ
 ending_count ending.BelowArrow = 1
 ending_count (ending.Formula ws) = ws.count
@@ -186,7 +186,7 @@ abbrev pub inside_all : Start → List Frame → List Element → Level
 inside_all s [] xs = whole_level s
 inside_all s (f ∷ fs) xs = enter s f xs (inside_all s fs (drop (element_count f) xs))
 
--- .. and the innermost last, as on the stack
+-- the level inside all frames, the innermost last, as on the stack
 abbrev pub inside : Start → List Frame → List Element → Level
 inside s fs xs = inside_all s (reverse fs) xs
 

@@ -12,12 +12,12 @@ use Rattle.latex2mathml_tex.specs.declared.parse.frames.Frame.TheVariants as fra
 abbrev pub begun_row : Style → Frame
 begun_row s = frame.Row ending.Text 0 (record { style = s; alphabet = None }) empty_row
 
--- The frame is the innermost of these, and those are the others; where there is none, it is the row of the whole formula.
+-- The frame is the innermost of these, and `others` are the rest. If there are none, it is the row of the whole formula.
 pub data IsInnermost (s : Style) (fs : List Frame) (f : Frame) (others : List Frame) : Type 0 where
   none_begun : fs ≡ [] → others ≡ [] → f ≡ begun_row s → IsInnermost s fs f others
   on_top : fs ≡ others ++ f ∷ [] → IsInnermost s fs f others
 
--- in what the parts of a frame are read; words are read in none
+-- the context in which the parts of a frame are read; words are read in none
 abbrev pub frame_context : Frame → Context
 frame_context (frame.Row e place c row) = c
 frame_context (frame.Last made place c) = c
@@ -26,7 +26,7 @@ frame_context (frame.Negation place c) = c
 frame_context (frame.Script base scripts on place c) = c
 frame_context f = record { style = style.InText; alphabet = None }
 
--- its row with its context; a frame that is no row has none
+-- the row of a frame with its context; a frame that is not a row has none
 abbrev pub frame_row : Frame → Context × Row
 frame_row (frame.Row e place c row) = (c, row)
 frame_row f = (frame_context f, empty_row)

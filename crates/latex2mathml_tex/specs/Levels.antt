@@ -1,5 +1,5 @@
--- What is due while a formula is read, and where its outcome leads. These words serve the contracts of the parser's
--- functions; they know no frame. A continuation K says of each outcome what it leads to.
+-- What is due while a formula is read, and where its outcome leads. These definitions serve the contracts of the
+-- parser's functions, and do not mention frames. A continuation K says what each outcome leads to.
 use Rattle.std.specs.Prelude.{ℕ, Option}
 use Rattle.latex2mathml_tex_grammar.specs.Atoms.{Atom}
 use Rattle.latex2mathml_tex_grammar.specs.Makes.{Core, Scripts, no_scripts}
@@ -15,7 +15,7 @@ use Rattle.latex2mathml_tex_grammar.specs.Words.{Formula, Words, with_word}
 
 -- What is due, and where its outcome leads. What cannot be made at a level leads nowhere.
 pub data Level : Type 1 where
-  -- atoms behind a row, up to an ending
+  -- atoms after a row, up to an ending
   row : Ending → Context → Row → (Outcome Row → Type 0) → Level
   -- an operand, which this place takes
   operand : ℕ → Context → (Outcome Operand → Type 0) → Level
@@ -26,7 +26,7 @@ pub data Level : Type 1 where
   -- words up to a brace, which began at this place
   words : ℕ → Option Alphabet → (Outcome Words → Type 0) → Level
 
--- whatever the rule comes to from here, it leads to K
+-- whatever the outcome of the rule from here, it leads to K
 pub record RuleLeads (r : Rule) (K : Outcome Core → Type 0) (l : Units) : Type 0 where
   pub to : (o : Outcome Core) → ReadsRule r l o → K o
 
@@ -35,13 +35,13 @@ abbrev pub Then : {A : Type 0} → (A → Rule) → (Outcome Core → Type 0) �
 Then then K (Read x l) = RuleLeads (then x) K l
 Then then K (Refused r) = K (Refused r)
 
--- where the outcome of an atom leads: to the atoms behind it
+-- where the outcome of an atom leads: to the atoms after it
 abbrev pub AtomMade : Level → Outcome Atom → Type 0
 AtomMade (row ending c xs K) (Read x l) = (o : Outcome Row) → ReadsAtoms ending c (with_atom c.style xs x) l o → K o
 AtomMade (row ending c xs K) (Refused r) = K (Refused r)
 AtomMade level o = ⊥
 
--- whatever stands after an atom with these scripts comes to, it leads on
+-- whatever the outcome of what follows an atom with these scripts, it leads on
 abbrev pub ScriptsLead : Level → Atom → Scripts → Units → Type 0
 ScriptsLead (row ending c xs K) base scripts l = (o : Outcome Atom) → ReadsScripts c base scripts l o → AtomMade (row ending c xs K) o
 ScriptsLead level base scripts l = ⊥
@@ -61,7 +61,7 @@ abbrev pub as_operand : Outcome Row → Outcome Operand
 as_operand (Read xs l) = Read (operand_of xs) l
 as_operand (Refused r) = Refused r
 
--- words behind which a row is a formula
+-- words that are followed by a row, as a formula
 abbrev pub as_words : Words → Outcome Row → Outcome Words
 as_words ws (Read xs l) = Read (with_word ws (Formula (row_element xs.elements))) l
 as_words ws (Refused r) = Refused r
@@ -78,7 +78,7 @@ PartMade (words place a K) (Read ws l) = (o : Outcome Words) → ReadsWords plac
 PartMade (words place a K) (Refused r) = K (Refused r)
 PartMade level o = ⊥
 
--- whatever what is due comes to from here, it leads where the level says
+-- whatever the outcome of what is due from here, it leads where the level says
 abbrev pub Leads : Level → Units → Type 0
 Leads (row ending c xs K) l = (o : Outcome Row) → ReadsAtoms ending c xs l o → K o
 Leads (operand place c K) l = (o : Outcome Operand) → ReadsOperand place c l o → K o
@@ -86,7 +86,7 @@ Leads (core place c K) l = RuleLeads (reads_core place c (λ x. gives x)) K l
 Leads (part K) l = ⊥
 Leads (words place a K) l = ⊥
 
--- whatever follows a change comes to, it leads to K
+-- whatever the outcome of what follows a change, it leads to K
 abbrev pub FollowsChange : Ending → (Outcome Row → Type 0) → Rest → Type 0
 FollowsChange ending K (GoesOnIn c xs l) = (o : Outcome Row) → ReadsAtoms ending c xs l o → K o
 FollowsChange ending K (NoRest r) = K (Refused r)
@@ -95,7 +95,7 @@ abbrev pub RestLeads : Change → ℕ → Level → Units → Type 0
 RestLeads change place (row ending c xs K) l = FollowsChange ending K (rest_of change c xs place l)
 RestLeads change place level l = ⊥
 
--- whatever one part of words behind these comes to, it leads on
+-- whatever the outcome of one part of words after these, it leads on
 abbrev pub WordLeads : Level → ℕ → Option Alphabet → Words → Units → Type 0
 WordLeads level place a ws l = (o : Outcome Words) → ReadsWord place a ws l o → PartMade level o
 
@@ -107,7 +107,7 @@ Refuses (core place c K) r = K (Refused r)
 Refuses (part K) r = K (Refused r)
 Refuses (words place a K) r = K (Refused r)
 
--- an atom, where its core was read
+-- the outcome of an atom whose core was read
 abbrev pub as_atom : Outcome Core → Outcome Atom
 as_atom (Read x l) = Read x.atom l
 as_atom (Refused r) = Refused r

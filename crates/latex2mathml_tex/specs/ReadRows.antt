@@ -1,13 +1,13 @@
--- A row that was read, and its elements in a builder, of which the uppermost stands first.
+-- A row that was read, and its elements in a builder, the uppermost first.
 use Rattle.std.specs.Prelude.{◌≡◌, ◌≤◌, ℕ, List, length, take}
 use Rattle.latex2mathml_elements.specs.Element.{Element}
 use Rattle.latex2mathml_tex_grammar.specs.{Reading.Outcome, Reading.Read, Rows.Row, Units.End}
 
--- the elements of the row are so many of the uppermost ones
+-- the elements of the row are the `count` uppermost ones
 pub record AreUppermost (row : Row) (count : ℕ) (xs : List Element) : Type 0 where
   pub elements : row.elements ≡ take count xs
   pub all : count ≤ length xs
 
--- units came to a row at their end, and its elements are so many of the uppermost ones
+-- the outcome of units is a row that ends where they end, and its elements are the `count` uppermost ones
 abbrev pub HasRead : (Outcome Row → Type 0) → ℕ → List Element → Type 0
 HasRead ComesTo count xs = (row : Row) × ((at : ℕ) × ComesTo (Read row (End at)) × AreUppermost row count xs)

@@ -1,4 +1,4 @@
--- What the parser's steps keep: what holds of each state, and what falls.
+-- What the parser's steps preserve: what holds of each state, and what decreases.
 use Rattle.std.specs.Prelude.{◌≡◌, ℕ, ◌+◌, ◌*◌, ◌<◌, ◌≤◌, Bool, true, false, IsTrue, IfOk, IfSome, List, [], ◌∷◌, ◌&&◌, ⊤, drop, length, option_map, reverse, Result, sum_by, take, Option, Some, None}
 use Rattle.std.specs.declared.alloc.AllocError.{AllocError}
 use Rattle.latex2mathml_elements.specs.Element.{Element}
@@ -56,11 +56,11 @@ level n s p = inside s p.frames.stack.items (drop n (elements_of p))
 abbrev pub level_within : Frame → ℕ → Start → Parser → Level
 level_within f n s p = within s p.frames.stack.items f (drop n (elements_of p))
 
--- whatever a rule comes to, it leads on; without the n uppermost elements
+-- whatever the outcome of a rule, it leads on; without the n uppermost elements
 abbrev pub GoesOnBy : Rule → ℕ → Start → Parser → Type 0
 GoesOnBy r n s p = RuleLeads r (CoreMade (level n s p)) (left_of p)
 
--- how many elements a state speaks of, beside those of all frames
+-- how many elements a state refers to, in addition to those of all frames
 abbrev pub state_count : State → ℕ
 state_count state.Next = 0
 state_count (state.Core core) = 1
@@ -95,16 +95,16 @@ HoldsIn st s p = Holds s p st
 abbrev pub start_of : Form → Parser → Start
 start_of form p = record { units = left_of p; style = style_of p.style; form = form }
 
--- What is so of the parser before a step leads to what its result claims.
+-- What holds of the parser before a step leads to what its result claims.
 abbrev pub LeadsOn : (Start → Parser → Type 0) → Parser → Parser → Result State AllocError → Type 0
 LeadsOn P old new result = (s : Start) → P s old → IfOk result (Holds s new)
 
--- whatever the rule comes to, it leads on, in a formula of the parser's style
+-- whatever the outcome of the rule, it leads on, in a formula of the parser's style
 pub record Begins (r : Rule) (n : ℕ) (s : Start) (p : Parser) : Type 0 where
   pub style : s.style ≡ style_of p.style
   pub leads : GoesOnBy r n s p
 
--- .. in this context, which is that of the level
+-- whatever the outcome of the rule, it leads on, in this context, which is that of the level
 pub record BeginsIn (c : Context) (r : Rule) (n : ℕ) (s : Start) (p : Parser) : Type 0 where
   pub style : s.style ≡ style_of p.style
   pub context : context_of c ≡ context_at (level n s p)
@@ -132,7 +132,7 @@ accepts words_made frame.Text = true
 accepts words_made (frame.Words place a) = true
 accepts words_made f = false
 
--- .. where no frame is, it is for the row of the whole formula
+-- whether the row of the whole formula waits for it, where there is no frame
 abbrev pub for_row : Made → Bool
 for_row core_made = true
 for_row atom_made = true
@@ -192,7 +192,7 @@ pub record CanMake (m : Made) (n : ℕ) (p : Parser) : Type 0 where
   pub elements : HasElements n p
   pub awaits : Awaits m p
 
--- .. an atom may begin
+-- There are elements for all frames, and n more; and an atom may begin.
 abbrev pub CanBegin : ℕ → Parser → Type 0
 CanBegin = CanMake core_made
 
@@ -215,7 +215,7 @@ operand_place (frame.First one place c) = Some place
 operand_place (frame.Script base scripts on place c) = Some place
 operand_place f = None
 
--- .. and the innermost frame does
+-- the innermost frame waits for an operand, which this place takes
 abbrev pub AwaitsOperand : ℕ → Parser → Type 0
 AwaitsOperand place p = (f : Frame) × InnermostIs f p × (operand_place f ≡ Some place)
 
@@ -241,7 +241,7 @@ pub record BeginsRest (change : Change) (place : ℕ) (s : Start) (p : Parser) :
   pub style : s.style ≡ style_of p.style
   pub leads : RestLeads change place (level 0 s p) (left_of p)
 
--- The unit was taken in a row, and is no mark: it begins an atom without scripts, or changes what stands after it.
+-- The unit was taken in a row, and is not a mark: it begins an atom without scripts, or changes what follows it.
 pub record TookUnmarked (u : Unit) (s : Start) (p : Parser) : Type 0 where
   pub begins : starts.change_by (piece_of u.piece) ≡ None → BeginsUnit u s p
   pub changes : (change : Change) → starts.change_by (piece_of u.piece) ≡ Some change → BeginsRest change u.place s p
@@ -274,13 +274,13 @@ pub record FirstRead (one : First) (place : ℕ) (c : Context) (operand : CodeOp
   pub style : s.style ≡ style_of p.style
   pub leads : Then (after_first one place (context_of c) (context_at (level 1 s p))) (CoreMade (level 1 s p)) (Read (operand_with operand (top (elements_of p))) (left_of p))
 
--- A unit that is this was taken at a place as a part of words behind these.
+-- A unit that is this piece was taken at a place, as a part of words after these.
 pub record BeginsWordOf (ws : CodeWords) (piece : grammar.Piece) (place : ℕ) (a : Option Alphabet) (s : Start) (p : Parser) : Type 0 where
   pub style : s.style ≡ style_of p.style
   pub taken_at : ℕ
   pub leads : WordLeads (level ws.count s p) taken_at a (words_with ws (elements_of p)) (Next (grammar.unit piece place) (left_of p))
 
--- The words with this part behind them lead on.
+-- The words followed by this part lead on.
 pub record WordGiven (ws : CodeWords) (w : Word) (s : Start) (p : Parser) : Type 0 where
   pub style : s.style ≡ style_of p.style
   pub leads : PartMade (level ws.count s p) (Read (with_word (words_with ws (elements_of p)) w) (left_of p))
@@ -319,32 +319,32 @@ pub record GoesOnTable (t : Table) (place : ℕ) (s : Start) (p : Parser) : Type
       → ReadsRows (table_end t) place (columns_of t.columns) (cell_context t (context_at (level (t.cells + t.rows) s p))) (rows_of t (elements_of p)) (cells_of t (elements_of p)) (left_of p) o
       → RowsLead (behind_rows t (context_at (level (t.cells + t.rows) s p))) (CoreMade (level (t.cells + t.rows) s p)) o
 
--- A table ends at this place, behind its last cell, whose elements are so many of the uppermost.
+-- A table ends at this place, after its last cell, whose elements are the `count` uppermost ones.
 pub record EndsCells (t : Table) (count at : ℕ) (s : Start) (p : Parser) : Type 0 where
   pub style : s.style ≡ style_of p.style
   pub leads : RuleLeads (behind_rows t (context_at (level (count + (t.cells + t.rows)) s p)) (with_last (rows_of t (drop count (elements_of p))) (cells_of t (drop count (elements_of p))) (take count (elements_of p))) at)
       (CoreMade (level (count + (t.cells + t.rows)) s p)) (left_of p)
 
--- The end of a table was taken at this place. Its rows are so many of the uppermost elements.
+-- The end of a table was taken at this place. Its rows are the `rows` uppermost elements.
 pub record EndsRows (e : TableKind) (columns : Columns) (rows at : ℕ) (s : Start) (p : Parser) : Type 0 where
   pub style : s.style ≡ style_of p.style
   pub lines : Lines
   pub are : take rows (elements_of p) ≡ lines.last ∷ lines.others
   pub leads : RuleLeads (after_rows e (columns_of columns) (context_at (level rows s p)) lines at) (CoreMade (level rows s p)) (left_of p)
 
--- A table is made of them, whose cells have this style.
+-- A table is made of the `rows` uppermost elements. Its cells have this style.
 pub record MakesTable (delimiters : Option (Option ℕ × Option ℕ)) (columns : Columns) (own : Style) (rows : ℕ) (s : Start) (p : Parser) : Type 0 where
   pub style : s.style ≡ style_of p.style
   pub lines : Lines
   pub are : take rows (elements_of p) ≡ lines.last ∷ lines.others
   pub leads : RuleLeads (gives (a_table (option_map delimiter_texts delimiters) (columns_of columns) (style_of own) (context_at (level rows s p)).style lines)) (CoreMade (level rows s p)) (left_of p)
 
--- A text was taken from this spot on, or what stands there is refused, and then nothing was taken.
+-- A text was taken from this spot on, or what is there is refused, and then nothing was taken.
 abbrev pub TookText : ℕ → Spot → Parser → Parser → Option (List ℕ) → Type 0
 TookText place spot old new (Some text) = (new ≡ record old { input = new.input }) × (scan place (left_of old) spot ≡ Given text (left_of new))
 TookText place spot old new None = (r : Refusal) × ((new ≡ record old { refusal = new.refusal }) × ((refusal_of new.refusal ≡ Some r) × (scan place (left_of old) spot ≡ Missing r)))
 
--- why nothing is taken: what is to be taken does not stand here, or its text has no value
+-- why nothing is taken: what is to be taken is not here, or its text has no value
 pub data NoValue {A : Type 0} (place : ℕ) (spot : Spot) (value : List ℕ → Option A) (no_value : List ℕ → Refusal) (l : Units) : Refusal → Type 0 where
   is_missing : {r : Refusal} → scan place l spot ≡ Missing r → NoValue place spot value no_value l r
   has_none : {text : List ℕ} {m : Units} → scan place l spot ≡ Given text m → value text ≡ None → NoValue place spot value no_value l (no_value text)
@@ -358,12 +358,12 @@ TookValue place spot value no_value old new None =
     × ((new ≡ record old { input = new.input; refusal = new.refusal })
     × ((refusal_of new.refusal ≡ Some r) × ((unit_count (left_of new) ≤ unit_count (left_of old)) × NoValue place spot value no_value (left_of old) r)))
 
--- what a row leaves that ends with this unit, which was taken: a cell leaves what ends it
+-- what a row leaves if it ends with this unit, which was taken: a cell leaves what ends it
 abbrev pub IsLeft : Ending → Unit → Units → Units → Type 0
 IsLeft (ending.Cell t) u rest left = past_space rest ≡ Next (unit_of u) left
 IsLeft e u rest left = rest ≡ left
 
--- .. as it was read so far in this style
+-- The row ends with this unit, as it was read so far in this style.
 pub record EndsRow (e : Ending) (place : ℕ) (style : CodeStyle) (xs : CodeRow) (u : Unit) (s : Start) (p : Parser) : Type 0 where
   pub same_style : s.style ≡ style_of p.style
   pub rest : Units
@@ -390,7 +390,7 @@ pub record EndsText (e : Ending) (place : ℕ) (style : CodeStyle) (xs : CodeRow
   pub ends : unended (ending_of e place) ≡ None → EndsWithText e place style xs at s p
   pub refuses : (r : Refusal) → unended (ending_of e place) ≡ Some r → Whole s (Refused r)
 
--- how much a frame still brings; the row of the whole text may be begun where nothing is read
+-- how much a frame still brings; the row of the whole text may be opened where nothing is read
 abbrev pub ending_weight : Ending → ℕ
 ending_weight ending.Text = 0
 ending_weight e = 4
@@ -419,7 +419,7 @@ pub record Follows (bound : ℕ) (p : Parser) (st : State) : Type 0 where
   pub ready : Ready p st
   pub falls : to_do p + state_weight st < bound
 
--- after a step, at most so much more is left to do than what was left before it
+-- after a step, less is left to do than what was left before it and `more`
 abbrev pub Advances : ℕ → Parser → Parser → Result State AllocError → Type 0
 Advances more old new answer = IfOk answer (Follows (to_do old + more) new)
 

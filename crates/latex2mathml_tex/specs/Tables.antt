@@ -43,7 +43,7 @@ style_in kind.Text = symbols.InDisplay
 abbrev pub cell_context : Table → Context → Context
 cell_context t around = styled around (style_in t.kind)
 
--- what follows its rows, where it stands in this context
+-- what follows the rows of a table, if the table is in this context
 abbrev pub after_rows : TableKind → DefinedColumns → Context → Lines → ℕ → Rule
 after_rows kind.Braces columns around lines at = gives (a_table None columns symbols.InScript around.style lines)
 after_rows kind.Text columns around lines at = gives (a_table None columns symbols.InDisplay around.style lines)
@@ -53,7 +53,7 @@ after_rows (kind.Environment e) columns around lines at =
 abbrev pub behind_rows : Table → Context → Lines → ℕ → Rule
 behind_rows t around = after_rows t.kind (columns_of t.columns) around
 
--- where rows lead, to what follows them: what ends them stands next, a unit or the end of the text
+-- where rows lead, to what follows them: what ends them comes next, a unit or the end of the text
 pub record LinesLead (then : Lines → ℕ → Rule) (K : Outcome Core → Type 0) (lines : Lines) (m : Units) : Type 0 where
   pub at_unit : (u : Unit) (n : Units) → past_space m ≡ Next u n → RuleLeads (then lines u.place) K n
   pub at_end : (at : ℕ) → past_space m ≡ End at → RuleLeads (then lines at) K (End at)
@@ -63,19 +63,19 @@ abbrev pub RowsLead : (Lines → ℕ → Rule) → (Outcome Core → Type 0) →
 RowsLead then K (Read lines m) = LinesLead then K lines m
 RowsLead then K (Refused r) = K (Refused r)
 
--- .. of a cell, behind these rows and these cells
+-- where the outcome of a cell leads, after these rows and these cells
 abbrev pub CellMade : TableEnd → ℕ → DefinedColumns → Context → List Element → List Element → (Outcome Lines → Type 0) → Outcome Row → Type 0
 CellMade end place columns c rows cells K (Read row m) = (o : Outcome Lines) → ReadsBehindCell end place columns c rows cells row.elements m o → K o
 CellMade end place columns c rows cells K (Refused r) = K (Refused r)
 
--- the rows of a table and the cells of the next one, whose elements are the first of these
+-- the rows of a table and the cells of the next row, whose elements are the first of these
 abbrev pub cells_of : Table → List Element → List Element
 cells_of t xs = take t.cells xs
 
 abbrev pub rows_of : Table → List Element → List Element
 rows_of t xs = take t.rows (drop t.cells xs)
 
--- where the outcome of the next cell leads, where the table stands in this context
+-- where the outcome of the next cell leads, if the table is in this context
 abbrev pub TableMade : Table → ℕ → List Element → Context → (Outcome Core → Type 0) → Outcome Row → Type 0
 TableMade t place xs around K =
     CellMade (table_end t) place (columns_of t.columns) (cell_context t around) (rows_of t xs) (cells_of t xs) (RowsLead (behind_rows t around) K)

@@ -1,11 +1,11 @@
-//! The text of a formula, as an annotation beside what is shown, and as its alternative text.
+//! The text of a formula, as an annotation next to what is shown, and as its alternative text.
 ghost use Rattle.std.specs.Prelude.{◌≡◌, ◌++◌, OnOk, string_bytes};
 ghost use Rattle.std.specs.{Char.encode_utf8, Str.chars};
 ghost use Rattle.latex2mathml_elements.specs.Annotated.{alternative, annotation_print};
 ghost use Rattle.latex2mathml_tokens.specs.Escape.{content};
 ghost use Rattle.latex2mathml_tex_grammar.specs.Formulas.{source_character, source_text};
 
-use latex2mathml_tex_units::reader::characters::is_forbidden;
+use latex2mathml_tex_units::lexer::characters::is_forbidden;
 use latex2mathml_trees::append::append_content_char;
 use std::alloc::AllocError;
 
@@ -42,7 +42,7 @@ pub(crate) fn append_annotation(tex: &str, out: &mut String) -> Result<(), Alloc
     Ok(())
 }
 
-/// Appends the text of a formula as contents.
+/// Appends the text of a formula as content.
 fn append_source(tex: &str, out: &mut String) -> Result<(), AllocError>
     ensures { OnOk result (string_bytes out.new
         ≡ string_bytes out.old ++ content (source_text (chars tex.now))) }
@@ -53,7 +53,7 @@ fn append_source(tex: &str, out: &mut String) -> Result<(), AllocError>
     Ok(())
 }
 
-/// The character, or U+FFFD in place of one that XML forbids.
+/// Returns the character, or U+FFFD in place of one that XML forbids.
 fn source_character(c: char) -> char
     ensures { result ≡ source_character c }
 {

@@ -1,4 +1,4 @@
-//! From the text of a formula to its markup.
+//! Converts the text of a formula to its markup.
 ghost use Rattle.std.specs.Prelude.{◌≡◌, ℕ, ◌++◌, ◌≤◌, [], IfOk, List, OnOk, length, string_bytes};
 ghost use Rattle.std.specs.Str.{chars};
 ghost use Rattle.latex2mathml_elements.specs.{Characters.IsAllowed, Dollars.IsDollarFree, Element.children};
@@ -30,30 +30,31 @@ use latex2mathml_tokens::DisplayStyle;
 use std::alloc::{AllocError, Global};
 use std::mem;
 
-/// The `math` element of a formula in LaTeX.
+/// Converts a formula in LaTeX to a `math` element.
 ///
-/// `macros` are those that the formula may use; it may define more, by `\newcommand`, `\def` and the like, which hold from there
-/// to its end. First the macros of a formula are expanded, from left to right, and then what they expand to is read.
+/// `macros` are those that the formula may use. It may define more with `\newcommand`, `\def` and the like, which hold from
+/// there to its end. First the macros of a formula are expanded, from left to right. Then the expanded formula is read.
 ///
-/// White space between the parts of a formula changes nothing, except in words such as those of `\text`.
+/// White space between the parts of a formula has no effect, except in words such as those of `\text`.
 ///
-/// A formula with `&` or `\\` outside of all tables is read as if it stood in `aligned`.
+/// A formula with `&` or `\\` outside of all tables is read as if it were in `aligned`.
 ///
-/// # Errors
+/// An answer is one `math` element with the children that MathML allows. It contains no character that XML forbids and no
+/// dollar sign.
 ///
-/// [`TexError::kind`] says why the formula is refused, and [`TexError::place`] the byte of `tex` where what is refused begins.
-/// The first one from left to right is told, in the order in which the formula is read. What stands in the body of a macro has
-/// the place of the macro's use. If more than 1,000 macros are used, or they put more than 100,000 characters, commands and
-/// braces, the kind is [`TexErrorKind::TooManyExpansions`](crate::TexErrorKind::TooManyExpansions).
-/// [`TexErrorKind::OutOfMemory`](crate::TexErrorKind::OutOfMemory) may replace any other result; its place is 0.
-///
-/// An answer is one `math` element with the children that MathML allows. It holds no character that XML forbids, and no dollar
-/// sign.
-///
-/// Neither reading nor writing recurses, however deep the formula is nested.
+/// Neither reading nor writing recurses, however deeply the formula is nested.
 ///
 /// `x_i^2`, inline, is `<math xmlns="http://www.w3.org/1998/Math/MathML"
 /// display="inline"><msubsup><mi>x</mi><mi>i</mi><mn>2</mn></msubsup></math>`.
+///
+/// # Errors
+///
+/// [`TexError::kind`] says why the formula is refused, and [`TexError::place`] is the byte of `tex` where the refused part
+/// begins. The first error from left to right is reported, in the order in which the formula is read. What is in the body of a
+/// macro has the place of the macro's use. If more than 1,000 macros are used, or they insert more than 100,000 units
+/// (characters, commands, braces and white space), the kind is
+/// [`TexErrorKind::TooManyExpansions`](crate::TexErrorKind::TooManyExpansions).
+/// [`TexErrorKind::OutOfMemory`](crate::TexErrorKind::OutOfMemory) may replace any other result; its place is 0.
 pub fn tex_to_mathml<'a>(
     alloc: Global,
     macros: &Macros<'a>,
@@ -74,23 +75,23 @@ pub fn tex_to_mathml<'a>(
     Ok(markup)
 }
 
-/// The same, with the formula itself beside it: the `math` element holds one `semantics` element, and this the element that is
-/// shown and an `annotation` with the text of the formula. So a formula that is copied from a page takes its LaTeX along. The text
-/// is the `alttext` of the `math` element as well, for what cannot show it.
+/// Converts a formula as [`tex_to_mathml`] does, and adds its text: the `math` element holds one `semantics` element, and that
+/// holds the element that is shown and an `annotation` with the text of the formula. So a formula that is copied from a page
+/// keeps its LaTeX. The text is also the `alttext` of the `math` element, for programs that cannot show the formula.
 ///
-/// What is shown stands in one element, which is an `mrow` if the answer of [`tex_to_mathml`] has none or several. The text is
-/// escaped as every text is. In comments it may hold characters that XML forbids; for each of them stands U+FFFD.
+/// What is shown is one element, which is an `mrow` if the answer of [`tex_to_mathml`] has none or several. The text is escaped
+/// like any other text. In comments it may contain characters that XML forbids. Each of them is replaced by U+FFFD.
 ///
-/// # Errors
-///
-/// As those of [`tex_to_mathml`].
-///
-/// An answer is one `math` element with the children that MathML allows. It holds no character that XML forbids, and no dollar
-/// sign.
+/// An answer is one `math` element with the children that MathML allows. It contains no character that XML forbids and no
+/// dollar sign.
 ///
 /// `x<y`, inline, is `<math xmlns="http://www.w3.org/1998/Math/MathML"
 /// display="inline" alttext="x&lt;y"><semantics><mrow><mi>x</mi><mo>&lt;</mo><mi>y</mi></mrow><annotation
 /// encoding="application/x-tex">x&lt;y</annotation></semantics></math>`.
+///
+/// # Errors
+///
+/// The same as those of [`tex_to_mathml`].
 pub fn tex_to_mathml_with_source<'a>(
     alloc: Global,
     macros: &Macros<'a>,
@@ -111,8 +112,8 @@ pub fn tex_to_mathml_with_source<'a>(
     Ok(markup)
 }
 
-/// Converts formulas, one after another. It keeps the room that it works in from each to the next, and borrows all of them for
-/// one lifetime.
+/// Converts formulas, one after another. It reuses its working memory from one formula to the next, and borrows all formulas
+/// for one lifetime.
 #[derive(Drop)]
 pub struct Converter<'a> {
     alloc: Global,
@@ -123,7 +124,7 @@ pub struct Converter<'a> {
 }
 
 impl<'a> Converter<'a> {
-    /// A converter that has no room yet.
+    /// Creates a converter that has no working memory yet.
     pub fn new(alloc: Global) -> Converter<'a> {
         Converter {
             alloc,
@@ -134,8 +135,8 @@ impl<'a> Converter<'a> {
         }
     }
 
-    /// Appends to a text what [`tex_to_mathml`] answers, whatever was converted before. If it refuses the formula, the text is
-    /// left as it was; if memory runs out, a part of the markup may stand behind it.
+    /// Appends the answer of [`tex_to_mathml`] to a text, whatever was converted before. If the formula is refused, the text is
+    /// unchanged. If memory runs out, a part of the markup may have been appended to it.
     pub fn append(
         &mut self,
         text: &mut String,
@@ -155,7 +156,7 @@ impl<'a> Converter<'a> {
         Ok(())
     }
 
-    /// The same for what [`tex_to_mathml_with_source`] answers.
+    /// Appends the answer of [`tex_to_mathml_with_source`] to a text, in the same way as `append`.
     pub fn append_with_source(
         &mut self,
         text: &mut String,
@@ -196,7 +197,7 @@ impl<'a> Converter<'a> {
         result
     }
 
-    /// Reads a formula that expands to these units. Where `&` or `\\` stands outside of all tables, it is read once more, as
+    /// Reads a formula that expands to these units. If `&` or `\\` is outside of all tables, the formula is read once more, as
     /// rows.
     fn read_units(&mut self, whole: &Whole, style: Style) -> Result<usize, TexError>
         ensures reading { IfOk result (λ count.
@@ -212,7 +213,7 @@ impl<'a> Converter<'a> {
         result
     }
 
-    /// Reads a formula that expands to these units in this form.
+    /// Reads, in this form, a formula that expands to these units.
     fn read_as(&mut self, form: Form, whole: &Whole, style: Style) -> Result<usize, TexError>
         ensures reading { IfOk result (λ count.
             HasRead (ReadsAs form (style_of style) (whole_units whole.now)) count
@@ -227,7 +228,7 @@ impl<'a> Converter<'a> {
         result
     }
 
-    /// A parser of these units, with the converter's room.
+    /// Returns a parser of these units, with the converter's working memory.
     fn parser<'w>(&mut self, whole: &'w Whole<'w>, style: Style) -> Parser<'w>
         ensures units { units_at result.input ≡ whole_units whole.now }
         ensures style { result.style ≡ style }
@@ -255,7 +256,7 @@ fn is_outside_table(answer: &Result<usize, TexError>) -> bool
     )
 }
 
-/// Reads the formula that a parser is to read, in this form. Returns how many elements it has.
+/// Reads the formula of a parser in this form. Returns how many elements it has.
 fn read_formula(parser: &mut Parser, form: Form) -> Result<usize, TexError>
     requires { parser.old.frames.stack.items ≡ [] }
     ensures reading { IfOk result (λ count.
@@ -270,7 +271,7 @@ fn read_formula(parser: &mut Parser, form: Form) -> Result<usize, TexError>
     }
 }
 
-/// Appends a `math` element of so many of the uppermost elements.
+/// Appends a `math` element of the `count` uppermost elements.
 fn write_math(
     builder: &Builder,
     count: usize,
@@ -337,7 +338,7 @@ fn alternative_start(display: DisplayStyle) -> &'static str
     }
 }
 
-/// The style of a formula on a line of its own, and in a line of text.
+/// Returns the style of a formula on a line of its own, or in a line of text.
 fn style_for(display: DisplayStyle) -> Style
     ensures { style_of result ≡ style_in display }
 {

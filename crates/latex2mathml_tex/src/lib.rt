@@ -1,12 +1,12 @@
 //! LaTeX as authors write it, turned into MathML.
 //!
 //! - [`tex_to_mathml`] converts a formula to a `math` element.
-//! - [`tex_to_mathml_with_source`] also puts the text of the formula into it.
+//! - [`tex_to_mathml_with_source`] also includes the text of the formula.
 //! - [`Macros`] are the macros that a formula may use.
-//! - [`Converter`] converts one formula after another, and keeps its memory.
+//! - [`Converter`] converts one formula after another, and reuses its memory.
 //! - [`TexError`] says why a formula is refused, and where.
 //!
-//! The crate `latex2mathml_tex_grammar` defines what each formula means, and has laws of that.
+//! The crate `latex2mathml_tex_grammar` defines what each formula means, and states laws about that.
 #![tactic(auto)]
 
 mod annotation;

@@ -1,4 +1,4 @@
-//! Units to elements: one loop over a stack of frames. Each step is proved to lead to what the definitions say about the
+//! From units to elements: one loop over a stack of frames. Each step is proved to lead to what the definitions say about the
 //! units that were left before it.
 ghost use Rattle.std.specs.Prelude.{◌≡◌, ◌≢◌, ◌+◌, ℕ, [], IfOk, IsTrue, Some};
 ghost use Rattle.latex2mathml_tex_grammar.specs.{Next.past_space, Next.refusal_here};
@@ -38,30 +38,30 @@ use std::mem;
 /// What the next step has to do.
 #[derive(Clone, Copy)]
 pub(crate) enum State {
-    /// To read what is due.
+    /// Read what is due.
     Next,
-    /// To give the innermost frame an atom without scripts.
+    /// Give the innermost frame an atom without scripts.
     Core(Core),
-    /// To go on after an atom with these scripts, in the innermost row.
+    /// Go on after an atom with these scripts, in the innermost row.
     Atom(Core, Scripts),
-    /// To give the innermost frame an operand.
+    /// Give the innermost frame an operand.
     Operand(Operand),
-    /// To read one part of words behind these, in this alphabet; this place takes it.
+    /// Read one part of words after these, in this alphabet; this place takes it.
     Word(Words, usize, Option<Alphabet>),
-    /// To give the innermost frame these words.
+    /// Give the innermost frame these words.
     Words(Words),
-    /// Nothing: the formula is read. Its elements are so many.
+    /// Nothing: the formula is read. It has this many elements.
     End(usize),
     /// Nothing: the formula is refused.
     Refused,
 }
 
-/// As what a formula is read.
+/// The form in which a formula is read.
 #[derive(Clone, Copy)]
 pub(crate) enum Form {
-    /// Atoms side by side.
+    /// Atoms next to each other.
     Atoms,
-    /// Rows, as those of `aligned`.
+    /// Rows, like those of `aligned`.
     Rows,
 }
 
@@ -74,12 +74,12 @@ pub(crate) struct Parser<'a> {
     pub(crate) style: Style,
     pub(crate) frames: Frames,
     pub(crate) builder: Builder,
-    /// Why the formula is refused. It lies here so that what each step returns is small.
+    /// Why the formula is refused. It is kept here so that what each step returns is small.
     refusal: TexError,
 }
 
 impl<'a> Parser<'a> {
-    /// A parser that has read none of these units, with this room.
+    /// Creates a parser that has read none of these units, and works with these frames and this builder.
     pub(crate) fn new(
         alloc: Global,
         whole: &'a Whole<'a>,
@@ -102,7 +102,7 @@ impl<'a> Parser<'a> {
         }
     }
 
-    /// Reads the formula, until it is read or refused. Returns how many elements it has, if it is read.
+    /// Runs until the formula is read or refused. Returns how many elements it has, or `None` if it is refused.
     pub(crate) fn finish(&mut self, form: Form) -> Result<Option<usize>, AllocError>
         requires { self.old.frames.stack.items ≡ [] }
         ensures holds { IfOk result (λ read.
@@ -122,7 +122,7 @@ impl<'a> Parser<'a> {
         }
     }
 
-    /// Takes out why the formula is refused.
+    /// Takes out the reason why the formula is refused.
     #[cold]
     pub(crate) fn refusal(&mut self) -> TexError
         ensures { result ≡ self.old.refusal }
@@ -130,6 +130,7 @@ impl<'a> Parser<'a> {
         mem::replace(&mut self.refusal, TexError::out_of_memory())
     }
 
+    #[inline(always)]
     fn step(&mut self, state: State) -> Result<State, AllocError>
         requires going_on { ((count : ℕ) → state ≢ State.End count) × (state ≢ State.Refused) }
         requires ready { Ready self.old state }
@@ -165,7 +166,7 @@ impl<'a> Parser<'a> {
         }
     }
 
-    /// Begins something. What it waits for is due then.
+    /// Pushes a frame. What it waits for is due next.
     pub(crate) fn open(&mut self, frame: Frame) -> Result<State, AllocError>
         requires can { CanMake (makes frame) (element_count frame) self.old }
         requires accepts { IsTrue (accepts core_made frame) }
@@ -189,7 +190,7 @@ impl<'a> Parser<'a> {
         State::Refused
     }
 
-    /// Refuses what is no unit.
+    /// Refuses what is not a unit.
     #[cold]
     pub(crate) fn refuse_fault(&mut self, fault: Fault, place: usize) -> State
         ensures state { result ≡ State.Refused }
@@ -199,7 +200,7 @@ impl<'a> Parser<'a> {
         self.refuse(TexErrorKind::of_fault(fault), place)
     }
 
-    /// Refuses the formula because no delimiter stands next. What is no unit there is refused first.
+    /// Refuses the formula because no delimiter comes next. If what comes next is not a unit, that is refused instead.
     #[cold]
     pub(crate) fn refuse_delimiter(&mut self) -> State
         ensures state { result ≡ State.Refused }

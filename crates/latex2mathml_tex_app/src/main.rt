@@ -1,4 +1,4 @@
-//! Turns a LaTeX formula on standard input into MathML on standard output.
+//! Converts a LaTeX formula on standard input to MathML on standard output.
 #![tactic(auto)]
 
 use latex2mathml::{Disk, Stream};

@@ -1,4 +1,4 @@
--- Fractions between delimiters, where there is any.
+-- Fractions between delimiters, if there are any.
 use Rattle.std.proofs.Common.{◌≡◌, ℕ, List, [], ◌∷◌, None, Option, Some, ap, arith, length, refl, true}
 use Rattle.std.proofs.lemmas.Str.{length-le-encodes}
 use Rattle.std.specs.Str.{encode_utf8_all}

@@ -1,4 +1,4 @@
--- The uppermost elements changed, and a row with an atom after it.
+-- The top elements changed, and a row with an atom after it.
 use Rattle.std.proofs.Common.{◌≡◌, ℕ, ◌+◌, ◌<◌, ◌≤◌, ◌==◌, Bool, false, true, zero, suc, List, [], ◌∷◌, ◌++◌, Option, Some, None, length, take, drop, arith, refl, sym, ap, ◌∙◌}
 use Rattle.std.proofs.Math.Dec.{eqb-suc-zero}
 use Rattle.std.proofs.lemmas.List.{drop-drop}
@@ -24,7 +24,7 @@ use Rattle.latex2mathml_tex_commands.specs.declared.meaning.Class.TheVariants as
 
 -- One element changed
 
--- .. which holds a text, and gets other attributes
+-- an element that holds a text, and gets other attributes
 module _ (f : Element → Element) (t : Token) (a b : Attributes) (same : (text : List ℕ) → f (token t a text) ≡ token t b text) where
   given_there : (x : Element) → token_of_element x ≡ Some (t, a) → with_attributes b x ≡ f x
   given_there (token u c text) found =
@@ -37,17 +37,17 @@ module _ (f : Element → Element) (t : Token) (a b : Attributes) (same : (text 
   given_changed zero (x ∷ xs) found = ap (λ y. y ∷ xs) (given_there x found)
   given_changed (suc depth) (x ∷ xs) found = ap (λ ys. x ∷ ys) (given_changed depth xs found)
 
--- .. which stays what it is
+-- an element that stays as it is
 pub unchanged_at : (f : Element → Element) (depth : ℕ) (xs : List Element) → ((x : Element) → token_of_element x ≡ token_at depth xs → f x ≡ x) → changed_at f depth xs ≡ xs
 unchanged_at f depth [] stays = refl
 unchanged_at f zero (x ∷ xs) stays = ap (λ y. y ∷ xs) (stays x refl)
 unchanged_at f (suc depth) (x ∷ xs) stays = ap (λ ys. x ∷ ys) (unchanged_at f depth xs stays)
 
--- .. as any element does
+-- each element stays as it is
 pub unchanged : (f : Element → Element) (depth : ℕ) (xs : List Element) → ((x : Element) → f x ≡ x) → changed_at f depth xs ≡ xs
 unchanged f depth xs stays = unchanged_at f depth xs (λ x e. stays x)
 
--- .. as a sign between two operands
+-- an element that is changed as a sign between two operands
 pub infix_there : (style : Style) (first : Bool) (before : Before) (xs : List Element) → Atoms.begins_operand before ≡ false → changed_at (Atoms.tight style) 0 (changed_at (Atoms.as_infix first) 0 xs) ≡ changed_at (Atoms.element_there style first before Atoms.PlusOrMinus) 0 xs
 infix_there style first before [] none = refl
 infix_there style first before (x ∷ xs) none = rw none
@@ -57,7 +57,7 @@ length_changed f depth [] = refl
 length_changed f zero (x ∷ xs) = refl
 length_changed f (suc depth) (x ∷ xs) = ap suc (length_changed f depth xs)
 
--- What stays what it is: an element that holds no text, ..
+-- What stays as it is: an element that holds no text
 
 pub no_prefix : (x : Element) → token_of_element x ≡ None → Atoms.as_prefix x ≡ x
 no_prefix (token t a text) h = cc
@@ -84,14 +84,14 @@ pub no_base : (x : Element) → token_of_element x ≡ None → Makes.fixed_base
 no_base (token t a text) h = cc
 no_base x h = refl
 
--- .. what is no fence, ..
+-- an element that is no fence
 pub no_fence : (x : Element) (t : Token) (a : Attributes) → token_of_element x ≡ Some (t, a) → a.fence ≡ false → Makes.lowered_divider x ≡ x
 no_fence (token t b text) u a h none =
     let tags : ◌≡◌ {A = Token × Attributes} (t, b) (u, a) = cc in
     rw (ap (λ p. p.1.fence) tags ∙ none)
 no_fence x u a h none = refl
 
--- .. what is no operator, ..
+-- an element that is no operator
 module _ (tag : CodeToken) (other : tag ≡ code_token.Mo → ⊥) where
   clash : (tag : CodeToken) → (tag ≡ code_token.Mo → ⊥) → Mo ≡ token_of tag → ⊥
   clash code_token.Mo other h = other refl
@@ -108,20 +108,20 @@ module _ (tag : CodeToken) (other : tag ≡ code_token.Mo → ⊥) where
   no_operator_alone style class (token Mo b text) a h = absurd (is_operator a b cc)
   no_operator_alone style class x a h = refl
 
--- .. a sign that has its space in scripts too, ..
+-- a sign that has its space in scripts too
 pub spaced_sign : (style : Style) (class : CodeClass) → (class ≡ code_class.Binary → ⊥) → (class ≡ code_class.Relation → ⊥) → (class ≡ code_class.Punctuation → ⊥) → (x : Element) → Atoms.sign_there style (class_of class) x ≡ x
 spaced_sign style code_class.Binary b r p x = absurd (b refl)
 spaced_sign style code_class.Relation b r p x = absurd (r refl)
 spaced_sign style code_class.Punctuation b r p x = absurd (p refl)
 spaced_sign style class b r p x = refl
 
--- .. what is neither a binary sign nor a relation, ..
+-- an element that is neither a binary sign nor a relation
 pub no_base_changed : (style : Style) (class : Class) (own : CodeClass) → (own ≡ code_class.Binary → ⊥) → (own ≡ code_class.Relation → ⊥) → (x : Element) → Atoms.element_as style class (class_of own) x ≡ x
 no_base_changed style class code_class.Binary b r x = absurd (b refl)
 no_base_changed style class code_class.Relation b r x = absurd (r refl)
 no_base_changed style class own b r x = refl
 
--- .. and what is no sign
+-- an element that is no sign
 pub no_sign : (style : Style) (first : Bool) (before : Before) (kind : CodeKind) → ((class : CodeClass) → kind ≡ code_kind.SignOf class → ⊥) → (kind ≡ code_kind.PlusOrMinus → ⊥) → (x : Element) → Atoms.element_there style first before (kind_of kind) x ≡ x
 no_sign style first before (code_kind.SignOf class) s p x = absurd (s class refl)
 no_sign style first before code_kind.PlusOrMinus s p x = absurd (p refl)
@@ -138,7 +138,7 @@ mapped_more f n [] = refl
 mapped_more f zero (x ∷ xs) = ap (λ ys. f x ∷ ys) (mapped_none f xs)
 mapped_more f (suc n) (x ∷ xs) = ap (λ ys. f x ∷ ys) (mapped_more f n xs)
 
--- A word, and a letter behind it
+-- A word followed by a letter
 
 lone : (x : Element) → x ∷ [] ≡ Rows.join x []
 lone (token t a text) = refl
@@ -164,7 +164,7 @@ pub not_joined : (xs : List Element) → are_tokens xs ≡ false → joined xs �
 not_joined (token t a letter ∷ token u b word ∷ xs) apart = cc
 not_joined xs apart = refl
 
--- A row, and an atom behind it
+-- A row followed by an atom
 
 pub length_parted : (x : Element) (xs : List Element) → length (take 1 xs ++ (x ∷ drop 1 xs)) ≡ suc (length xs)
 length_parted x [] = refl
@@ -182,7 +182,7 @@ begins_row zero (x ∷ xs) enough = refl
 begins_row (suc n) (x ∷ []) enough = absurd (omega arith)
 begins_row (suc n) (x ∷ y ∷ xs) enough = sym (eqb-suc-zero n)
 
--- .. behind which no space stands
+-- an atom that no space separates from the row
 pub put_adapted : (n : ℕ) (style : Style) (before : Before) (kind : Kind) (xs : List Element) → suc n ≤ length xs → Atoms.is_parted before kind ≡ false → take (suc n) (changed_at (Atoms.element_there style (n == 0) before kind) 0 xs) ≡ Rows.put false style before (Atoms.atom kind false (top xs)) (take n (drop 1 xs))
 put_adapted n style before kind [] enough none = absurd (omega arith)
 put_adapted n style before kind (x ∷ xs) enough none = rw (begins_row n (x ∷ xs) enough, none)
@@ -196,7 +196,7 @@ class_behind (suc n) (x ∷ y ∷ xs) kind some enough = refl
 pub same_row : (xs ys : List Element) (b c : Before) (v w h i : Bool) (k l : Class) (e f : Option Rows.Restyled) (r u : Option Rows.Upper) → xs ≡ ys → b ≡ c → v ≡ w → h ≡ i → k ≡ l → e ≡ f → r ≡ u → ◌≡◌ {A = Rows.Row} (record { elements = xs; before = b; ends_in_word = v; high = h; class = k; restyled = e; under = r }) (record { elements = ys; before = c; ends_in_word = w; high = i; class = l; restyled = f; under = u })
 same_row xs ys b c v w h i k l e f r u p q s t m n o = cc
 
--- what stands below the atoms of a row stays where it is
+-- what is below the atoms of a row stays where it is
 module _ (n k : ℕ) (xs ys : List Element) (below : drop k ys ≡ drop (n + 1) xs) where
   pub same_below : drop k ys ≡ drop n (drop 1 xs)
   same_below = let swap : n + 1 ≡ 1 + n = omega arith in below ∙ ap (λ m. drop m xs) swap ∙ sym (drop-drop n 1 xs)

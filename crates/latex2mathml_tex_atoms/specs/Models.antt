@@ -1,5 +1,5 @@
--- What the parser's values are in the definitions. A value holds no element: its elements are the first of those that stand
--- beside it, the uppermost first.
+-- What the parser's values are in the definitions. A value holds no elements: its elements are the first of a list that is
+-- given with it, the top one first.
 use Rattle.std.specs.Prelude.{ℕ, ◌+◌, Bool, true, false, List, [], ◌∷◌, drop, option_map, Option, Some, None, take}
 use Rattle.latex2mathml_elements.specs.Element.{Element}
 use Rattle.latex2mathml_attributes.specs.Arounds.{color_of}
@@ -35,7 +35,7 @@ before_of before.AfterName = atoms.AfterName
 abbrev pub context_of : Context → rules.Context
 context_of c = rules.in_context (style_of c.style) (option_map alphabet_of c.alphabet)
 
--- the uppermost element
+-- the top element
 abbrev pub top : List Element → Element
 top [] = no_element
 top (x ∷ xs) = x
@@ -57,12 +57,12 @@ restyled_with (Some change) settled xs = Some (record {
   color = option_map color_of change.color;
 })
 
--- what a row stands below
+-- the upper part of the fraction, if a row is the lower part of one
 abbrev pub under_with : Option FractionRule → List Element → Option rows.Upper
 under_with None xs = None
 under_with (Some rule) xs = Some (record { rule = fraction_rule_of rule; element = top xs })
 
--- how many elements stand before a change, where there was one
+-- how many elements precede a change, if there was one
 abbrev pub settled_count : Option Restyled → ℕ → ℕ
 settled_count None settled = 0
 settled_count (Some change) settled = settled
@@ -75,7 +75,7 @@ under_count (Some rule) = 1
 abbrev pub row_rest : Row → ℕ
 row_rest row = settled_count row.restyled row.settled + under_count row.under
 
--- how many there are
+-- how many elements a row has
 abbrev pub row_count : Row → ℕ
 row_count row = row.count + row_rest row
 
@@ -101,7 +101,7 @@ abbrev pub one_if : Bool → ℕ
 one_if true = 1
 one_if false = 0
 
--- whether a script stands on this side
+-- whether there is a script on this side
 abbrev pub has_script : Side → Scripts → Bool
 has_script side.Below scripts = scripts.below
 has_script side.Above scripts = scripts.above
@@ -110,7 +110,7 @@ has_script side.Above scripts = scripts.above
 abbrev pub script_count : Scripts → ℕ
 script_count s = one_if s.below + one_if s.above
 
--- the elements below and above, as they were read
+-- the elements of the scripts below and above, which are in the order in which they were read
 abbrev pub element_below : Bool → Bool → Bool → List Element → Option Element
 element_below false above is_exchanged xs = None
 element_below true false is_exchanged xs = Some (top xs)

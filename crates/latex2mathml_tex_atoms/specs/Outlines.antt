@@ -1,4 +1,4 @@
--- How authors say that fractions are drawn, as the definitions have it.
+-- How authors specify that fractions are drawn, as the definitions have it.
 use Rattle.std.specs.Prelude.{option_map}
 use Rattle.latex2mathml_tex_grammar.specs.Makes as makes
 use Rattle.latex2mathml_tex_commands.specs.{Delimiters.delimiter_text, Meanings.style_of}

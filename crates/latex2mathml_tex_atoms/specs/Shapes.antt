@@ -1,4 +1,4 @@
--- Changes of the uppermost elements.
+-- Changes of the top elements.
 use Rattle.std.specs.Prelude.{◌≡◌, ℕ, zero, suc, List, [], ◌∷◌, Option, None, Some, drop}
 use Rattle.std.specs.Str.{encode_utf8_all}
 use Rattle.latex2mathml_elements.specs.{Attributes.Attributes, Attributes.Stretch, Attributes.plain, Element.Element, Element.Mo, Element.token}
@@ -21,31 +21,31 @@ abbrev pub within_any : Option Around → Element → Element
 within_any None x = x
 within_any (Some a) x = element_around a x
 
--- the element below so many others changed
+-- the elements, with the one below `depth` others changed
 abbrev pub changed_at : (Element → Element) → ℕ → List Element → List Element
 changed_at f depth [] = []
 changed_at f zero (x ∷ xs) = f x ∷ xs
 changed_at f (suc depth) (x ∷ xs) = x ∷ changed_at f depth xs
 
--- .. and all others stay
+-- the element below `depth` others is changed, and all others stay
 abbrev pub ChangesAt : (Element → Element) → ℕ → Built → Built → Type 0
 ChangesAt f depth old new = elements_in new ≡ changed_at f depth (elements_in old)
 
--- what this makes of the uppermost element stands in place of it
+-- what this makes of the top element replaces it
 abbrev pub ReplacesTop : (Element → Element) → Built → Built → Type 0
 ReplacesTop make old new = elements_in new ≡ make (top (elements_in old)) ∷ drop 1 (elements_in old)
 
--- the first so many changed
+-- the elements, with the first `count` changed
 abbrev pub mapped_first : (Element → Element) → ℕ → List Element → List Element
 mapped_first f count [] = []
 mapped_first f zero (x ∷ xs) = x ∷ xs
 mapped_first f (suc count) (x ∷ xs) = f x ∷ mapped_first f count xs
 
--- an atom without scripts was put: its element stands uppermost, and this is what else it is
+-- an atom without scripts was put: its element is on top, and this is what else it is
 pub record IsPut (put : CodeCore) (k : Makes.Core) (old new : List Element) : Type 0 where
   pub element : new ≡ k.atom.element ∷ old
   pub is : core_with put k.atom.element ≡ k
 
--- .. on the elements of a builder
+-- an atom without scripts was put on the elements of a builder
 abbrev pub PutsCore : Makes.Core → Built → Built → CodeCore → Type 0
 PutsCore k old new put = IsPut put k (elements_in old) (elements_in new)

@@ -1,4 +1,4 @@
-//! Atoms and rows, and what an atom is to those beside it.
+//! Atoms and rows, and what an atom is to its neighbours.
 ghost use Rattle.std.specs.Prelude.{◌≡◌, false};
 ghost use Rattle.latex2mathml_tex_grammar.specs.Atoms;
 ghost use Rattle.latex2mathml_tex_grammar.specs.Makes;
@@ -10,7 +10,7 @@ use latex2mathml_attributes::around::Color;
 use latex2mathml_attributes::attributes::Side;
 use latex2mathml_tex_commands::meaning::{Alphabet, Class, FractionRule, LimitPlace, Style};
 
-/// In what a unit is read: the style, and the alphabet of letters and digits, if there is one.
+/// The context in which a unit is read: the style, and the alphabet of letters and digits, if there is one.
 #[derive(Clone, Copy)]
 pub struct Context {
     pub style: Style,
@@ -18,7 +18,7 @@ pub struct Context {
 }
 
 impl Context {
-    /// The same alphabet in another style.
+    /// Returns the context with the same alphabet in another style.
     pub fn styled(self, style: Style) -> Context
         ensures { result ≡ record self { style = style } }
     {
@@ -31,11 +31,11 @@ impl Context {
 pub enum Kind {
     /// A sign of this class, an `mo` of its own.
     SignOf(Class),
-    /// A binary sign that is a prefix where no binary operator can stand.
+    /// A binary sign that is a prefix where no binary operator can be.
     PlusOrMinus,
     /// Any other element, of this class.
     Plain(Class),
-    /// An upright letter, which is one word with those beside it.
+    /// An upright letter, which forms one word with those next to it.
     UprightLetters,
     /// The name of a function.
     FunctionWord,
@@ -52,7 +52,7 @@ impl Kind {
         matches!(self, Kind::UprightLetters)
     }
 
-    /// Whether it can be said where the limits of the atom are to stand: it is an operator.
+    /// Whether the place of the atom's limits can be specified: whether the atom is an operator.
     pub fn takes_limits(self) -> bool
         ensures { result ≡ Makes.takes_limits (kind_of self) }
     {
@@ -62,7 +62,7 @@ impl Kind {
         )
     }
 
-    /// The class of the atom as a base: a binary operator and a relation stay what they are.
+    /// Returns the class of the atom as a base. A binary operator and a relation stay what they are.
     pub fn class(self) -> Class
         ensures { class_of result ≡ Rows.class_of_kind (kind_of self) }
     {
@@ -75,7 +75,7 @@ impl Kind {
         }
     }
 
-    /// What the atom is when it is changed: letters are no part of a word.
+    /// Returns what the atom is when it is changed: letters are no longer part of a word.
     pub fn without_letters(self) -> Kind
         ensures { kind_of result ≡ Makes.no_letters (kind_of self) }
     {
@@ -85,7 +85,7 @@ impl Kind {
         }
     }
 
-    /// What the atom is with scripts: a sign is no `mo` of its own.
+    /// Returns what the atom is with scripts: a sign is no longer an `mo` of its own.
     pub fn with_scripts(self) -> Kind
         ensures { kind_of result ≡ Makes.scripted_kind (kind_of self) }
     {
@@ -97,7 +97,7 @@ impl Kind {
     }
 }
 
-/// What stands before an atom, spaces aside.
+/// What precedes an atom, ignoring spaces.
 #[derive(Clone, Copy)]
 pub enum Before {
     Nothing,
@@ -106,7 +106,7 @@ pub enum Before {
 }
 
 impl Before {
-    /// Whether no binary operator can stand there.
+    /// Whether no binary operator can follow.
     pub fn begins_operand(self) -> bool
         ensures { result ≡ Atoms.begins_operand (before_of self) }
     {
@@ -123,7 +123,7 @@ impl Before {
         }
     }
 
-    /// The class that an atom of this class has there.
+    /// Returns the class that an atom of this class has there.
     pub fn class_there(self, class: Class) -> Class
         ensures { class_of result ≡ Atoms.class_there (before_of self) (class_of class) }
     {
@@ -139,7 +139,7 @@ impl Before {
         }
     }
 
-    /// What an atom there is to the atom after it.
+    /// Returns what an atom there is to the atom after it.
     pub fn past(self, kind: Kind) -> Before
         ensures { before_of result ≡ Atoms.past (before_of self) (kind_of kind) }
     {
@@ -154,7 +154,7 @@ impl Before {
         }
     }
 
-    /// Whether a thin space stands before an atom of this kind.
+    /// Whether a thin space precedes an atom of this kind.
     pub fn is_parted(self, kind: Kind) -> bool
         ensures { result ≡ Atoms.is_parted (before_of self) (kind_of kind) }
     {
@@ -165,7 +165,7 @@ impl Before {
     }
 }
 
-/// Whether a thin space stands between two atoms. An operator has a space of its own before it.
+/// Whether there is a thin space between two atoms. An operator has a space of its own before it.
 fn parts(before: Before, behind: Before) -> bool
     ensures { result ≡ Atoms.parts (before_of before) (before_of behind) }
 {
@@ -177,18 +177,18 @@ fn parts(before: Before, behind: Before) -> bool
     }
 }
 
-/// An atom without scripts. Its element is the uppermost one.
+/// An atom without scripts. Its element is the top one.
 #[derive(Clone, Copy)]
 pub struct Core {
     pub kind: Kind,
     /// Whether it is higher than a letter.
     pub high: bool,
-    /// Where its limits stand.
+    /// Where its limits are.
     pub limits: LimitPlace,
 }
 
 impl Core {
-    /// An atom whose limits stand beside it.
+    /// Creates an atom whose limits are next to it.
     pub fn new(kind: Kind, high: bool) -> Core
         ensures { result ≡ record { kind = kind; high = high; limits = LimitPlace.Beside } }
     {
@@ -200,7 +200,7 @@ impl Core {
     }
 }
 
-/// What a command takes. Its element is the uppermost one.
+/// What a command takes. Its element is the top one.
 #[derive(Clone, Copy)]
 pub struct Operand {
     /// Its class as the base of a mark.
@@ -216,16 +216,16 @@ pub struct Restyled {
     pub group: Style,
     /// Whether the style was changed.
     pub has_own_style: bool,
-    /// The color of what stands after the change, if there is one.
+    /// The color of what follows the change, if there is one.
     pub color: Option<Color>,
 }
 
-/// Atoms side by side. Their elements are the uppermost ones.
+/// Atoms next to each other. Their elements are the top ones.
 #[derive(Clone, Copy)]
 pub struct Row {
     /// How many elements there are since the last change of style or color.
     pub count: usize,
-    /// What the next atom stands behind.
+    /// What precedes the next atom.
     pub before: Before,
     /// Whether the last element is a word of upright letters.
     pub ends_in_word: bool,
@@ -235,14 +235,14 @@ pub struct Row {
     pub class: Class,
     /// That change, if there was one.
     pub restyled: Option<Restyled>,
-    /// How many elements stand before that change, below the others.
+    /// How many elements precede that change, below the others.
     pub settled: usize,
-    /// The rule of the fraction whose lower part it is, if it is one. The upper part is below the others.
+    /// The rule of the fraction, if the row is the lower part of one. The upper part is below the other elements.
     pub under: Option<FractionRule>,
 }
 
 impl Row {
-    /// No atoms.
+    /// Returns a row without atoms.
     pub fn empty() -> Row
         ensures { result ≡ empty_row }
     {
@@ -259,7 +259,7 @@ impl Row {
     }
 }
 
-/// What stands after an atom. The elements of its scripts are above that of the atom, as they were read.
+/// What follows an atom. The elements of its scripts are above that of the atom, in the order in which they were read.
 #[derive(Clone, Copy)]
 pub struct Scripts {
     pub primes: usize,
@@ -268,12 +268,12 @@ pub struct Scripts {
     /// Whether the script below was read after the one above.
     pub is_exchanged: bool,
     pub limits: LimitPlace,
-    /// Whether it can be said where they are to stand.
+    /// Whether the place of the limits can be specified.
     pub takes_limits: bool,
 }
 
 impl Scripts {
-    /// No scripts after an atom of this kind.
+    /// Returns no scripts, after an atom of this kind.
     pub fn none(kind: Kind, limits: LimitPlace) -> Scripts
         ensures { result ≡ record {
           primes = 0;
@@ -294,7 +294,7 @@ impl Scripts {
         }
     }
 
-    /// Whether a script stands on this side.
+    /// Whether there is a script on this side.
     pub fn has(self, side: Side) -> bool
         ensures { result ≡ has_script side self }
     {
@@ -305,7 +305,7 @@ impl Scripts {
     }
 }
 
-/// Words. Their elements are the uppermost ones.
+/// Words. Their elements are the top ones.
 #[derive(Clone, Copy)]
 pub struct Words {
     /// How many elements there are.

@@ -1,4 +1,4 @@
-//! Boxes around the uppermost element, and black rectangles.
+//! Boxes around the top element, and black rectangles.
 ghost use Rattle.std.specs.Prelude.{◌≡◌, ◌≤◌, OnOk, length};
 ghost use Rattle.latex2mathml_elements.specs.Element.{Element};
 ghost use Rattle.latex2mathml_attributes.specs.Arounds.{element_around};
@@ -13,7 +13,7 @@ use latex2mathml_builder::builder::Builder;
 use latex2mathml_tex_commands::meaning::OperandBox;
 use std::alloc::AllocError;
 
-/// The uppermost element in a box.
+/// Puts the top element in a box.
 pub fn put_in_box(builder: &mut Builder, operand_box: OperandBox) -> Result<(), AllocError>
     requires { 1 ≤ length (elements_in builder.old) }
     ensures { OnOk result (ReplacesTop (Makes.in_box (box_of operand_box))
@@ -26,7 +26,7 @@ pub fn put_in_box(builder: &mut Builder, operand_box: OperandBox) -> Result<(), 
     builder.surround(outer)
 }
 
-/// What is put around an element in a box: first the one, if there is one, and then the other.
+/// Returns what is put around an element in a box: first the one, if there is one, and then the other.
 fn boxes(operand_box: OperandBox) -> (Option<Around>, Around)
     ensures { (x : Element) → Makes.in_box (box_of operand_box) x
         ≡ element_around result.1 (within_any result.0 x) }
@@ -57,7 +57,7 @@ fn boxes(operand_box: OperandBox) -> (Option<Around>, Around)
     }
 }
 
-/// Puts a black rectangle that a length raises, if there is one.
+/// Puts a black rectangle, which is raised by a length if there is one.
 pub fn put_bar(
     builder: &mut Builder,
     raise: Option<i32>,

@@ -1,4 +1,4 @@
-//! The elements of fractions, as the builder's uppermost elements.
+//! The elements of fractions, as the top elements of the builder.
 ghost use Rattle.std.specs.Prelude.{◌≡◌, ◌≤◌, ◌∷◌, true, OnOk, Some, drop, length, option_map};
 ghost use Rattle.latex2mathml_builder.specs.Built.{elements_in};
 ghost use Rattle.latex2mathml_attributes.specs.Names.{attributes_of};
@@ -13,7 +13,7 @@ use latex2mathml_builder::builder::Builder;
 use latex2mathml_tex_commands::meaning::{FractionRule, Style};
 use std::alloc::AllocError;
 
-/// A fraction of the two uppermost elements, which may have a style of its own.
+/// Makes the two top elements a fraction, which may have a style of its own.
 pub fn put_fraction(
     builder: &mut Builder,
     rule: FractionRule,
@@ -29,7 +29,7 @@ pub fn put_fraction(
     put_in_style(builder, own)
 }
 
-/// Puts the uppermost element in a style of its own, if there is one.
+/// Puts the top element in a style of its own, if there is one.
 pub fn put_in_style(builder: &mut Builder, own: Option<Style>) -> Result<(), AllocError>
     requires { 1 ≤ length (elements_in builder.old) }
     ensures { OnOk result (elements_in builder.new
@@ -42,7 +42,7 @@ pub fn put_in_style(builder: &mut Builder, own: Option<Style>) -> Result<(), All
     Ok(())
 }
 
-/// The attributes of an element in a style of its own.
+/// Returns the attributes of an element in a style of its own.
 pub fn style_attributes(style: Style) -> Attributes
     ensures { attributes_of result ≡ Makes.style_attributes (style_of style) }
 {
@@ -52,7 +52,7 @@ pub fn style_attributes(style: Style) -> Attributes
     }
 }
 
-/// A fraction of the two uppermost elements.
+/// Makes the two top elements a fraction.
 fn put_quotient(builder: &mut Builder, rule: FractionRule) -> Result<(), AllocError>
     requires { 2 ≤ length (elements_in builder.old) }
     ensures { OnOk result (elements_in builder.new
@@ -68,7 +68,7 @@ fn put_quotient(builder: &mut Builder, rule: FractionRule) -> Result<(), AllocEr
     }
 }
 
-/// A fraction without its bar, of the two uppermost elements, between delimiters.
+/// Makes the two top elements a fraction without its bar, between delimiters.
 fn put_between(builder: &mut Builder, opening: char, closing: char) -> Result<(), AllocError>
     requires { 2 ≤ length (elements_in builder.old) }
     ensures { OnOk result (elements_in builder.new
@@ -80,7 +80,7 @@ fn put_between(builder: &mut Builder, opening: char, closing: char) -> Result<()
     enclose(builder, true, Some(opening), Some(closing))
 }
 
-/// A fraction without its bar, of the two uppermost elements.
+/// Makes the two top elements a fraction without its bar.
 pub fn put_without_bar(builder: &mut Builder) -> Result<(), AllocError>
     requires { 2 ≤ length (elements_in builder.old) }
     ensures { OnOk result (elements_in builder.new

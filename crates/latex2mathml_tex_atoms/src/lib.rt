@@ -1,7 +1,7 @@
 //! The atoms of a formula: what they are to their neighbours, and the elements that each construct makes of them.
 //!
-//! The elements stand on the stack of a `Builder`. An atom, an operand or a row says how many of the uppermost ones are its own.
-//! The crate `latex2mathml_tex` has the parser, which calls these.
+//! The elements are on the stack of a `Builder`. An atom, an operand or a row says how many of the top elements are its own.
+//! The parser, in the crate `latex2mathml_tex`, calls these.
 #![tactic(auto)]
 
 pub mod atoms;

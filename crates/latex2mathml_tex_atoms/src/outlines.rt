@@ -1,4 +1,4 @@
-//! Fractions whose delimiters, line and style their authors say.
+//! Fractions whose delimiters, line and style their authors specify.
 ghost use Rattle.std.specs.Prelude.{◌≡◌, ◌≤◌, ◌∷◌, true, OnOk, drop, length, option_map};
 ghost use Rattle.latex2mathml_builder.specs.Built.{elements_in};
 ghost use Rattle.latex2mathml_tex_grammar.specs.Makes;
@@ -14,18 +14,18 @@ use latex2mathml_builder::builder::Builder;
 use latex2mathml_tex_commands::meaning::Style;
 use std::alloc::AllocError;
 
-/// How an author says that a fraction is drawn.
+/// How a fraction is drawn, as its author specifies.
 #[derive(Clone, Copy)]
 pub struct Outline {
-    /// The delimiters, where it has any.
+    /// The delimiters, if it has any.
     pub opening: Option<char>,
     pub closing: Option<char>,
     pub has_line: bool,
-    /// Its style, where it has one of its own.
+    /// Its style, if it has one of its own.
     pub own: Option<Style>,
 }
 
-/// The style of this number, if there is one. No number is the style around the fraction.
+/// Returns the style with this number, if there is one. No number means the style around the fraction.
 pub fn numbered_style(number: &str) -> Option<Option<Style>>
     ensures { option_map (option_map style_of) result ≡ Rules.numbered_style number.now }
 {
@@ -38,7 +38,7 @@ pub fn numbered_style(number: &str) -> Option<Option<Style>>
     }
 }
 
-/// A fraction of the two uppermost elements, as its author says.
+/// Makes the two top elements a fraction, as its author specifies.
 pub fn put_outlined(builder: &mut Builder, outline: Outline) -> Result<(), AllocError>
     requires { 2 ≤ length (elements_in builder.old) }
     ensures { OnOk result (elements_in builder.new
@@ -50,7 +50,7 @@ pub fn put_outlined(builder: &mut Builder, outline: Outline) -> Result<(), Alloc
     put_in_style(builder, outline.own)
 }
 
-/// A fraction of the two uppermost elements, with its line or without.
+/// Makes the two top elements a fraction, with its line or without.
 fn put_quotient(builder: &mut Builder, has_line: bool) -> Result<(), AllocError>
     requires { 2 ≤ length (elements_in builder.old) }
     ensures { OnOk result (elements_in builder.new
@@ -63,7 +63,7 @@ fn put_quotient(builder: &mut Builder, has_line: bool) -> Result<(), AllocError>
     put_without_bar(builder)
 }
 
-/// Puts the uppermost element between delimiters, if there is one.
+/// Puts the top element between delimiters, if there are any.
 fn put_between_any(
     builder: &mut Builder,
     opening: Option<char>,

@@ -1,4 +1,4 @@
-//! What a change makes of the row before what stands after it, and what a row is at the end of its group.
+//! What becomes of a row at a change, before what follows the change, and at the end of the group.
 ghost use Rattle.std.specs.Prelude.{◌≡◌, ◌≤◌, ◌∷◌, IfOk, List, None, OnOk, Some, drop, length, option_map, take};
 ghost use Rattle.latex2mathml_elements.specs.Element.{Element};
 ghost use Rattle.latex2mathml_attributes.specs.Arounds.{color_of};
@@ -18,7 +18,7 @@ use latex2mathml_tex_commands::meaning::{Class, FractionRule, Style};
 use std::alloc::AllocError;
 
 impl Row {
-    /// The style of the row's group, where the row is now read in this one.
+    /// Returns the style of the row's group, if the row is now read in this style.
     pub fn group_style(self, style: Style) -> Style
         ensures { (xs : List Element) → style_of result
             ≡ Rests.style_of_group (row_with self xs).restyled (style_of style) }
@@ -40,7 +40,7 @@ impl Row {
         }
     }
 
-    /// The color of its last atoms, if they have one.
+    /// Returns the color of the row's last atoms, if they have one.
     fn color(self) -> Option<Color>
         ensures { (xs : List Element) → option_map color_of result
             ≡ Rests.color_after (row_with self xs).restyled }
@@ -48,7 +48,7 @@ impl Row {
         self.restyled?.color
     }
 
-    /// The row, whose last change of style or color is settled, before what stands after another one.
+    /// Returns the row before what follows another change. The row's last change of style or color is settled.
     fn begun_anew(self, change: Restyled) -> Row
         requires { self.restyled ≡ None }
         ensures row { (xs : List Element) → row_with result xs
@@ -67,7 +67,7 @@ impl Row {
     }
 }
 
-/// Makes one element of so many, which stand after a change and are read in this style.
+/// Makes one element of the top `count` elements, which follow a change and are read in this style.
 fn put_restyled(
     builder: &mut Builder,
     style: Style,
@@ -87,7 +87,7 @@ fn put_restyled(
     Ok(())
 }
 
-/// Makes one element of so many, which are in this style if the change is one of style.
+/// Makes one element of the top `count` elements, which are in this style if the change is one of style.
 fn put_styled(
     builder: &mut Builder,
     style: Style,
@@ -105,7 +105,7 @@ fn put_styled(
     put_row(builder, count)
 }
 
-/// Makes one element of what a row that is read in this style has after its last change of style or color, if there was one.
+/// Makes one element of what follows the last change of style or color, if there was one, in a row that is read in this style.
 fn settle(builder: &mut Builder, style: Style, row: Row) -> Result<Row, AllocError>
     requires { row_count row ≤ length (elements_in builder.old) }
     ensures row { IfOk result (λ whole. row_with whole (elements_in builder.new)
@@ -120,7 +120,7 @@ fn settle(builder: &mut Builder, style: Style, row: Row) -> Result<Row, AllocErr
         return Ok(row);
     };
     put_restyled(builder, style, change, row.count)?;
-    // all elements of a row are among those of the builder, so their number has room in a `usize`
+    // all elements of a row are among those of the builder, so their number fits in a `usize`
     let _ = builder.len();
     Ok(Row {
         count: row.settled + 1,
@@ -131,7 +131,7 @@ fn settle(builder: &mut Builder, style: Style, row: Row) -> Result<Row, AllocErr
     })
 }
 
-/// A row that was read in this style, before what stands after a change of style.
+/// Returns a row that was read in this style, ready for what follows a change of style.
 pub fn restyle(builder: &mut Builder, style: Style, row: Row) -> Result<Row, AllocError>
     requires { row_count row ≤ length (elements_in builder.old) }
     ensures row { IfOk result (λ begun. row_with begun (elements_in builder.new)
@@ -149,7 +149,7 @@ pub fn restyle(builder: &mut Builder, style: Style, row: Row) -> Result<Row, All
     Ok(whole.begun_anew(change))
 }
 
-/// A row that was read in this style, before what stands after a change of color.
+/// Returns a row that was read in this style, ready for what follows a change of color.
 pub fn recolor(
     builder: &mut Builder,
     style: Style,
@@ -173,7 +173,7 @@ pub fn recolor(
     Ok(whole.begun_anew(change))
 }
 
-/// The row of the lower part of a fraction, whose upper part is a row that was read in this style.
+/// Returns the row of the lower part of a fraction whose upper part is a row that was read in this style.
 pub fn divide(
     builder: &mut Builder,
     style: Style,
@@ -197,7 +197,7 @@ pub fn divide(
     })
 }
 
-/// A row that was read in this style, at the end of its group.
+/// Finishes a row that was read in this style, at the end of its group.
 pub fn finish(builder: &mut Builder, style: Style, row: Row) -> Result<Row, AllocError>
     requires { row_count row ≤ length (elements_in builder.old) }
     ensures row { IfOk result (λ whole. row_with whole (elements_in builder.new)
@@ -210,7 +210,7 @@ pub fn finish(builder: &mut Builder, style: Style, row: Row) -> Result<Row, Allo
     close_fraction(builder, row)
 }
 
-/// A row whose last change of style is settled, as a fraction if it is the lower part of one.
+/// Returns a row in which no change of style or color is open, as a fraction if it is the lower part of one.
 fn close_fraction(builder: &mut Builder, row: Row) -> Result<Row, AllocError>
     requires count { row_count row ≤ length (elements_in builder.old) }
     requires none { row.restyled ≡ None }

@@ -1,4 +1,4 @@
-//! The elements of atoms, rows and constructs, as the builder's uppermost elements.
+//! The elements of atoms, rows and constructs, as the top elements of the builder.
 ghost use Rattle.std.specs.Prelude.{◌≡◌, ◌+◌, ◌≤◌, ◌&&◌, ◌∷◌, [], false, true, IfOk, OnOk, drop, length, option_map, take};
 ghost use Rattle.latex2mathml_elements.specs.{Attributes.plain, Element.Element, Element.pair};
 ghost use Rattle.latex2mathml_elements.specs.Attributes as attributes;
@@ -35,7 +35,7 @@ pub fn put_delimiter(
     }
 }
 
-/// A delimiter within others.
+/// Puts a delimiter within others.
 pub fn put_divider(builder: &mut Builder, delimiter: Option<char>) -> Result<(), AllocError>
     ensures { OnOk result (Puts (Makes.divider (delimiter_text delimiter)).element
         builder.old builder.new) }
@@ -49,7 +49,7 @@ pub fn put_divider(builder: &mut Builder, delimiter: Option<char>) -> Result<(),
     put_delimiter(builder, attributes, delimiter)
 }
 
-/// A delimiter of this size.
+/// Puts a delimiter of this size.
 pub fn put_sized(
     builder: &mut Builder,
     size: Size,
@@ -75,7 +75,7 @@ pub fn put_sized(
     put_delimiter(builder, attributes, delimiter)
 }
 
-/// Makes one element of so many.
+/// Makes one element of the top `count` elements.
 pub fn put_row(builder: &mut Builder, count: usize) -> Result<(), AllocError>
     requires { count ≤ length (elements_in builder.old) }
     ensures { OnOk result (elements_in builder.new
@@ -88,7 +88,7 @@ pub fn put_row(builder: &mut Builder, count: usize) -> Result<(), AllocError>
     builder.container(Container::Mrow, Attributes::plain(), count)
 }
 
-/// Puts the uppermost element between delimiters, which stretch if it is high.
+/// Puts the top element between delimiters, which stretch if it is high.
 pub fn enclose(
     builder: &mut Builder,
     high: bool,
@@ -126,7 +126,7 @@ pub fn enclose(
     builder.fence()
 }
 
-/// Makes the dividers among the uppermost elements, which are so many, no higher than a letter.
+/// Makes the dividers among the top `count` elements no higher than a letter.
 pub fn lower_dividers(builder: &mut Builder, count: usize)
     ensures { elements_in builder.new
         ≡ mapped_first Makes.lowered_divider count (elements_in builder.old) }
@@ -136,7 +136,7 @@ pub fn lower_dividers(builder: &mut Builder, count: usize)
     }
 }
 
-/// Makes the element below so many others no higher than a letter, if it is a divider.
+/// Makes the element below the top `depth` elements no higher than a letter, if it is a divider.
 fn lower_divider(builder: &mut Builder, depth: usize)
     ensures { ChangesAt Makes.lowered_divider depth builder.old builder.new }
 {
@@ -153,7 +153,7 @@ fn lower_divider(builder: &mut Builder, depth: usize)
     }
 }
 
-/// Keeps the browser from moving the limits of the operator below so many elements.
+/// Keeps the browser from moving the limits of the operator below the top `depth` elements.
 pub fn fix_limits(builder: &mut Builder, depth: usize)
     ensures { ChangesAt (Makes.fixed_base Meaning.Stacked) depth builder.old builder.new }
 {
@@ -171,7 +171,7 @@ pub fn fix_limits(builder: &mut Builder, depth: usize)
     }
 }
 
-/// In scripts a sign has no space around it.
+/// Removes the space around a sign, if the style is that of scripts.
 fn tighten(builder: &mut Builder, style: Style)
     ensures { ChangesAt (Atoms.tight (style_of style)) 0 builder.old builder.new }
 {
@@ -209,7 +209,7 @@ fn make_prefix(builder: &mut Builder)
     }
 }
 
-/// A sign between two operands, which may be the first of its row.
+/// Makes the top element a sign between two operands, which may be the first of its row.
 fn make_infix(builder: &mut Builder, first: bool)
     ensures { ChangesAt (Atoms.as_infix first) 0 builder.old builder.new }
 {
@@ -224,7 +224,7 @@ fn make_infix(builder: &mut Builder, first: bool)
     }
 }
 
-/// Makes the uppermost element, an operand of its own class, what an atom of another class is made of.
+/// Makes of the top element, an operand of the class `own`, the element of an atom of the class `class`.
 pub fn make_base(builder: &mut Builder, style: Style, class: Class, own: Class)
     ensures elements { ChangesAt
         (Atoms.element_as (style_of style) (class_of class) (class_of own)) 0
@@ -237,7 +237,7 @@ pub fn make_base(builder: &mut Builder, style: Style, class: Class, own: Class)
     }
 }
 
-/// A sign that is all of an atom of this class stands before no operand.
+/// Makes the top element, if it is a sign, one that precedes no operand. It is all of an atom of this class.
 fn free_sign(builder: &mut Builder, style: Style, class: Class)
     ensures { ChangesAt (Atoms.lone_sign (style_of style) (class_of class)) 0
         builder.old builder.new }
@@ -257,7 +257,7 @@ fn free_sign(builder: &mut Builder, style: Style, class: Class)
     }
 }
 
-/// The space around a sign that is all of an atom of this class.
+/// Returns the space around a sign that is all of an atom of this class.
 fn space_as(style: Style, class: Class, space: Option<Space>) -> Option<Space>
     ensures { option_map space_of result
         ≡ Atoms.space_as (style_of style) (class_of class) (option_map space_of space) }
@@ -276,7 +276,7 @@ fn space_as(style: Style, class: Class, space: Option<Space>) -> Option<Space>
     }
 }
 
-/// Makes the uppermost element what its atom is there. A sign may be a prefix, or between two operands, and has no space in
+/// Adapts the top element to the position of its atom. A sign may be a prefix, or between two operands, and has no space in
 /// scripts. The atom may be the first of its row.
 fn adapt(builder: &mut Builder, style: Style, first: bool, before: Before, kind: Kind)
     ensures { ChangesAt
@@ -300,7 +300,7 @@ fn adapt(builder: &mut Builder, style: Style, first: bool, before: Before, kind:
     }
 }
 
-/// A row with an atom after it, whose element is uppermost.
+/// Returns a row with an atom after it, whose element is the top one.
 pub fn with_atom(
     builder: &mut Builder,
     style: Style,
@@ -333,7 +333,7 @@ pub fn with_atom(
     })
 }
 
-/// Makes the uppermost element the last one of a row. Returns how many there are then.
+/// Makes the top element the last one of a row. Returns how many elements the row has then.
 fn put_behind(
     builder: &mut Builder,
     style: Style,
@@ -355,7 +355,7 @@ fn put_behind(
     adapt(builder, style, row.count == 0, row.before, kind);
     if row.before.is_parted(kind) {
         builder.space_below(3)?;
-        // all elements of a row are among those of the builder, so their number has room in a `usize`
+        // all elements of a row are among those of the builder, so their number fits in a `usize`
         let _ = builder.len();
         return Ok(row.count + 2);
     }
@@ -363,15 +363,15 @@ fn put_behind(
     Ok(row.count + 1)
 }
 
-/// Whether an atom of this kind is one word with the last element of a row.
+/// Whether an atom of this kind forms one word with the last element of a row.
 fn continues_word(row: Row, kind: Kind) -> bool
     ensures { result ≡ (row.ends_in_word && Atoms.is_letters (kind_of kind)) }
 {
     row.ends_in_word && kind.is_letters()
 }
 
-/// Joins the uppermost element to the last of so many below it, if there is one and both hold a text. Returns how many there
-/// are then.
+/// Joins the top element to the last of the `count` elements below it, if there is one and both hold a text. Returns how many
+/// there are then.
 fn join_word(builder: &mut Builder, count: usize) -> usize
     requires { count + 1 ≤ length (elements_in builder.old) }
     ensures elements { take result (elements_in builder.new)
@@ -388,7 +388,7 @@ fn join_word(builder: &mut Builder, count: usize) -> usize
     count + 1
 }
 
-/// A mark on the uppermost element.
+/// Puts a mark on the top element.
 pub fn put_accent(
     builder: &mut Builder,
     side: Side,
@@ -407,7 +407,7 @@ pub fn put_accent(
     put_mark(builder, side, mark, stretch, attributes)
 }
 
-/// A brace on the uppermost element.
+/// Puts a brace on the top element.
 pub fn put_brace(builder: &mut Builder, side: Side, mark: char) -> Result<(), AllocError>
     requires { 1 ≤ length (elements_in builder.old) }
     ensures { OnOk result (ReplacesTop (λ x. (Makes.brace (side_of side) mark x).atom.element)
@@ -445,7 +445,7 @@ fn put_mark(
     builder.pair(pair_on(side), attributes, false)
 }
 
-/// Puts an arrow that is as long as what stands above and below it.
+/// Puts an arrow that is as long as what is above and below it.
 pub fn put_arrow(builder: &mut Builder, sign: char) -> Result<(), AllocError>
     ensures { OnOk result (Puts (Makes.arrow_sign sign) builder.old builder.new) }
 {
@@ -456,7 +456,7 @@ pub fn put_arrow(builder: &mut Builder, sign: char) -> Result<(), AllocError>
     builder.character(Token::Mo, attributes, sign)
 }
 
-/// The element below the uppermost one as a mark on it.
+/// Makes the element below the top one a mark on the top one.
 pub fn put_stack(builder: &mut Builder, side: Side) -> Result<(), AllocError>
     requires { 2 ≤ length (elements_in builder.old) }
     ensures { OnOk result (elements_in builder.new
@@ -466,7 +466,7 @@ pub fn put_stack(builder: &mut Builder, side: Side) -> Result<(), AllocError>
     builder.pair(pair_on(side), Attributes::plain(), true)
 }
 
-/// Puts a mark for so many primes.
+/// Puts a mark of `primes` primes.
 pub fn put_primes(builder: &mut Builder, primes: usize) -> Result<(), AllocError>
     ensures { OnOk result (Puts (Makes.prime_mark primes) builder.old builder.new) }
 {
@@ -488,7 +488,7 @@ pub fn put_primes(builder: &mut Builder, primes: usize) -> Result<(), AllocError
     }
 }
 
-/// The element of a mark on this side of its base.
+/// Returns the element for a mark on this side of its base.
 fn pair_on(side: Side) -> Pair
     ensures { (a : attributes.Attributes) (x y : Element)
         → Makes.on_side (side_of side) a x y ≡ pair (pair_of result) a x y }

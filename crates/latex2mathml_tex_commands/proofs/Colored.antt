@@ -1,4 +1,4 @@
--- Which color a name is, and which digits are none.
+-- Which color a name is, and which digits are no color.
 use Rattle.std.proofs.Common.{◌≡◌, ◌≢◌, ◌==◌, ℕ, Bool, true, false, inl, inr, List, [], ◌∷◌, Option, Some, None, length, map, refl, sym, ap, ◌∙◌, arith}
 use Rattle.std.proofs.{lemmas.Bool.cases_Bool, lemmas.Slice.Eq.bytes_eq-Decides}
 use Rattle.std.specs.{Bool.Decides, Char.to_ascii_lowercase}
@@ -68,6 +68,6 @@ of_values : (cs : List ℕ) (found : Option (List ℕ)) → AreAsMany cs found �
 of_values cs None h three six = refl
 of_values cs (Some ds) h three six = other_count ds (λ e. three (sym h ∙ e)) (λ e. six (sym h ∙ e))
 
--- neither three digits nor six are no color
+-- digits are no color unless there are three or six of them
 pub no_color : (cs : List ℕ) → (length cs ≡ 3 → ⊥) → (length cs ≡ 6 → ⊥) → color_of_digits (digit_values cs) ≡ None
 no_color cs three six = of_values cs (digit_values cs) (as_many cs) three six

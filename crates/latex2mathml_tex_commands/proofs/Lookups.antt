@@ -77,7 +77,7 @@ module _ {V : Type 0} where
   InOrder-right [] ys a = a
   InOrder-right (z ∷ xs) ys a = InOrder-right xs ys a.1
 
--- A look-up: what the entry with a name gives, where there is one
+-- A look-up: what the entry with a name gives, if there is one
 
 module _ {V R : Type 0} (gives : List ℕ × V → R) where
   abbrev pub looked_up : Entries V → List ℕ → Option R
@@ -88,24 +88,24 @@ module _ {V R : Type 0} (gives : List ℕ × V → R) where
   none_after name [] h = refl
   none_after name (r ∷ rs) h = rw (greater_apart name r.0 h.0) (none_after name rs h.1)
 
-  -- the entry of a lesser name stands left of x
+  -- the entry with a lesser name is left of x
   stands_left : (name : List ℕ) (xs : Entries V) (x : List ℕ × V) (ys : Entries V) → InOrder (xs ++ x ∷ ys) → slice_cmp nat_cmp name x.0 ≡ Less → looked_up (xs ++ x ∷ ys) name ≡ looked_up xs name
   stands_left name [] x ys a h = none_after name (x ∷ ys) (h, IsBefore-less name x.0 ys h a.0)
   stands_left name (z ∷ xs) x ys a h = rw (stands_left name xs x ys a.1 h)
 
-  -- and that of a greater name right of x
+  -- the entry with a greater name is right of x
   stands_right : (name : List ℕ) (xs : Entries V) (x : List ℕ × V) (ys : Entries V) → InOrder (xs ++ x ∷ ys) → slice_cmp nat_cmp x.0 name ≡ Less → looked_up (xs ++ x ∷ ys) name ≡ looked_up ys name
   stands_right name [] x ys a h = rw (less_apart x.0 name h)
   stands_right name (z ∷ xs) x ys a h =
       rw (less_apart z.0 name (nat_list_cmp_total.trans z.0 x.0 name (IsBefore-middle z.0 xs x ys a.0) h)) (stands_right name xs x ys a.1 h)
 
-  -- and that of the same name is x
+  -- the entry with the same name is x
   stands_here : (name : List ℕ) (xs : Entries V) (x : List ℕ × V) (ys : Entries V) → InOrder (xs ++ x ∷ ys) → x.0 ≡ name → looked_up (xs ++ x ∷ ys) name ≡ Some (gives x)
   stands_here name [] x ys a e = rw ((bytes_eq-Decides x.0 name).1 e)
   stands_here name (z ∷ xs) x ys a e =
       rw (less_apart z.0 name (subst (λ n. slice_cmp nat_cmp z.0 n ≡ Less) e (IsBefore-middle z.0 xs x ys a.0))) (stands_here name xs x ys a.1 e)
 
--- A search by halving, where the entries stand so in the code
+-- A search by halving, among entries as the code has them
 
 nonempty : {E : Type 0} (entries : List E) → (length entries == 0) ≡ false → 0 < length entries
 nonempty entries h = grind (arith, nat_tests)
@@ -137,7 +137,7 @@ module _ {V R E : Type 0} (gives : List ℕ × V → R) (entry_of : E → List �
         few = simp length-take (omega (arith, inv.few));
       })
 
-  -- and the right half if it is greater
+  -- the right half remains if the name is greater than the middle entry's
   pub kept_right : (table entries others : List E) (name : List ℕ) (d : E) (o : Ordering) → Narrowed table entries name → (length entries == 0) ≡ false → o ≡ slice_cmp nat_cmp name (entry_of (get_or entries (length entries / 2) d)).0 → o ≡ Greater → others ≡ drop (length entries / 2 + 1) entries → Narrowed table others name
   kept_right table entries others name d o inv h cmp is e =
       let some : 0 < length entries = nonempty entries h in

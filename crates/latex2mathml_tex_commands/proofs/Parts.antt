@@ -1,4 +1,4 @@
--- The parts of the command table are sorted, and a look-up in the part of a name is one in the table.
+-- The parts of the command table are sorted, and looking up a name in its part is looking it up in the table.
 use Rattle.std.proofs.Common.{◌≡◌, ℕ, ◌<◌, Bool, true, false, ◌==◌, nat_lt, List, [], ◌∷◌, map, length, inl, inr, refl, sym, ap, subst, ◌∙◌, arith}
 use Rattle.std.specs.{List.filter, Str.byte, Str.bytes_eq}
 use Rattle.std.proofs.{lemmas.Bool.cases_Bool, lemmas.Bool.Decides.nat_tests, lemmas.List.length-map, lemmas.Slice.Eq.bytes_eq-Decides}
@@ -20,7 +20,7 @@ by_part P a b c d (x ∷ name) = elim (cases_Bool (nat_lt x (byte "c"))) [
   ]
 ]
 
--- each is sorted, and has few entries
+-- each part is sorted, and has few entries
 
 sorted_0 : ascending (entries_in 0) ≡ true
 unfolding ascending entries_in command_entries commands_up_to_l commands_from_m

@@ -59,19 +59,19 @@ IsBefore-middle : (a : ℕ) (xs : Entries) (x : ℕ × Symbol) (ys : Entries) �
 IsBefore-middle a [] x ys h = h.0
 IsBefore-middle a (z ∷ xs) x ys h = IsBefore-middle a xs x ys h.1
 
--- the entry of a lesser character stands left of x
+-- the entry with a lesser character is left of x
 stands_left : (c : ℕ) (xs : Entries) (x : ℕ × Symbol) (ys : Entries) → InOrder (xs ++ x ∷ ys) → c < x.0 → entry_symbol (xs ++ x ∷ ys) c ≡ entry_symbol xs c
 stands_left c [] x ys a h = none_after c (x ∷ ys) (h, IsBefore-less c x.0 ys h a.0)
 stands_left c (z ∷ xs) x ys a h = rw (stands_left c xs x ys a.1 h)
 
--- and that of a greater character right of x
+-- the entry with a greater character is right of x
 stands_right : (c : ℕ) (xs : Entries) (x : ℕ × Symbol) (ys : Entries) → InOrder (xs ++ x ∷ ys) → x.0 < c → entry_symbol (xs ++ x ∷ ys) c ≡ entry_symbol ys c
 stands_right c [] x ys a h = rw (less_apart x.0 c h)
 stands_right c (z ∷ xs) x ys a h =
     let before : z.0 < x.0 = IsBefore-middle z.0 xs x ys a.0 in
     rw (less_apart z.0 c (omega arith)) (stands_right c xs x ys a.1 h)
 
--- and that of the same character is x
+-- the entry with the same character is x
 stands_here : (c : ℕ) (xs : Entries) (x : ℕ × Symbol) (ys : Entries) → InOrder (xs ++ x ∷ ys) → x.0 ≡ c → entry_symbol (xs ++ x ∷ ys) c ≡ Some x.1
 stands_here c [] x ys a e = rw (same x.0 c e)
 stands_here c (z ∷ xs) x ys a e =
@@ -109,7 +109,7 @@ middle entries h =
     let some : 0 < length entries = grind (arith, nat_tests) in
     omega arith
 
--- the entries left of a place remain if the character is less than the entry's there
+-- the entries left of an index remain if the character is less than that of the entry there
 pub kept_left : (table entries others : List SignEntry) (c m : ℕ) (d : SignEntry) → Narrowed table entries c → m < length entries → c < (get_or entries m d).character → others ≡ take m entries → Narrowed table others c
 kept_left table entries others c m d inv h less e =
     let split = split_entries entries m d h in
@@ -120,7 +120,7 @@ kept_left table entries others c m d inv h less e =
       few = simp length-take (omega (arith, inv.few));
     })
 
--- and those right of it if it is greater
+-- the entries right of an index remain if the character is greater than that of the entry there
 pub kept_right : (table entries others : List SignEntry) (c m : ℕ) (d : SignEntry) → Narrowed table entries c → m < length entries → (get_or entries m d).character < c → others ≡ drop (m + 1) entries → Narrowed table others c
 kept_right table entries others c m d inv h greater e =
     let split = split_entries entries m d h in
@@ -132,7 +132,7 @@ kept_right table entries others c m d inv h greater e =
       few = simp length-drop (omega (arith, inv.few));
     })
 
--- the entry there is the result if the characters are equal
+-- the entry at an index is the result if the characters are equal
 pub found : (table entries : List SignEntry) (c m : ℕ) (d : SignEntry) → Narrowed table entries c → m < length entries → (get_or entries m d).character ≡ c → entry_symbol (map entry_of table) c ≡ Some (entry_of (get_or entries m d)).1
 found table entries c m d inv h equal =
     let split = split_entries entries m d h in

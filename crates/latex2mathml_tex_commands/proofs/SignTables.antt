@@ -19,7 +19,7 @@ few entries e =
     let same : length (map entry_of entries) ≡ length entries = simp length-map in
     omega (arith, same, ap length e, length-sign_entries)
 
--- what a look-up says of the symbol that it returned
+-- what a look-up says about the symbol that it returned
 abbrev pub IsAnswer : ℕ → Option Symbol → Type 0
 IsAnswer c result = MatchOption result (symbol_of c ≡ None) (λ symbol. symbol_of c ≡ Some (meanings.symbol_of symbol))
 

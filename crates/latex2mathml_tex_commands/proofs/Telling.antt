@@ -2,7 +2,7 @@
 use Rattle.std.proofs.Common.{◌≡◌, ◌∙◌, ℕ, ◌+◌, ◌<◌, ◌≤◌, List, [], ◌∷◌, drop, get_or, length, suc, zero, refl, sym, ap, arith}
 use Rattle.latex2mathml_tex_grammar.specs.Lengths.{Length, length_of, with_all, with_character}
 
--- the one that stands at a place, and those behind it
+-- the character at an index, and those after it
 parted : (i : ℕ) (cs : List ℕ) → i < length cs → drop i cs ≡ get_or cs i 0 ∷ drop (suc i) cs
 parted i [] h = absurd (omega (arith, h))
 parted zero (c ∷ cs) h = refl

@@ -13,11 +13,11 @@ blocks_of b = record {
   elsewhere = b.elsewhere.now;
 }
 
--- the block stands above the surrogates, so what is near its first is a character
+-- the block is above the surrogates, so what is near its first is a character
 abbrev pub IsHigh : ℕ → Type 0
 IsHigh block = (0x1_0000 ≤ block) × (block < 0x2_0000)
 
--- each block of an alphabet does
+-- each block of an alphabet is above the surrogates
 pub record AreHigh (b : defined.Blocks) : Type 0 where
   pub capital : IsHigh b.capital
   pub small : IsHigh b.small

@@ -3,7 +3,7 @@ use Rattle.std.specs.Prelude.{ℕ, ◌==◌, nat_lt, List, [], ◌∷◌, if◌t
 use Rattle.std.specs.{List.filter, Str.byte}
 use Rattle.latex2mathml_tex_grammar.specs.{Commands.command_entries, Meaning.Meaning}
 
--- the number of this part
+-- the number of the part in which a name is looked up
 abbrev pub part_of : List ℕ → ℕ
 part_of [] = 0
 part_of (c ∷ name) = if nat_lt c (byte "c") then 0 else if nat_lt c (byte "m") then 1 else if nat_lt c (byte "r") then 2 else 3

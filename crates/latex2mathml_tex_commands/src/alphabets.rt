@@ -6,7 +6,7 @@ ghost use Rattle.latex2mathml_tex_commands.specs.{Alphabets.AreHigh, Alphabets.I
 
 use crate::meaning::Alphabet;
 
-/// Where an alphabet stands: its first capital, small letter, digit, Greek capital and Greek small letter, where it has
+/// Where an alphabet is in Unicode: its first capital, small letter, digit, Greek capital and Greek small letter, if it has
 /// them.
 #[derive(Clone, Copy)]
 struct Blocks {
@@ -15,11 +15,11 @@ struct Blocks {
     digit: Option<char>,
     greek_capital: Option<char>,
     greek_small: Option<char>,
-    /// The letters that stand elsewhere, each with its place.
+    /// The letters whose characters are elsewhere, each with its character.
     elsewhere: &'static [(char, char)],
 }
 
-/// The character that stands for this one in the alphabet. One that the alphabet has not is left as it is.
+/// Returns the character that represents this one in the alphabet. One that the alphabet does not have is left as it is.
 pub fn in_alphabet(alphabet: Alphabet, c: char) -> char
     ensures { result ≡ in_alphabet (alphabet_of alphabet) c }
 {
@@ -32,7 +32,7 @@ pub fn in_alphabet(alphabet: Alphabet, c: char) -> char
     }
 }
 
-/// The place of this letter, if it stands elsewhere.
+/// Returns the character for this letter, if it is elsewhere.
 fn looked_up(elsewhere: &[(char, char)], c: char) -> Option<char>
     ensures { (other : ℕ) → looked_up elsewhere.now c other ≡ unwrap_or result other }
 {
@@ -44,7 +44,7 @@ fn looked_up(elsewhere: &[(char, char)], c: char) -> Option<char>
     None
 }
 
-/// The character of these blocks.
+/// Returns the character that represents this one in these blocks.
 fn in_blocks(blocks: &Blocks, c: char) -> char
     requires { AreHigh (blocks_of blocks.now) }
     ensures { result ≡ in_blocks (blocks_of blocks.now) c }
@@ -60,7 +60,7 @@ fn in_blocks(blocks: &Blocks, c: char) -> char
     }
 }
 
-/// The character that stands in a block as far from its first as `c` does from this one; `c`, where there is no block.
+/// Returns the character that is as far from the first one of a block as `c` is from `first`, or `c` if there is no block.
 fn moved(first: char, block: Option<char>, c: char) -> char
     requires behind { first ≤ c }
     requires near { c < first + 26 }
@@ -76,7 +76,7 @@ fn moved(first: char, block: Option<char>, c: char) -> char
     }
 }
 
-/// The blocks of an alphabet; none, where its letters are the common ones.
+/// Returns the blocks of an alphabet, or none if its letters are the common ones.
 fn blocks_for(alphabet: Alphabet) -> Option<Blocks>
     ensures same { option_map blocks_of result ≡ blocks (alphabet_of alphabet) }
     ensures high { IfSome result (λ b. AreHigh (blocks_of b)) }

@@ -7,7 +7,7 @@ ghost use Rattle.latex2mathml_tex_commands.specs.Colors.{entry_of};
 
 use latex2mathml_attributes::around::Color;
 
-/// The name of a color, and how much it has of red, green and blue.
+/// The name of a color, and its red, green and blue components.
 #[derive(Clone, Copy)]
 struct Named {
     name: &'static str,
@@ -16,7 +16,7 @@ struct Named {
     blue: u8,
 }
 
-/// The entries.
+/// Returns the entries.
 #[tactic(auto, unfolding(latex2mathml_tex_grammar::specs::Colors::color_entries))]
 fn entries() -> &'static [Named]
     ensures { map entry_of result.now ≡ color_entries }
@@ -177,7 +177,7 @@ static ENTRIES: [Named; 148] = [
     Named { name: "yellowgreen", red: 0x9A, green: 0xCD, blue: 0x32 },
 ];
 
-/// The color of the entry with this name, in letters of either case, if there is one.
+/// Returns the color of the entry with this name, in letters of either case, if there is one.
 fn find(table: &[Named], name: &str) -> Option<Color>
     ensures { option_map color_of result ≡ entry_color (map entry_of table.now) name.now }
 {
@@ -193,7 +193,7 @@ fn find(table: &[Named], name: &str) -> Option<Color>
     None
 }
 
-/// The color that a text names, if it names one.
+/// Returns the color that a text names, if it names one.
 pub fn color_of(name: &str) -> Option<Color>
     ensures { option_map color_of result ≡ Colors.color_of name.now }
 {
@@ -203,7 +203,7 @@ pub fn color_of(name: &str) -> Option<Color>
     }
 }
 
-/// The color of so many digits in hexadecimal, if these are such digits.
+/// Returns the color of three or six hexadecimal digits, if these are such digits.
 fn color_of_digits(digits: &[u8]) -> Option<Color>
     ensures { option_map color_of result ≡ color_of_digits (digit_values digits.now) }
 {
@@ -222,7 +222,7 @@ fn color_of_digits(digits: &[u8]) -> Option<Color>
     }
 }
 
-/// What a digit in hexadecimal counts.
+/// Returns the value of a hexadecimal digit.
 fn digit_value(digit: u8) -> Option<u8>
     ensures value { result ≡ digit_value digit }
     ensures small { MatchOption result (digit_value digit ≡ None) (λ value. value < 16) }

@@ -13,7 +13,7 @@ mod up_to_b;
 use crate::meaning::{Entry, Meaning};
 use std::cmp::Ordering;
 
-/// What the command of this name means, if there is one.
+/// Returns what the command with this name means, if there is one.
 pub fn look_up(name: &str) -> Option<Meaning>
     ensures { MatchOption result (meaning_of name.now ≡ None)
         (λ meaning. meaning_of name.now ≡ Some (Meanings.meaning_of meaning)) }
@@ -21,7 +21,7 @@ pub fn look_up(name: &str) -> Option<Meaning>
     search(part_for(name), name)
 }
 
-/// The part of the table in which this name is looked up.
+/// Returns the part of the table in which this name is looked up.
 fn part_for(name: &str) -> &'static [Entry]
     ensures { map entry_of result.now ≡ entries_in (part_of name.now) }
 {
@@ -33,7 +33,7 @@ fn part_for(name: &str) -> &'static [Entry]
     }
 }
 
-/// What the entry with this name means, if there is one among sorted entries. Each comparison halves the entries that are
+/// Returns what the entry with this name means, if the sorted entries have one. Each comparison halves the entries that are
 /// left.
 fn search(table: &[Entry], name: &str) -> Option<Meaning>
     requires ordered { IsTrue (ascending (map entry_of table.now)) }
@@ -55,7 +55,7 @@ fn search(table: &[Entry], name: &str) -> Option<Meaning>
     None
 }
 
-/// How two names are ordered. Most of them differ in their first bytes, which are compared first.
+/// Returns how two names are ordered. Most names differ in their first bytes, which are compared first.
 #[inline(always)]
 pub fn order(name: &str, other: &str) -> Ordering
     ensures { result ≡ slice_cmp nat_cmp name.now other.now }

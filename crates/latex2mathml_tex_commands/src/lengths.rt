@@ -3,7 +3,7 @@ ghost use Rattle.std.specs.Prelude.{◌≡◌, ℕ, ◌<◌, ◌≤◌, MatchOpt
 ghost use Rattle.latex2mathml_tex_grammar.specs.Lengths;
 ghost use Rattle.latex2mathml_tex_commands.specs.Lengths.{IsSmall, length_in};
 
-/// A number of more digits is this one.
+/// A number with more digits counts as this one.
 const MOST_DIGITS: u64 = 100_000_000_000;
 
 const MOST_SCALE: u64 = 1_000_000;
@@ -17,7 +17,7 @@ struct Length {
     is_negative: bool,
     /// Its digits.
     number: u64,
-    /// Ten for each digit behind the point.
+    /// A factor of ten for each digit after the point, up to `MOST_SCALE`.
     scale: u64,
     is_behind_point: bool,
     /// The two letters of its unit.
@@ -25,7 +25,7 @@ struct Length {
     last: u8,
 }
 
-/// The thousandths of an em in a length that is written so, unless it is too large.
+/// Returns the length that this text gives, in thousandths of an em, unless it is too large.
 pub fn width_of(text: &str) -> Option<i32>
     ensures { MatchOption result (Lengths.width_of text.now ≡ None)
         (λ width. Lengths.width_of text.now ≡ Some width) }
@@ -43,7 +43,7 @@ fn at_most(most: u64, number: u64) -> u64
     if number > most { most } else { number }
 }
 
-/// A fraction, rounded to the nearest.
+/// Returns a fraction, rounded to the nearest integer.
 fn rounded(a: u64, b: u64) -> u64
     requires some { 0 < b }
     requires few { (a < 1000000000000000000) }
@@ -97,7 +97,7 @@ impl Length {
         }
     }
 
-    /// The scale behind one more digit.
+    /// Returns the scale after one more digit.
     fn scaled(self) -> u64
         requires { IsSmall self }
         ensures value { result ≡ Lengths.scaled self.is_behind_point self.scale }
@@ -111,7 +111,7 @@ impl Length {
         }
     }
 
-    /// Its thousandths of an em, without the sign.
+    /// Returns the length in thousandths of an em, without its sign.
     fn thousandths(self) -> u64
         requires { IsSmall self }
         ensures { result ≡ Lengths.thousandths_of self.first self.last self.number self.scale }
@@ -134,7 +134,7 @@ impl Length {
         }
     }
 
-    /// Its thousandths of an em, unless they are too many.
+    /// Returns the length in thousandths of an em, unless they are too many.
     fn width(self) -> Option<i32>
         requires { IsSmall self }
         ensures { MatchOption result (Lengths.width_in (length_in self) ≡ None)

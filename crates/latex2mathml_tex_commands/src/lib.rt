@@ -1,6 +1,6 @@
 //! The tables of LaTeX as authors write it: what commands, signs, colors and lengths mean, and the letters of alphabets.
 //!
-//! The crate `latex2mathml_tex_units` has what else comes before the parser.
+//! The crate `latex2mathml_tex_units` has everything else that comes before the parser.
 #![tactic(auto)]
 
 pub mod alphabets;

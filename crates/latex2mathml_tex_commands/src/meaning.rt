@@ -30,7 +30,7 @@ pub enum Style {
 }
 
 impl Style {
-    /// The style of the parts of a fraction.
+    /// Returns the style of the parts of a fraction.
     pub fn smaller(self) -> Style
         ensures { style_of result ≡ smaller (style_of self) }
     {
@@ -46,7 +46,7 @@ impl Style {
         matches!(self, Style::InDisplay)
     }
 
-    /// What an element of this style says.
+    /// Returns the math style of an element of this style.
     pub fn math_style(self) -> MathStyle
         ensures { math_style_of result ≡ Makes.math_style (style_of self) }
     {
@@ -57,7 +57,7 @@ impl Style {
         }
     }
 
-    /// Whether scripts stand below and above an atom whose limits are to stand there.
+    /// Whether scripts are below and above an atom whose limits have this place.
     pub fn stacks(self, limits: LimitPlace) -> bool
         ensures { result ≡ Makes.are_stacked (style_of self) (limit_place_of limits) }
     {
@@ -94,11 +94,11 @@ pub enum Symbol {
     Sign(Class, char),
     /// An operator whose limits the browser moves.
     BigOperator(char),
-    /// An operator whose limits stand beside it.
+    /// An operator whose limits are next to it.
     Integral(char),
 }
 
-/// Whether a fraction has its bar, or has none: then parentheses, braces, brackets or nothing stand around it.
+/// Whether a fraction has its bar, or has none and is surrounded by parentheses, braces, brackets or nothing.
 #[derive(Clone, Copy)]
 pub enum FractionRule {
     Bar,
@@ -108,13 +108,13 @@ pub enum FractionRule {
     Bare,
 }
 
-/// Where the limits of an operator stand.
+/// Where the limits of an operator are.
 #[derive(Clone, Copy)]
 pub enum LimitPlace {
     Beside,
-    /// In display style above and below it, else beside it.
+    /// In display style above and below it, otherwise next to it.
     ByStyle,
-    /// Above and below it, where the browser moves them beside it in text.
+    /// Above and below it; in text, the browser moves them next to it.
     Movable,
     /// Always above and below it.
     Stacked,
@@ -125,46 +125,46 @@ pub enum LimitPlace {
 pub enum Change {
     /// Letters and digits are in an alphabet.
     ToAlphabet(Alphabet),
-    /// All is in a style.
+    /// Everything is in a style.
     ToStyle(Style),
-    /// All is the lower part of a fraction, and what stands before it the upper one.
+    /// Everything is the lower part of a fraction, and what precedes it is the upper one.
     Divides(FractionRule),
-    /// All is in the color that stands next.
+    /// Everything is in the color that comes next.
     ToColor,
 }
 
-/// What is made of the box of an operand.
+/// What is done to the box of an operand.
 #[derive(Clone, Copy)]
 pub enum OperandBox {
-    /// It is not seen.
+    /// It is invisible.
     Phantom,
-    /// Nor has its box a height or a depth.
+    /// It is invisible, and its box has no height and no depth.
     PhantomWidth,
-    /// Nor has its box a width.
+    /// It is invisible, and its box has no width.
     PhantomHeight,
     /// It has no height and no depth.
     Smashed,
     WithoutHeight,
     WithoutDepth,
-    /// It has no width, and reaches over what stands to the right of it.
+    /// It has no width, and reaches over what is to the right of it.
     OverRight,
-    /// To the left of it.
+    /// It has no width, and reaches over what is to the left of it.
     OverLeft,
-    /// On both sides of it.
+    /// It has no width, and reaches over what is on both sides of it.
     OverBoth,
-    /// A line stands around it.
+    /// A line surrounds it.
     Frame,
     /// A line goes through it, from its lower left.
     StrikeUp,
-    /// From its upper left.
+    /// A line goes through it, from its upper left.
     StrikeDown,
-    /// Both.
+    /// Both lines go through it.
     StrikeTwice,
-    /// It stands so many thousandths of an em above its place.
+    /// It is raised by this many thousandths of an em.
     Raised(i32),
     /// It is in this color.
     Colored(Color),
-    /// It lies on this color.
+    /// It is on a background of this color.
     OnColor(Color),
 }
 
@@ -179,23 +179,23 @@ pub enum Meaning {
     Dots,
     /// A space, in eighteenths of an em.
     Spacing(i8),
-    /// A space as wide as the length that stands next.
+    /// A space as wide as the length that comes next.
     Skip,
-    /// A space as wide as the length that stands next in braces.
+    /// A space as wide as the length that comes next in braces.
     SkipInBraces,
     /// Its operand in a box.
     Boxed(OperandBox),
     /// Its operand in a box without height or depth.
     Smash,
-    /// Its operand, raised by the length that stands next in braces.
+    /// Its operand, raised by the length that comes next in braces.
     Raise,
-    /// Its operand in the color that stands next.
+    /// Its operand in the color that comes next.
     InColor,
-    /// Its operand on the color that stands next.
+    /// Its operand on a background of the color that comes next.
     Highlight,
     /// A black rectangle of two lengths in braces. A length in brackets before them raises it.
     Rectangle,
-    /// An arrow that is as long as what stands above it, and below it in brackets.
+    /// An arrow that is as long as what is above it, and what is below it in brackets.
     Arrow(char),
     /// Its operand in an alphabet.
     Styled(Alphabet),
@@ -205,7 +205,7 @@ pub enum Meaning {
     Fraction(FractionRule, Option<Style>),
     /// A fraction in the style of a block, whose numerator may be pushed to a side.
     ContinuedFraction,
-    /// A fraction whose delimiters, line and style its author says.
+    /// A fraction whose delimiters, line and style its author specifies.
     GeneralFraction,
     Root,
     /// A mark on one operand.
@@ -214,7 +214,7 @@ pub enum Meaning {
     Brace(Side, char),
     /// A first operand above or below the second.
     Stack(Side),
-    /// A first operand above the second, which both are a relation.
+    /// A first operand above the second, which together are a relation.
     StackedRelation,
     OperatorName,
     /// A stroke through the relation that follows.
@@ -230,10 +230,11 @@ pub enum Meaning {
     NoLimits,
     /// Its operand as an atom of this class.
     Classed(Class),
-    /// A change of what stands after it in its group.
+    /// A change of what follows it in its group.
     Changes(Change),
-    /// A table, and its end.
+    /// The beginning of a table.
     BeginTable,
+    /// The end of a table.
     EndTable,
     /// What ends a row of a table.
     LineBreak,

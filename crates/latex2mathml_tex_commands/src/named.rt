@@ -10,7 +10,7 @@ pub struct Named {
     pub character: char,
 }
 
-/// The character of this name, if there is one among the entries.
+/// Returns the character with this name, if the entries have one.
 pub fn find(table: &[Named], name: &str) -> Option<char>
     ensures { result ≡ entry_of_name (map named_entry table.now) name.now }
 {

@@ -16,7 +16,7 @@ pub struct SignEntry {
     pub symbol: Symbol,
 }
 
-/// What this character is, if it is a sign, or a letter that is not ASCII.
+/// Returns what this character is, if it is a sign, or a letter that is not ASCII.
 pub fn symbol_of(c: char) -> Option<Symbol>
     ensures { MatchOption result (symbol_of c ≡ None)
         (λ symbol. symbol_of c ≡ Some (Meanings.symbol_of symbol)) }
@@ -27,7 +27,7 @@ pub fn symbol_of(c: char) -> Option<Symbol>
     }
 }
 
-/// The symbol of the entry with this character, if there is one among sorted entries. Each comparison halves the entries
+/// Returns the symbol of the entry with this character, if the sorted entries have one. Each comparison halves the entries
 /// that are left.
 fn search(table: &[SignEntry], c: char) -> Option<Symbol>
     requires ordered { IsTrue (ascending_numbers (map entry_of table.now)) }

@@ -5,14 +5,14 @@ ghost use Rattle.latex2mathml_tex_commands.specs.Named.{named_entry};
 
 use crate::named::{Named, find};
 
-/// The character that a command is in words, if it is one.
+/// Returns the character that a command is in words, if it is one.
 pub fn text_character(name: &str) -> Option<char>
     ensures { result ≡ entry_of_name text_commands name.now }
 {
     find(text_commands(), name)
 }
 
-/// These commands, in the order of their names' bytes.
+/// Returns these commands, in the order of their names' bytes.
 #[tactic(auto, unfolding(latex2mathml_tex_grammar::specs::TextCommands::text_commands))]
 fn text_commands() -> &'static [Named]
     ensures { map named_entry result.now ≡ text_commands }

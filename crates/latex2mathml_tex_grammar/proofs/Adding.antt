@@ -1,4 +1,4 @@
--- What expansion adds to units: nothing but what stands in them and in macros.
+-- What expansion adds to units: nothing but what is in them and in macros.
 use Rattle.std.proofs.Common.{ℕ, zero, suc, ◌+◌, ◌≡◌, Bool, true, false, List, [], ◌∷◌, ◌++◌, length, codes, Option, Some, None, refl, subst}
 use Rattle.std.specs.Prelude.{IsTrue, ⊤, nat_lt, if◌then◌else◌}
 use Rattle.std.specs.Str.{byte, bytes_eq}
@@ -20,7 +20,7 @@ module _ (P : Piece → Type 0) where
   EachList [] = ⊤
   EachList (us ∷ lists) = EachOf us × EachList lists
 
-  -- what is read passes, and what is left
+  -- what is read passes, and so does what is left
   abbrev pub Passes : {A : Type 0} → (A → Type 0) → Outcome A → Type 0
   Passes Q (Read x l) = Q x × EachPiece P l
   Passes Q (Refused r) = ⊤

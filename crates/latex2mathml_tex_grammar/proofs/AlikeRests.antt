@@ -30,7 +30,7 @@ rests_alike (ToStyle style) c row p q calm h = both_go_on h
 rests_alike ToColor c row p q calm h = behind_name_alike c row p q (scan_alike p q calm h (BeforeArgument ColorName))
 rests_alike (Divides rule) c row p q calm h = below_alike rule c row p q row.under h
 
--- so what follows the one follows the other
+-- so what follows one change follows the other
 
 goes_on_there : {at : Standing} {x y : Rest} {c : Context} {row : Row} {l : Units} → RestsAlike at x y → x ≡ GoesOnIn c row l → (m : Units) × AreAlike at l m × (y ≡ GoesOnIn c row m)
 goes_on_there {at = at} {c = c} {row = row} {l = l} (both_go_on {c = d} {row = xs} {l = k} {m = m} h) e =

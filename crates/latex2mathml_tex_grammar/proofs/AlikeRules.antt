@@ -1,4 +1,4 @@
--- The rules of a piece at two places are alike: they differ in places alone, of refusals too.
+-- The rules of a piece at two places are alike: they differ only in places, also in those of refusals.
 use Rattle.std.proofs.Common.{◌≡◌, ◌==◌, ℕ, ℤ, Bool, nat_le, length, true, false, List, inl, inr, [], ◌∷◌, ◌++◌, Option, Some, None, codes, refl, sym, subst, if◌then◌else◌}
 use Rattle.std.proofs.lemmas.Bool.{cases_Bool}
 use Rattle.std.specs.{Char.is_ascii_alphabetic, Char.is_ascii_digit, Str.byte, Str.bytes_eq}
@@ -70,7 +70,7 @@ never_ended_too (both_cells ByName) h = (_, rw (sym (same_some h)) refl, refl)
 never_ended_too (both_cells ByBrace) h = (_, rw (sym (same_some h)) refl, refl)
 never_ended_too (both_cells ByText) h = cc
 
--- where atoms stand that have this ending, which itself stands here
+-- where atoms with this ending are, where the whole of them is here
 abbrev pub inside : Ending → Standing → Standing
 inside WholeText at = at
 inside (InBraces place) at = at
@@ -139,7 +139,7 @@ dollar_ends at Open h = cc
 dollar_ends at Close h = cc
 dollar_ends at (Command name) h = cc
 
--- behind the ending units stand as before what it ends
+-- after the ending, units are where they were before what it ends
 pub ended_behind : {at : Standing} (e : Ending) (piece : Piece) → ends e piece ≡ true → IsCalm (inside e at) → standing_behind piece (inside e at) ≡ at
 ended_behind WholeText piece h calm = cc
 ended_behind {at} (InBraces place) piece h calm = close_ends piece h at calm
@@ -148,7 +148,7 @@ ended_behind {at} (InDollars place) piece h calm = dollar_ends at piece h
 ended_behind {at} (InDelimiters place) piece h calm = right_ends piece h at calm
 ended_behind {at} (InCell end place) piece h calm = cell_ends end place piece h at calm
 
--- so units that are left behind atoms are alike
+-- so the units that are left after atoms are alike
 pub left_too : {e f : Ending} {l m : Units} (at : Standing) → AlikeEndings e f → (u v : Unit) → u.piece ≡ v.piece → ends e u.piece ≡ true → IsCalm (inside e at) → AreAlike (standing_behind u.piece (inside e at)) l m → AreAlike at (left_behind e u l) (left_behind f v m)
 left_too {e} {l = l} {m = m} at both_whole u v same s calm i = subst (λ k. AreAlike k l m) (ended_behind e u.piece s calm) i
 left_too {e} {l = l} {m = m} at both_braces u v same s calm i = subst (λ k. AreAlike k l m) (ended_behind e u.piece s calm) i
@@ -159,13 +159,13 @@ left_too at (both_cells end) u v same s calm i = same_piece same i
 
 -- Rules
 
--- where words are read, and where the units behind them stand
+-- where words are read, and where the units after them are
 pub data WordsStand : Standing → Standing → Type 0 where
   before_words : {at : Standing} → WordsStand (BeforeWords at) at
   within_words : {at : Standing} → WordsStand (InWords at) (InWords at)
 
--- two rules that are the same but for places, read where units stand that is the index, where what is behind all that
--- they read stands at the parameter
+-- two rules that are the same but for places: the index is where the units that they read are, and the parameter is where
+-- the units after all that they read are
 pub data AlikeRules (at : Standing) : Standing → Rule → Rule → Type 0 where
   gives_too : {x : Core} → AlikeRules at at (gives x) (gives x)
   refuses_too : {before : Standing} {r q : Refusal} → r.kind ≡ q.kind → AlikeRules at before (refuses r) (refuses q)
@@ -270,7 +270,7 @@ bar_too p q raise = length_too p q BeforeLengthInBraces (λ width. length_too p 
 color_too : {at : Standing} (p q : ℕ) {f g : Color → Rule} → ((color : Color) → AlikeRules at at (f color) (g color)) → AlikeRules at at (a_color p f) (a_color q g)
 color_too p q h = scanned_too (λ name. with_value_too _ _ refl h (color_of name))
 
--- fractions whose outline is said
+-- fractions whose outline is given
 
 left_brace_plain : ArePlain a_left_brace
 left_brace_plain Open found e = open_plain
@@ -302,7 +302,7 @@ style_too p q h = scanned_too (λ number. with_value_too _ _ refl h (numbered_st
 outlined_too : {at : Standing} (p q : ℕ) (c : Context) (o : Outline) → AlikeRules at at (an_outlined_fraction p c o) (an_outlined_fraction q c o)
 outlined_too p q c o = two_too
 
--- a command that takes no words leaves it as it is where units stand
+-- a command that takes no words does not change where units are
 as_is : {at : Standing} {r s : Rule} → IsCalm at → AlikeRules at at r s → AlikeRules at (behind_unit at) r s
 as_is in_formula h = h
 as_is in_dollars h = h

@@ -27,7 +27,7 @@ AreAllowedUnits = EachPiece IsAllowedPiece
 abbrev pub AreAllowedElements : List Element → Type 0
 AreAllowedElements = AllByRecursion HasAllowedTexts
 
--- where there is one
+-- the element is allowed, where there is one
 abbrev pub IsAllowedElement : Option Element → Type 0
 IsAllowedElement None = ⊤
 IsAllowedElement (Some x) = HasAllowedTexts x
@@ -44,7 +44,7 @@ IsAllowedOperand x = HasAllowedTexts x.element
 abbrev pub IsAllowedRow : Row → Type 0
 IsAllowedRow row = AreAllowedElements row.elements
 
--- a row that is still read: also what was put aside for it
+-- a row that is still being read: this includes what was put aside for it
 
 abbrev pub IsAllowedBefore : Option Restyled → Type 0
 IsAllowedBefore None = ⊤
@@ -77,7 +77,7 @@ IsAllowedWord (Shown text) = IsAllowed text
 IsAllowedWord (Formula x) = HasAllowedTexts x
 IsAllowedWord Nothing = ⊤
 
--- what comes to something that is allowed, with units that are, or is refused
+-- the outcome is something that is allowed, with units that are allowed, or it is a refusal
 abbrev pub IsAllowedOutcome : {A : Type 0} → (A → Type 0) → Outcome A → Type 0
 IsAllowedOutcome P (Read x l) = P x × AreAllowedUnits l
 IsAllowedOutcome P (Refused r) = ⊤
@@ -94,7 +94,7 @@ abbrev pub IsAllowedWordRule : WordRule → Type 0
 IsAllowedWordRule (IsWord w) = IsAllowedWord w
 IsAllowedWordRule r = ⊤
 
--- the text is what units give that pass these tests
+-- the text is what units that pass these tests give
 abbrev pub AreGiven : List (Piece → Option (List ℕ)) → List ℕ → Type 0
 AreGiven [] text = text ≡ []
 AreGiven (test ∷ tests) text =

@@ -51,7 +51,7 @@ pub number_allowed : (alphabet : Option Alphabet) (digits : List ℕ) → IsPlai
 number_allowed None digits h = allowed_plain digits h
 number_allowed (Some alphabet) digits h = (map (in_alphabet alphabet) digits, refl, digits_pass alphabet digits h)
 
--- Elements side by side
+-- Elements next to each other
 
 children_allowed : (xs : List Element) → AreAllowedElements xs → EachTextOf IsAllowed (children xs)
 children_allowed [] h = tt

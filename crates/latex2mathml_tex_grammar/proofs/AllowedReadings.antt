@@ -146,7 +146,7 @@ mutual
   word_lists (word_read s d ds) h k = (let read = words d h k in word_lists ds read.0 read.1)
   word_lists (word_refused s d) h k = tt
 
--- what units are read as that are a formula
+-- what the units of a formula are read as
 
 alone_allowed : (style : Style) (o : Outcome Core) → IsAllowedOutcome IsAllowedCore o → IsAllowedOutcome IsAllowedRow (alone style o)
 alone_allowed style (Read x m) h =
@@ -171,7 +171,7 @@ markup_allowed definitions macros text style row h reading =
     let each = row_children_allowed row.elements (reading_allowed definitions macros text style row h reading) in
     (allowed_print (is_display style) xs each, dollar_free (is_display style) xs)
 
--- .. nor does it with its source
+-- nor does the markup of a reading with its source
 pub markup_with_source_allowed : (definitions : List ℕ) (macros : Table) (text : List ℕ) (style : Style) (row : Row) → Defines definitions macros → IsReading macros text style row → IsAllowed (row_print_with_source style text row) × IsDollarFree (row_print_with_source style text row)
 markup_with_source_allowed definitions macros text style row h reading =
     let x = row_element row.elements in

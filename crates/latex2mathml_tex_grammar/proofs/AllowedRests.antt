@@ -1,4 +1,4 @@
--- What a change makes of rows that hold no character that XML forbids holds none.
+-- What a change makes of rows that hold no character that XML forbids holds none either.
 use Rattle.std.proofs.Common.{◌≡◌, ℕ, Bool, true, false, List, Option, Some, None, refl}
 use Rattle.latex2mathml_elements.specs.{Characters.HasAllowedTexts, Colors.Color, Element.Element}
 use Rattle.latex2mathml_tex_grammar.specs.{Colors.color_of, Makes.fraction, Meaning.Change, Meaning.ToAlphabet, Meaning.ToStyle, Meaning.ToColor, Meaning.Divides, Meaning.FractionRule, Symbols.InText, Symbols.Style}
@@ -47,7 +47,7 @@ rest_below_allowed rule c row place l None h k = (
 )
 rest_below_allowed rule c row place l (Some upper) h k = tt
 
--- behind a change of style or color
+-- after a change of style or color
 anew_allowed : (c : Context) (row : Row) (group : Style) (has_own_style : Bool) (color : Option Color) → IsAllowedPart row → IsAllowedPart (begun_anew group has_own_style color (settled c.style row))
 anew_allowed c row group has_own_style color h = record {
   elements = tt;

@@ -123,7 +123,7 @@ pub environment_allowed : (place : ℕ) (c : Context) (name : List ℕ) (e : Opt
 environment_allowed place c name None h = tt
 environment_allowed place c name (Some e) h = bracket_allowed place c name e e.bracket h
 
--- The units that are left when something was taken
+-- The units that are left after something was taken
 
 abbrev FoundIsAllowed : Found → Type 0
 FoundIsAllowed (Given text l) = AreAllowedUnits l

@@ -1,4 +1,4 @@
--- The rule of a unit without a character that XML forbids gives none, and so it is of marks and in words.
+-- The rule of a unit without a character that XML forbids gives none, and the same holds of marks and in words.
 use Rattle.std.proofs.Common.{◌≡◌, ℕ, ℤ, pos, Bool, true, false, ◌==◌, List, [], ◌∷◌, ◌++◌, Option, Some, None, refl, sym, ap, subst, ◌∙◌, append-nil}
 use Rattle.std.specs.{Bool.⊤, Char.is_ascii_digit, Str.byte}
 use Rattle.latex2mathml_elements.specs.{Element.Element, Element.token, Element.space, Element.rectangle, Element.container, Element.pair, Element.triple, Element.table}
@@ -179,7 +179,7 @@ outlined_allowed : (o : Outline) (above below : Element) → IsAllowedOutline o 
 outlined_allowed o above below (h, k) i j =
     in_style_allowed o.own _ (between_any_allowed o.opening o.closing _ h k (quotient_allowed o.has_line above below i j))
 
--- what stands between braces
+-- what is between braces
 braced_given : (given : List ℕ) → AreGiven (a_left_brace ∷ delimiter_of ∷ a_right_brace ∷ []) given → IsAllowed given
 braced_given given (piece, (first, (rest, (e, (whole, (inner, (text, (last, (f, (behind, closed)))))))))) =
     let none = left_brace_empty piece first e in
@@ -200,7 +200,7 @@ outlined_rule_allowed : (place : ℕ) (c : Context) (o : Outline) → IsAllowedO
 outlined_rule_allowed place c o h = λ above i below j. outlined_allowed o above.element below.element h i j
 
 module _ (place : ℕ) (c : Context) where
-  -- what stands behind a line, and behind delimiters
+  -- what follows a line, and what follows delimiters
   abbrev behind_line : List ℕ → List ℕ → Bool → Option Style → Rule
   behind_line opening closing has_line own =
       an_outlined_fraction place c (record { opening = opening; closing = closing; has_line = has_line; own = own })

@@ -150,7 +150,7 @@ abbrev is_high : Option ℕ → Bool
 is_high None = true
 is_high (Some c) = nat_lt 0xFFFF c
 
--- the blocks stand behind all characters that XML forbids
+-- the blocks come after all characters that XML forbids
 record AreHigh (b : Blocks) : Type 0 where
   capital : IsTrue (nat_lt 0xFFFF b.capital)
   small : IsTrue (nat_lt 0xFFFF b.small)

@@ -43,7 +43,7 @@ units_allowed (refused refusal r u) = rw u tt
 units_allowed (begins_with w rest piece more e spells has u) = rw u (spelled_allowed w rest (Some piece) spells, units_allowed has)
 units_allowed (begins_with_nothing w rest e spells has) = units_allowed has
 
--- What stands next
+-- What comes next
 
 pub past_allowed : (l : Units) → AreAllowedUnits l → AreAllowedUnits (past_space l)
 past_allowed (Next u us) h = of_either AreAllowedUnits (is_space_piece u.piece) (past_allowed us h.1) h
@@ -120,7 +120,7 @@ a_point_plain Open given e = cc
 a_point_plain Close given e = cc
 a_point_plain (Command name) given e = cc
 
--- the digits that stand next
+-- the digits that come next
 
 abbrev pub AreDigits : List ℕ × Units → Type 0
 AreDigits found = IsPlain found.0 × AreAllowedUnits found.1

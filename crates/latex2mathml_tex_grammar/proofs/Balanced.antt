@@ -9,7 +9,7 @@ before-append : (us vs : List Unit) (l : Units) → before (us ++ vs) l ≡ befo
 before-append [] vs l = refl
 before-append (u ∷ us) vs l = ap (Next u) (before-append us vs l)
 
--- Balanced units are passed over, with what is read behind them
+-- Balanced units are passed over, with what is read after them
 
 abbrev with_all : List Unit → Outcome (List Unit) → Outcome (List Unit)
 with_all us (Read vs l) = Read (us ++ vs) l
@@ -44,7 +44,7 @@ found place m us c q b =
 
 -- What is read is balanced
 
--- balanced but for so many braces that close what was open before
+-- balanced but for this many braces that close what was open before
 abbrev Closes : ℕ → List Unit → Type 0
 Closes zero us = IsBalanced us
 Closes (suc depth) us = (vs : List Unit) × (c : Unit) × (ws : List Unit) × (us ≡ vs ++ c ∷ ws) × IsBalanced vs × (brace_of c.piece ≡ Closing) × Closes depth ws
@@ -53,17 +53,17 @@ other_before : (u : Unit) (us : List Unit) (depth : ℕ) → brace_of u.piece �
 other_before u us zero n b = piece n b
 other_before u us (suc depth) n (vs, c, ws, e, b, q, rest) = (u ∷ vs, c, ws, ap (λ xs. u ∷ xs) e, piece n b, q, rest)
 
--- one more is open
+-- one more brace is open
 open_before : (u : Unit) (us : List Unit) (depth : ℕ) → brace_of u.piece ≡ Opening → Closes (suc depth) us → Closes depth (u ∷ us)
 open_before u us zero p (vs, c, ws, e, b, q, rest) = subst (λ xs. IsBalanced (u ∷ xs)) (sym e) (braces u c vs ws p b q rest)
 open_before u us (suc depth) p (vs, c, ws, e, b, q, (xs, d, ys, f, a, r, rest)) =
     (u ∷ (vs ++ c ∷ xs), d, ys, ap (λ zs. u ∷ zs) (e ∙ ap (λ zs. vs ++ c ∷ zs) f ∙ sym (append_assoc vs (c ∷ xs) (d ∷ ys))), braces u c vs xs p b q a, r, rest)
 
--- one that was open is closed
+-- a brace that was open is closed
 close_before : (u : Unit) (us : List Unit) (depth : ℕ) → brace_of u.piece ≡ Closing → Closes depth us → Closes (suc depth) (u ∷ us)
 close_before u us depth q rest = ([], u, us, refl, empty, q, rest)
 
--- how a group in which so many are open was read
+-- how a group in which this many are open was read
 abbrev IsRead : Units → ℕ → List Unit → Units → Type 0
 IsRead l depth us m = (c : Unit) × (brace_of c.piece ≡ Closing) × Closes depth us × (l ≡ before us (Next c m))
 

@@ -1,4 +1,4 @@
--- What units come to, units come to that are alike but for white space.
+-- What units are read as, units that are alike but for white space are read as too.
 use Rattle.std.proofs.Common.{◌≡◌, ℕ, List, true, [], ◌∷◌, Option, refl, sym, subst, ◌∙◌}
 use Rattle.latex2mathml_elements.specs.Columns.{Columns}
 use Rattle.latex2mathml_tex_grammar.specs.{Atoms.Atom, Delimiters.delimiter_of, Makes.Core, Makes.Scripts, Refusal.MissingDelimiter, Refusal.Refusal, Rows.Row, Rows.Operand, Symbols.Alphabet, Words.Words}
@@ -17,7 +17,7 @@ use Rattle.latex2mathml_tex_grammar.specs.{Scanning.BeforeRow, Tables.Lines}
 use Rattle.latex2mathml_tex_grammar.proofs.{Scans.found_too, Scans.refused_too as found_refused_too, Scans.past_too, Scans.past_break_too}
 use Rattle.latex2mathml_tex_grammar.proofs.{WordPieces.word_ends, WordPieces.formula_begins, WordPieces.words_begin, WordPieces.words_follow}
 
--- the same is read, and the units behind it are alike, or the refusal is for the same reason
+-- the same is read, and the units after it are alike, or the refusal is for the same reason
 pub data Carried {A : Type 0} (at : Standing) (reads : Outcome A → Type 0) : Outcome A → Type 0 where
   also_read : {x : A} {l : Units} (m : Units) → AreAlike at l m → reads (Read x m) → Carried at reads (Read x l)
   also_refused : {r : Refusal} (q : Refusal) → r.kind ≡ q.kind → reads (Refused q) → Carried at reads (Refused r)
@@ -28,12 +28,12 @@ read_is (also_read m h d) = (m, h, d)
 pub refused_is : {A : Type 0} {at : Standing} {reads : Outcome A → Type 0} {r : Refusal} → Carried at reads (Refused r) → (q : Refusal) × (r.kind ≡ q.kind) × reads (Refused q)
 refused_is (also_refused q e d) = (q, e, d)
 
--- so it is of what comes to the same
+-- this also holds of what has the same outcomes
 also : {A : Type 0} {at : Standing} {P Q : Outcome A → Type 0} {o : Outcome A} → Carried at P o → ((p : Outcome A) → P p → Q p) → Carried at Q o
 also (also_read m h d) f = also_read m h (f (Read _ m) d)
 also (also_refused q e d) f = also_refused q e (f (Refused q) d)
 
--- units that stand the same are alike the same
+-- units that are alike in one standing are alike in an equal one
 stands : {before at : Standing} {l m : Units} → before ≡ at → AreAlike before l m → AreAlike at l m
 stands {l = l} {m = m} e h = subst (λ k. AreAlike k l m) e h
 
@@ -67,7 +67,7 @@ mutual
   cell_behind_ends (text_ends_table p) ended = ended
 
 mutual
-  -- Where units stand in a formula all is carried over, to rules that are alike.
+  -- Where units are in a formula, everything is carried over to rules that are alike.
   pub carry_rule : {at before : Standing} {r s : Rule} {l m : Units} {o : Outcome Core} → ReadsRule r l o → AlikeRules at before r s → IsCalm at → AreAlike before l m → Carried at (ReadsRule s m) o
   carry_rule {m = m} rule_gives gives_too calm h = also_read m h rule_gives
   carry_rule rule_refuses (refuses_too e) calm h = also_refused _ e rule_refuses
@@ -116,7 +116,7 @@ mutual
       also (carry_rule ds (same lines end other) calm both_end) (λ p. rows_to_end e there)
   carry_rule (rows_refused d) (rows_too {q = q} same) calm h = (let (r, kind, e) = refused_is (carry_rows q d calm (past_too BeforeRow calm h)) in also_refused r kind (rows_refused e))
 
-  -- the places of what takes it are nothing
+  -- the place of what takes an operand makes no difference
   carry_operand : {at : Standing} {place : ℕ} {c : Context} {l m : Units} {o : Outcome Operand} (other : ℕ) → ReadsOperand place c l o → IsCalm at → AreAlike at l m → Carried at (ReadsOperand other c m) o
   carry_operand {at = at} other (group_operand {u = u} p s d) calm h =
       let next = next_too h p in
@@ -171,7 +171,7 @@ mutual
       let (r, kind, x) = refused_is (carry_rule d (rules_too u.place place c u.piece calm) calm h) in
       also_refused r kind (base_refused (sym (same_start ending u.piece) ∙ s) x)
 
-  -- atoms stand inside their ending, and the units behind it where it stands
+  -- atoms are inside their ending, and the units after it are where the whole is
   pub carry_atoms : {e f : Ending} {c : Context} {row : Row} {l m : Units} {o : Outcome Row} (at : Standing) → ReadsAtoms e c row l o → AlikeEndings e f → IsCalm (inside e at) → AreAlike (inside e at) l m → Carried at (ReadsAtoms f c row m) o
   carry_atoms at (text_ends p s) ending calm h = (let (place, e) = end_too h p in also_read (End place) both_end (text_ends e (unended_too ending s)))
   carry_atoms at (never_ended p s) ending calm h =
@@ -214,7 +214,7 @@ mutual
   carry_behind_cell {m = m} other ended (table_ends p s) calm h = (let next = next_too h p in also_read m h (table_ends next.is s))
   carry_behind_cell {m = m} other ended (text_ends_table p) calm h = also_read m h (text_ends_table (end_too h p).1)
 
-  -- one part of words, which is all of those before which it stands
+  -- one part of words, which is all of them where words are due
   carry_word : {before at : Standing} {place : ℕ} {a : Option Alphabet} {ws : Words} {l m : Units} {o : Outcome Words} (other : ℕ) → ReadsWord place a ws l o → WordsStand before at → Front before l m → Carried at (ReadsWord other a ws m) o
   carry_word {before = before} {at = at} other (word_stands {a = a} {u = u} {w = x} s) w (both_next {m = m} place t h) =
       also_read m (stands (word_ends a u.piece x s before at w t) h) (word_stands s)

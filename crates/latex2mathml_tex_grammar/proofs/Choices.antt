@@ -7,7 +7,7 @@ pub of_either : {A : Type 0} (P : A → Type 0) (b : Bool) {x y : A} → P x →
 of_either P true p q = p
 of_either P false p q = q
 
--- and where the test says which it is
+-- what holds of each where the test chooses it holds of the choice
 pub of_chosen : {A : Type 0} (P : A → Type 0) (b : Bool) {x y : A} → (b ≡ true → P x) → (b ≡ false → P y) → P (if b then x else y)
 of_chosen P true p q = p refl
 of_chosen P false p q = q refl

@@ -1,4 +1,4 @@
--- Definitions come to one table, or to one refusal.
+-- Definitions have one outcome: a table, or a refusal.
 use Rattle.std.proofs.Common.{ℕ, zero, suc, ◌<◌, ◌≤◌, ◌≡◌, Option, Some, None, refl, sym, ap, subst, ◌∙◌, arith}
 use Rattle.latex2mathml_tex_grammar.specs.Definitions.{Word, word_of, Definition, definition_of, behind_definition}
 use Rattle.latex2mathml_tex_grammar.specs.DefinitionTexts.{ReadsDefinitions, no_more, stopped, defines, no_definition, definition_refused}
@@ -71,7 +71,7 @@ one_table (definition_refused e w g) (defines e' w' g' d') = absurd (read_refuse
 one_table (definition_refused e w g) (no_definition e' w') = absurd (word_or_none e e' w w')
 one_table (definition_refused e w g) (definition_refused e' w' g') = ap Refused (refused_same e e' w w' g g')
 
--- there is one
+-- there is an outcome
 
 some_behind : (n : ℕ) (table : Table) (l m : Units) (u : Unit) (found : Option Word) (o : Word → Outcome Definition) → past_space l ≡ Next u m → word_of u.piece ≡ found → ((word : Word) → definition_of word u.place m ≡ o word) → ((word : Word) → Leaves n (o word))
     → ((t : Table) (k : Units) → count k ≤ n → (p : Outcome Table) × ReadsDefinitions t k p)

@@ -7,7 +7,7 @@ use Rattle.latex2mathml_tex_grammar.specs.Units.{Units, End, HasUnits}
 use Rattle.latex2mathml_tex_grammar.specs.UsualMacros.{usual_macros}
 use Rattle.latex2mathml_tex_grammar.proofs.{DefinitionTexts.have_one_table, OneList.has_one_list}
 
--- where definitions come to a table, they end with their text
+-- where the outcome of definitions is a table, they end with their text
 read_to_end : {table : Table} {l : Units} {o : Outcome Table} → ReadsDefinitions table l o → (t : Table) (k : Units) → o ≡ Read t k → (end : ℕ) × (k ≡ End end)
 read_to_end (no_more {place = place} e) t k is = let same : k ≡ End place = cc in (place, same)
 read_to_end (stopped e) t k is = cc
@@ -21,7 +21,7 @@ some text units (Read table k) spelled d =
     inl (table, record { units = units; end = end.0; spelled = spelled; read = subst (λ m. ReadsDefinitions usual_macros units (Read table m)) end.1 d })
 some text units (Refused r) spelled d = inr (r, record { units = units; spelled = spelled; refused = d })
 
--- what the units of a text come to, they come to in one way
+-- the units of a text have one outcome
 one_outcome : (text : List ℕ) (l m : Units) (o p : Outcome Table) → HasUnits 0 text l → HasUnits 0 text m → ReadsDefinitions usual_macros l o → ReadsDefinitions usual_macros m p → o ≡ p
 one_outcome text l m o p spelled also d e =
     let same : m ≡ l = (has_one_list text).one m l also spelled in

@@ -1,4 +1,4 @@
--- What stands in an expansion.
+-- What is in an expansion.
 use Rattle.std.proofs.Common.{ℕ, zero, suc, ◌+◌, ◌-◌, ◌≤◌, ◌≡◌, Bool, true, false, List, length, Option, Some, None, refl, ap, subst, arith}
 use Rattle.std.specs.Prelude.{⊤, nat_lt, if◌then◌else◌}
 use Rattle.std.specs.Str.{bytes_eq}
@@ -20,7 +20,7 @@ own table uses room (Next u l) h = stays (stays_standing table uses room u l h.0
 own table uses room (End place) h = at_end
 own table uses room (Stop r) h = at_stop
 
--- what stays is no macro and no definition
+-- what stays is neither a macro nor a definition
 
 no_stay_either : (b : Bool) (r : Refusal) (table : Table) (uses room : ℕ) (l : Units) → (if b then Fails r else Turns table uses room l) ≡ Stays → ⊥
 no_stay_either true r table uses room l e = cc
@@ -46,7 +46,7 @@ stands_staying (Uses m) table uses room u l e = absurd (no_stay_used table uses 
 stands_staying (Defines word) table uses room u l e = absurd (no_stay_defined table uses room word (definition_of word u.place l) e)
 stands_staying Stands table uses room u l e = refl
 
--- a name that stands for a macro goes on to do so
+-- a name that means a macro goes on to do so
 
 abbrev Grows : Table → Table → Type 0
 Grows old new = (name : List ℕ) → new name ≡ None → old name ≡ None
@@ -89,7 +89,7 @@ all_stand old new (Next u l) h d = (role_stands old new u.piece h d.0, all_stand
 all_stand old new (End place) h d = tt
 all_stand old new (Stop r) h d = tt
 
--- the macros that hold behind a turn
+-- the macros that hold after a turn
 abbrev GrowsBy : Table → Turn → Type 0
 GrowsBy table Stays = ⊤
 GrowsBy table (Turns next uses room l) = Grows table next

@@ -12,7 +12,7 @@ use Rattle.latex2mathml_tex_grammar.specs.Units.{Unit, Units, Next, End, Stop}
 use Rattle.latex2mathml_tex_grammar.proofs.Choices.{of_chosen}
 use Rattle.latex2mathml_tex_grammar.proofs.Shrinking.{Leaves, arguments_leave, definition_leaves, count-before}
 
--- what is expanded instead, with what can still be put, is at most so much
+-- what is expanded instead, with what can still be put, is at most n units
 abbrev pub Shrinks : ℕ → Turn → Type 0
 Shrinks n Stays = ⊤
 Shrinks n (Turns table uses room l) = count l + room ≤ n
@@ -60,7 +60,7 @@ pub is_expanded : (table : Table) (uses room : ℕ) (l : Units) → Expands tabl
 unfolding expansion
 is_expanded table uses room l = expands_within (suc (count l + room)) table uses room l (omega arith)
 
--- and no other
+-- Units have no other expansion
 
 turns_moved : (t : Turn) {table next : Table} {uses room uses_left room_left : ℕ} {l m n : Units} → t ≡ Turns table uses room l → t ≡ Turns next uses_left room_left m → Expands next uses_left room_left m n → Expands table uses room l n
 turns_moved t {table} {next} {uses} {room} {uses_left} {room_left} {l} {m} {n} e f d =

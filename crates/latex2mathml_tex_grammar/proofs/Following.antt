@@ -9,14 +9,14 @@ use Rattle.latex2mathml_tex_grammar.specs.Rules.{Context, Ending, InBraces, Rule
 use Rattle.latex2mathml_tex_grammar.specs.{Meaning.Change, Starts.atom_start, Starts.ChangeStart, Starts.step_next, Starts.step_of_mark, Starts.mark_of, Starts.Step, Starts.GoesOn, Starts.TakesOperand, Starts.Forbidden, Refusal.Kind, Refusal.Refusal, Refusal.refusal_at, Symbols.Alphabet, Words.Words, Words.WordRule, Words.TakesWords, Scanning.Found, Scanning.Given, Starts.CellEnd, Next.past_space, Tables.Lines}
 use Rattle.latex2mathml_tex_grammar.specs.Units.{Unit, Units, Next, End}
 
--- what holds of the unit that stands next, and of the units after it, holds whichever way it was found
+-- what holds of the unit that comes next, and of the units after it, holds whichever way it was found
 pub next_is : (P : Unit → Units → Type 0) {w m n : Units} {u v : Unit} → w ≡ Next u m → w ≡ Next v n → P v n → P u m
 next_is P {w} {m} {n} {u} {v} p q e =
     let same : v ≡ u = cc in
     let rest : n ≡ m = cc in
     subst (λ x. P x m) same (subst (λ k. P v k) rest e)
 
--- and so it is of what follows a change
+-- the same holds of what follows a change
 
 pub one_rest : (ending : Ending) (c : Context) (row : Row) {w m n : Units} {u v : Unit} {a b : Change} {x y : Rest} → w ≡ Next u m → w ≡ Next v n → atom_start ending u.piece ≡ ChangeStart a → atom_start ending v.piece ≡ ChangeStart b → rest_of a c row u.place m ≡ x → rest_of b c row v.place n ≡ y → x ≡ y
 one_rest ending c row {m = m} {n = n} {u = u} {v = v} {a = a} {b = b} p q s t d e =
@@ -35,7 +35,7 @@ rest_is {ending} {o = o} e r = subst (ReadsRest ending o) (sym e) r
 pub refused_alike : {r q : Refusal} → NoRest r ≡ NoRest q → r ≡ q
 refused_alike e = cc
 
--- with which no atom begins
+-- no atom begins with a change
 
 pub no_atom : {ending : Ending} {c : Context} {u : Unit} {l : Units} {change : Change} {o : Outcome Atom} → ReadsAtom ending c u l o → atom_start ending u.piece ≡ ChangeStart change → ⊥
 no_atom (divider_read s d) t = cc
@@ -63,7 +63,7 @@ moved_some {A} P {found} {x} {y} {m} {n} p q d =
     let same : others ≡ both = cc in
     subst (λ t. P t.0 t.1) same d
 
--- so it is of rules, of operands and of atoms that begin with the unit
+-- the same holds of rules, of operands and of atoms that begin with the unit
 
 pub core_is : (c : Context) {w m n : Units} {u v : Unit} {o : Outcome Core} → w ≡ Next u m → w ≡ Next v n → ReadsRule (rule v.place c v.piece) n o → ReadsRule (rule u.place c u.piece) m o
 core_is c {o = o} p q e = next_is (λ v n. ReadsRule (rule v.place c v.piece) n o) p q e
@@ -77,7 +77,7 @@ operand_is {c} {o = o} p q e = next_is (λ v n. ReadsOperand v.place c n o) p q 
 pub atom_is : {ending : Ending} {c : Context} {w m n : Units} {u v : Unit} {o : Outcome Atom} → w ≡ Next u m → w ≡ Next v n → ReadsAtom ending c v n o → ReadsAtom ending c u m o
 atom_is {ending} {c} {o = o} p q e = next_is (λ v n. ReadsAtom ending c v n o) p q e
 
--- and so it is of what follows an outcome
+-- the same holds of what follows an outcome
 
 pub rule_moved : {A : Type 0} (then : A → Rule) {x y : A} {m n : Units} {o : Outcome Core} → Read x m ≡ Read y n → ReadsRule (then y) n o → ReadsRule (then x) m o
 rule_moved then {o = o} e d = moved (λ x m. ReadsRule (then x) m o) e d
@@ -122,7 +122,7 @@ atoms_moved {ending} {c} row {o = o} e d = moved (λ x m. ReadsAtoms ending c (w
 pub words_moved : {place : ℕ} {a : Option Alphabet} {ws vs : Words} {m n : Units} {o : Outcome Words} → Read ws m ≡ Read vs n → ReadsWords place a vs n o → ReadsWords place a ws m o
 words_moved {place} {a} {o = o} e d = moved (λ ws m. ReadsWords place a ws m o) e d
 
--- the step of the mark that stands next is one
+-- the mark that comes next has one step
 
 pub one_step : (step : Unit → Option Step) {w m n : Units} {u v : Unit} {a b : Step} → w ≡ Next u m → w ≡ Next v n → step u ≡ Some a → step v ≡ Some b → a ≡ b
 one_step step {u = u} {v = v} p q s t = (let same : u ≡ v = cc in cc)
@@ -142,7 +142,7 @@ same_second step {u = u} {v = v} {a = a} {b = b} p q s t =
     let kind : a ≡ b = cc (one_step step p q s t) in
     rw (same, kind) refl
 
--- and no step is made where the scripts end
+-- no step is made where the scripts end
 pub ended_there : (scripts : Scripts) {w m : Units} {u : Unit} {a : Step} → w ≡ Next u m → step_next scripts w ≡ None → step_of_mark scripts (mark_of u.piece) ≡ Some a → ⊥
 ended_there scripts p s t = cc (ap (step_next scripts) p)
 

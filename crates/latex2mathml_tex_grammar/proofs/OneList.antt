@@ -88,7 +88,7 @@ data Begins (place : ℕ) (text : List ℕ) : Type 0 where
   slice : (w rest : List ℕ) (piece : Option Piece) → text ≡ w ++ rest → Spells w rest piece → Begins place text
   no_slice : (refusal : Refusal) → IsRefusedAt place text refusal → Begins place text
 
--- the only character that is equal
+-- characters that compare as equal are the same
 pub is_byte : (c b : ℕ) → (c == b) ≡ true → c ≡ b
 is_byte c b h = grind (arith, nat_tests)
 
@@ -126,7 +126,7 @@ character_begins place c cs s = elim (cases_Bool (is_forbidden c)) [
   | inr f ↦ slice (c ∷ []) cs (Some (Character c)) refl (character c s f refl refl)
 ]
 
--- what is special is one of these
+-- only these characters are special
 special_is : (c : ℕ) → is_space c ≡ false → (c == byte "{") ≡ false → (c == byte "}") ≡ false → (c == byte "%") ≡ false → (c == byte "\\") ≡ false → is_special c ≡ false
 special_is c s o d k b = grind (arith, nat_tests)
 

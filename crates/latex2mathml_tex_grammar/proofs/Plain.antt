@@ -1,4 +1,4 @@
--- The pieces that leave it as it is where units stand in a formula: all but dollar signs and what takes words.
+-- The pieces that do not change where units of a formula are: all but dollar signs and what takes words.
 use Rattle.std.proofs.Common.{◌≡◌, ◌==◌, ℕ, Bool, true, false, ◌&&◌, inl, inr, List, [], ◌∷◌, Option, Some, None, codes, not, refl, sym, ap, subst, if◌then◌else◌}
 use Rattle.std.proofs.{lemmas.Bool.cases_Bool, lemmas.Slice.Eq.bytes_eq-Decides}
 use Rattle.std.specs.{Str.byte, Str.bytes_eq}
@@ -28,7 +28,7 @@ pub takes_none : (name : List ℕ) → TakesNone name → IsPlain (Command name)
 takes_none name h at in_formula = rw h refl
 takes_none name h at in_dollars = rw h refl
 
--- it is so of these names
+-- the commands with these names take no words
 
 pub right_plain : TakesNone (codes "right")
 unfolding meaning_of command_entries commands_up_to_l commands_from_m
@@ -66,7 +66,7 @@ displaylimits_plain : TakesNone (codes "displaylimits")
 unfolding meaning_of command_entries commands_up_to_l commands_from_m
 displaylimits_plain = refl
 
--- and of those of tables
+-- neither do those of the tables
 
 abbrev take_none : List (List ℕ × ℕ) → Bool
 take_none [] = true
@@ -80,7 +80,7 @@ negated_plain : take_none negated_commands ≡ true
 unfolding meaning_of command_entries commands_up_to_l commands_from_m negated_commands
 negated_plain = refl
 
--- a name that is equal is the same
+-- names that compare as equal are the same
 pub named : (key name : List ℕ) → TakesNone key → bytes_eq key name ≡ true → TakesNone name
 named key name h e = subst TakesNone ((bytes_eq-Decides key name).0 e) h
 
@@ -107,7 +107,7 @@ in_table name found (entry ∷ entries) h e =
 pub text_command_plain : (name : List ℕ) (c : ℕ) → entry_of_name text_commands name ≡ Some c → TakesNone name
 text_command_plain name c e = in_table name _ text_commands texts_plain (ap text_of e)
 
--- a dollar sign is none of them
+-- a dollar sign is not in the tables
 no_delimiter : delimiter_of (Character (byte "$")) ≡ None
 unfolding delimiter_characters
 no_delimiter = refl

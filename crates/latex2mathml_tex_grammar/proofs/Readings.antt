@@ -22,7 +22,7 @@ to_the_end (atoms_end p s) = cc
 to_the_end (atom_read p s d ds) = to_the_end ds
 to_the_end (rest_read p s t e d) = to_the_end d
 
--- .. and so are the rows of one, which no unit ends
+-- so are the rows of a formula, which no unit ends
 
 abbrev RestEndsCell : Units → Type 0
 RestEndsCell l = (u : Unit) (m : Units) → past_space l ≡ Next u m → ends (InCell ByText 0) u.piece ≡ true
@@ -90,7 +90,7 @@ one_formula (as_atoms d s) (as_rows e t rows) = cc (one_atoms d e)
 one_formula (as_rows d s rows) (as_atoms e t) = cc (one_atoms d e)
 one_formula {style} (as_rows d s rows) (as_rows e t others) = ap (alone style) (one_rule rows others)
 
--- two outcomes of a text are one
+-- two outcomes of a text are the same
 one : {macros : Table} {text : List ℕ} {style : Style} {l m : Units} {o p : Outcome Row} → IsExpansion macros text l → IsExpansion macros text m → ReadsFormula style l o → ReadsFormula style m p → o ≡ p
 one {style = style} {l = l} {m = m} {p = p} has also d e =
     let same : m ≡ l = cc (expanded_are has, expanded_are also) in
@@ -112,7 +112,7 @@ has_one_reading macros text style = record {
   never_both = λ xs r a b. (let same = one a.1 b.1 a.2.1 b.2 in cc same);
 }
 
--- what a text expands to where other macros hold for which each name stands for the same
+-- what a text expands to where other macros hold for which each name means the same
 pub same_expansion : {macros others : Table} {text : List ℕ} {l : Units} → SameMacros macros others → IsExpansion macros text l → IsExpansion others text l
 same_expansion {macros} {others} {text} same e =
     subst (IsExpansion others text) (sym (expansion_same macros others most_uses most_units (units_of 0 text) same) ∙ expanded_are e) (has_expansion others text)

@@ -17,7 +17,7 @@ split p (c ∷ cs) = elim (cases_Bool (p c)) [
   | inr h ↦ ([], c ∷ cs, refl, record { passes = tt; ends = h })
 ]
 
--- a run at the front of a text is the one that is computed, and so is what stands after it
+-- a run at the front of a text is the one that is computed, and so is what follows it
 pub run_is : (p : ℕ → Bool) (w rest : List ℕ) → IsRun p w rest → (run_of p (w ++ rest) ≡ w) × (behind_run p (w ++ rest) ≡ rest)
 run_is p [] [] run = (refl, refl)
 run_is p [] (c ∷ rest) run = (rw run.ends refl, rw run.ends refl)

@@ -134,7 +134,7 @@ taken_plain spot (Character c) h = character_taken spot c h
 
 -- What is found
 
--- the same is found, with alike units behind it, or it is refused for the same reason
+-- the same is found, with alike units after it, or it is refused for the same reason
 pub data FoundAlike (at : Standing) : Found → Found → Type 0 where
   both_given : {l m : Units} (text : List ℕ) → AreAlike at l m → FoundAlike at (Given text l) (Given text m)
   both_missing : {r q : Refusal} → r.kind ≡ q.kind → FoundAlike at (Missing r) (Missing q)
@@ -166,7 +166,7 @@ scan_alike {at = at} p q calm (same_piece {u = u} {v = v} {l = l} {m = m} e h) s
     let here = done_alike p q spot u v e h calm (λ same next. subst (λ k. FoundAlike k (scan p l next) (scan q m next)) same (scan_alike p q (subst IsCalm (sym same) calm) h next)) (deed spot u.piece) (taken_plain spot u.piece) in
     subst (λ d. FoundAlike at (scan p (Next u l) spot) (done q spot d v m (scan q m))) (ap (deed spot) e) here
 
--- what is found in the one is found in the other
+-- what is found in one is found in the other
 
 pub record FoundToo (at : Standing) (spot : Spot) (place : ℕ) (text : List ℕ) (l m : Units) : Type 0 where
   pub rest : Units

@@ -1,4 +1,4 @@
--- What arguments and definitions leave are no more units than stood there.
+-- Arguments and definitions leave no more units than there were.
 use Rattle.std.proofs.Common.{ℕ, zero, suc, ◌+◌, ◌≤◌, ◌≡◌, Bool, true, false, List, [], ◌∷◌, length, Option, Some, None, arith}
 use Rattle.std.specs.Prelude.{⊤}
 use Rattle.std.specs.Str.{byte}

@@ -1,4 +1,4 @@
--- White space between the units of a formula is nothing.
+-- White space between the units of a formula is ignored.
 use Rattle.std.proofs.Common.{◌≡◌, ℕ, List, refl, sym, subst, ◌∙◌, IsTrue, IsFalse}
 use Rattle.latex2mathml_tex_grammar.specs.{Expansion.Stands, Expansion.role_of, ExpansionLaws.AllStand, Formulas.IsExpansion, Formulas.IsReading, Formulas.IsRefusal, Formulas.formula_context, Laws.HaveAlikeExpansions, Laws.IsSpaceNothing, Laws.StandsByItself, Macros.Table, Refusal.Refusal, Rows.Row, Rows.empty_row, Symbols.Style}
 use Rattle.latex2mathml_tex_grammar.specs.Reading.{Outcome, Read, Refused, ReadsAtoms, ReadsRule}
@@ -34,7 +34,7 @@ alike_outcomes p (also_refused {r = r} q e d) one = subst (AreAlikeOutcomes (Ref
 with_units : {macros : Table} {text : List ℕ} {l m : Units} (P : Units → Type 0) → IsExpansion macros text l → IsExpansion macros text m → P l → P m
 with_units P h k p = subst P (sym (expanded_are h) ∙ expanded_are k) p
 
--- and so are formulas
+-- formulas are carried over too
 
 atoms_there : {style : Style} {m : Units} {o : Outcome Row} → IsFalse (asks_for_rows o) → Carried InFormula (ReadsAtoms WholeText (formula_context style) empty_row m) o → Carried InFormula (ReadsFormula style m) o
 atoms_there s (also_read n h d) = also_read n h (as_atoms d s)
@@ -58,7 +58,7 @@ refusal_there : {macros : Table} {text : List ℕ} {style : Style} {r : Refusal}
 unfolding IsRefusal
 refusal_there {m = m} has (also_refused q e d) = (q, e, (m, has, d))
 
--- where no macro is used and none defined among units, neither is among those that are alike
+-- where no macro is used and none is defined among units, none is among units that are alike
 stand_there : (macros : Table) {at : Standing} {l m : Units} → AreAlike at l m → AllStand macros l → AllStand macros m
 stand_there macros both_end h = tt
 stand_there macros (both_stop e) h = tt

@@ -1,4 +1,4 @@
--- What stands next among units that are alike but for white space.
+-- What comes next among units that are alike but for white space.
 use Rattle.std.proofs.Common.{◌≡◌, ◌==◌, ℕ, Bool, true, false, inl, inr, List, [], ◌∷◌, ◌++◌, Option, Some, None, refl, sym, ap, subst, ◌∙◌}
 use Rattle.std.specs.{Bool.⊤, Str.byte}
 use Rattle.std.proofs.lemmas.Bool.{cases_Bool}
@@ -8,7 +8,7 @@ use Rattle.latex2mathml_tex_grammar.specs.Spacing.{Standing, InFormula, InWords,
 use Rattle.latex2mathml_tex_grammar.specs.Units.{Piece, Space, Open, Close, Command, Character, Unit, unit, Units, Next, End, Stop}
 use Rattle.latex2mathml_tex_grammar.proofs.OneList.{is_byte}
 
--- what stands at the front of alike units, both of which begin with no white space that is nothing
+-- what is at the front of alike units, neither of which begins with white space that is ignored
 pub data Front (at : Standing) : Units → Units → Type 0 where
   both_next : {u : Unit} {l m : Units} (place : ℕ) → (is_in_words at ≡ false → is_space_piece u.piece ≡ false) → AreAlike (standing_behind u.piece at) l m → Front at (Next u l) (Next (unit u.piece place) m)
   both_ended : {place other : ℕ} → Front at (End place) (End other)
@@ -37,15 +37,15 @@ past_twice (Next u us) = elim (cases_Bool (is_space_piece u.piece)) [
 past_twice (End place) = refl
 past_twice (Stop r) = refl
 
--- a unit that stands next is no white space
+-- a unit that comes next is not white space
 pub next_stays : (l : Units) (u : Unit) (m : Units) → past_space l ≡ Next u m → past_space (Next u m) ≡ Next u m
 next_stays l u m p = ap past_space (sym p) ∙ past_twice l ∙ p
 
--- white space does not change where the units behind it stand
+-- white space does not change where the units after it are
 stays : (at : Standing) (u : Unit) {l m : Units} → u.piece ≡ Space → Front (standing_behind u.piece at) l m → Front at l m
 stays at u {l} {m} e h = subst (λ p. Front (standing_behind p at) l m) e h
 
--- past white space alike units have the same front
+-- past white space, alike units have the same front
 pub fronts : {at : Standing} {l m : Units} → AreAlike at l m → Front at (past_space l) (past_space m)
 fronts both_end = both_ended
 fronts (both_stop e) = both_stopped e
@@ -59,7 +59,7 @@ fronts (same_piece {at = at} {u = u} {v = v} {l = l} {m = m} e h) = elim (cases_
       subst (λ k. Front at k (past_space (Next v m))) (sym left) (subst (λ k. Front at (Next u l) k) (sym right) (with_piece v e (λ w. s) h)))
 ]
 
--- within words white space counts, and so alike units have the same front as they are
+-- within words white space counts, so alike units have the same front as they are
 pub fronts_of_words : {at : Standing} {l m : Units} → AreAlike (InWords at) l m → Front (InWords at) l m
 fronts_of_words both_end = both_ended
 fronts_of_words (both_stop e) = both_stopped e
@@ -72,11 +72,11 @@ passes_too test (both_next place s h) = refl
 passes_too test both_ended = refl
 passes_too test (both_stopped e) = refl
 
--- a unit that passes a test stands next in both, or in neither
+-- a unit that passes a test comes next in both, or in neither
 pub looks_too : {at : Standing} {l m : Units} (test : Piece → Bool) → AreAlike at l m → follows test l ≡ follows test m
 looks_too test h = passes_too test (fronts h)
 
--- a unit that stands next in the one stands next in the other, at a place of its own
+-- a unit that comes next in one comes next in the other, at a place of its own
 pub record NextToo (at : Standing) (u : Unit) (l m : Units) : Type 0 where
   pub place : ℕ
   pub rest : Units
@@ -99,7 +99,7 @@ end_there (both_next place s h) p = cc
 end_there (both_ended {other = other}) p = (other, refl)
 end_there (both_stopped e) p = cc
 
--- the one ends where the other does
+-- one ends where the other does
 pub end_too : {at : Standing} {l m : Units} {place : ℕ} → AreAlike at l m → past_space l ≡ End place → (other : ℕ) × (past_space m ≡ End other)
 end_too h p = end_there (fronts h) p
 
@@ -111,7 +111,7 @@ stop_there (both_next place s h) p = cc
 stop_there both_ended p = cc
 stop_there (both_stopped {q = q} e) p = (q, sym (same_stop p) ∙ e, refl)
 
--- the one is refused where the other is
+-- one is refused where the other is
 pub stop_too : {at : Standing} {l m : Units} {r : Refusal} → AreAlike at l m → past_space l ≡ Stop r → (q : Refusal) × (r.kind ≡ q.kind) × (past_space m ≡ Stop q)
 stop_too h p = stop_there (fronts h) p
 
@@ -135,12 +135,12 @@ same_step scripts h = step_there scripts (fronts h)
 
 -- Units that are taken
 
--- units stand in a formula, in words or not
+-- units are in a formula, in words or not
 pub data IsCalm : Standing → Type 0 where
   in_formula : IsCalm InFormula
   in_dollars : {at : Standing} → IsCalm (BetweenDollars at)
 
--- the piece leaves it as it is where units stand in a formula
+-- the piece does not change where units of a formula are
 abbrev pub IsPlain : Piece → Type 0
 IsPlain piece = (at : Standing) → IsCalm at → standing_behind piece at ≡ at
 
@@ -152,7 +152,7 @@ pub character_plain : (c : ℕ) → (c == byte "$") ≡ false → IsPlain (Chara
 character_plain c h at in_formula = rw h refl
 character_plain c h at in_dollars = rw h refl
 
--- what passes a test that the dollar sign does not pass is none
+-- what passes a test that the dollar sign does not pass is not a dollar sign
 pub no_dollar : {A : Type 0} (test : ℕ → Option A) → test (byte "$") ≡ None → (c : ℕ) (found : A) → test c ≡ Some found → (c == byte "$") ≡ false
 no_dollar test h c found e = elim (cases_Bool (c == byte "$")) [
   | inl s ↦ (let same = ap test (is_byte c (byte "$") s) in absurd (cc))
@@ -173,7 +173,7 @@ abbrev pub AllPlain : List (Piece → Option (List ℕ)) → Type 0
 AllPlain [] = ⊤
 AllPlain (test ∷ tests) = ArePlain test × AllPlain tests
 
--- the same was found in both, with alike units behind it, or nothing in either
+-- the same was found in both, with alike units after it, or nothing in either
 data SameFound (at : Standing) : Option (List ℕ × Units) → Option (List ℕ × Units) → Type 0 where
   found_both : {l m : Units} (texts : List ℕ) → AreAlike at l m → SameFound at (Some (texts, l)) (Some (texts, m))
   found_none : SameFound at None None
@@ -195,7 +195,7 @@ same_found : {at : Standing} (tests : List (Piece → Option (List ℕ))) → Al
 same_found [] plain calm l m h = found_both [] h
 same_found (test ∷ tests) plain calm l m h = found_next tests test plain.0 calm (same_found tests plain.1 calm) (fronts h)
 
--- what passes the tests in the one passes them in the other
+-- what passes the tests in one passes them in the other
 pub record TakenToo (tests : List (Piece → Option (List ℕ))) (at : Standing) (texts : List ℕ) (l m : Units) : Type 0 where
   pub rest : Units
   pub is : next_are tests m ≡ Some (texts, rest)
@@ -224,7 +224,7 @@ pub record SameDigits (at : Standing) (a b : List ℕ × Units) : Type 0 where
   pub texts : a.0 ≡ b.0
   pub alike : AreAlike at a.1 b.1
 
--- where white space or a digit stands, the digits behind it are the same, and where another unit stands there are none
+-- at white space or a digit, the digits after it are the same, and at any other unit there are none
 digits_here_too : {at : Standing} {l m : Units} (u v : Unit) → u.piece ≡ v.piece → AreAlike (standing_behind u.piece at) l m → IsCalm at → (standing_behind u.piece at ≡ at → SameDigits at (digits_next l) (digits_next m)) → (space : Bool) → is_space_piece u.piece ≡ space → (digit : Option (List ℕ)) → a_digit u.piece ≡ digit → SameDigits at (digits_here space digit (Next u l) (digits_next l)) (digits_here space digit (Next v m) (digits_next m))
 digits_here_too {at = at} u v e h calm more true s digit d = more (ap (λ p. standing_behind p at) (space_is u.piece s))
 digits_here_too {at = at} u v e h calm more false s (Some digit) d =

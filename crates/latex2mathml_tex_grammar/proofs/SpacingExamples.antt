@@ -16,7 +16,7 @@ counting at (Next u l) = counted u.piece at (counting (standing_behind u.piece a
 counting at (End place) = []
 counting at (Stop r) = []
 
--- alike units have the same
+-- alike units have the same pieces that count
 same_pieces : {at : Standing} {l m : Units} → AreAlike at l m → counting at l ≡ counting at m
 same_pieces both_end = refl
 same_pieces (both_stop e) = refl
@@ -25,7 +25,7 @@ same_pieces {at = at} (same_piece {u = u} {v = v} {l = l} {m = m} e h) =
 same_pieces (space_before w e h) = rw (e, w) (same_pieces h)
 same_pieces (space_behind w e h) = rw (e, w) (same_pieces h)
 
--- and so have texts of alike units
+-- so do texts of alike units
 same_of_texts : (text other : List ℕ) → HaveAlikeUnits text other → counting InFormula (units_of 0 text) ≡ counting InFormula (units_of 0 other)
 same_of_texts text other (l, m, has, there, h) = ap (counting InFormula) (units_are 0 text l has) ∙ same_pieces h ∙ ap (counting InFormula) (sym (units_are 0 other m there))
 

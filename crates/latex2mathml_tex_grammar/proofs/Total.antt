@@ -42,7 +42,7 @@ after : {A B : Type 0} {P : Outcome A → Type 0} {Q : Outcome B → Type 0} {j 
 after R (comes_to x m fits d) h follow read refused = with_outcome (follow x m fits) (omega arith) (λ o. read x m o d)
 after R (is_refused r d) h follow read refused = is_refused r (refused r d)
 
--- What stands next
+-- What comes next
 
 data Sees (l : Units) : Type 0 where
   sees_unit : (u : Unit) (m : Units) → past_space l ≡ Next u m → size m < size l → Sees l
@@ -124,7 +124,7 @@ size-past_break l =
     let row = size-past BeforeRow (past BeforeLength (past BeforeStar l)) in
     omega arith
 
--- whether units stand next that pass these tests
+-- whether units that pass these tests come next
 data Finds (tests : List (Piece → Option (List ℕ))) (l : Units) : Type 0 where
   finds : (texts : List ℕ) (m : Units) → next_are tests l ≡ Some (texts, m) → size m ≤ size l → Finds tests l
   finds_none : next_are tests l ≡ None → Finds tests l
@@ -142,8 +142,8 @@ find_next (test ∷ tests) l = elim (sees l) [
   | sees_stop r p ↦ finds_none (rw p refl)
 ]
 
--- the rows of a table have an outcome, which leaves the unit that ends it, and fewer than k units behind it, or the end of
--- the text
+-- the rows of a table have an outcome, which leaves the unit that ends the table and fewer than k units after it, or the end
+-- of the text
 data RowsCome (reads : Outcome Lines → Type 0) (k : ℕ) : Type 0 where
   rows_come : (lines : Lines) (l m : Units) (u : Unit) → past_space l ≡ Next u m → size m < k → reads (Read lines l) → RowsCome reads k
   rows_come_to_end : (lines : Lines) (l : Units) (at : ℕ) → past_space l ≡ End at → reads (Read lines l) → RowsCome reads k
@@ -160,8 +160,8 @@ record HasOutcomes (k : ℕ) : Type 0 where
   of_operand : (place : ℕ) (c : Context) (l : Units) → size l < k → Comes Operand (ReadsOperand place c l) (size l)
   of_scripts : (c : Context) (base : Atom) (scripts : Scripts) (l : Units) → size l < k → Comes Atom (ReadsScripts c base scripts l) (size l)
   of_atoms : (ending : Ending) (c : Context) (row : Row) (l : Units) → size l < k → Comes Row (ReadsAtoms ending c row l) (size l)
-  -- what is a part of words is taken
   of_rows : (end : TableEnd) (place : ℕ) (columns : Columns) (c : Context) (rows cells : List Element) (l : Units) → size l < k → RowsCome (ReadsRows end place columns c rows cells l) (size l)
+  -- what is a part of words is taken
   of_word : (place : ℕ) (a : Option Alphabet) (ws : Words) (l : Units) → size l < k → Comes Words (ReadsWord place a ws l) (size l - 1)
   of_words : (place : ℕ) (a : Option Alphabet) (ws : Words) (l : Units) → size l < k → Comes Words (ReadsWords place a ws l) (size l)
 
@@ -204,7 +204,7 @@ scripts_total k has c base scripts l h = elim (sees l) [
   | sees_stop r p ↦ comes_to _ l (omega arith) (scripts_end (ap (step_next scripts) p))
 ]
 
--- what begins with a script begins with a mark, which is no white space
+-- what begins with a script begins with a mark, which is not white space
 
 has_mark : (change : Option Change) (mark : Option Mark) → start_of_mark change mark ≡ ScriptStart → (found : Mark) × (mark ≡ Some found)
 has_mark (Some change) None e = cc
@@ -229,7 +229,7 @@ mark_no_space Close mark e = refl
 mark_no_space (Command name) mark e = refl
 mark_no_space (Character c) mark e = refl
 
--- what follows a change is no more units than stood behind it
+-- a change leaves no more units than came after it
 
 abbrev RestFits : ℕ → Rest → Type 0
 RestFits k (GoesOnIn c row l) = size l ≤ k
@@ -279,7 +279,7 @@ atom_total k has ending c row l m u p less h s start some t = elim (begun_atom k
   | comes_to x n fits d ↦ with_outcome (has.of_atoms ending c (with_atom c.style row x) n (omega arith)) (omega arith) (λ o. atom_read p s d)
 ]
 
--- .. or a change, and then what stands after it
+-- an atom or a change, and then what follows it
 unit_total : (k : ℕ) → HasOutcomes k → (ending : Ending) (c : Context) (row : Row) (l m : Units) (u : Unit) → past_space l ≡ Next u m → size m < size l → size l < suc k → ends ending u.piece ≡ false → (start : AtomStart) → atom_start ending u.piece ≡ start → Comes Row (ReadsAtoms ending c row l) (size l)
 unit_total k has ending c row l m u p less h s (ChangeStart change) t = rest_total (rest_of change c row u.place m) refl (rest_fits change c row u.place m)
   where
@@ -334,7 +334,7 @@ behind_cell_total k has end place columns c rows cells cell l m u p less h EndsR
 behind_cell_total k has end place columns c rows cells cell l m u p less h EndsTable s =
     rows_come (with_last rows cells cell) l m u p less (table_ends p s)
 
--- fewer units stand behind the next one
+-- there are fewer units after the next one
 size-next : (l m : Units) (u : Unit) → past_space l ≡ Next u m → size m < size l
 size-next l m u p = (let fewer = size-past_space l in let same : size (past_space l) ≡ suc (size m) = ap size p in omega arith)
 
@@ -459,7 +459,7 @@ found_outcome : {A : Type 0} {reads : Outcome A → Type 0} {k : ℕ} → Comes 
 found_outcome (comes_to x m fits d) = (Read x m, d)
 found_outcome (is_refused r d) = (Refused r, d)
 
--- a rule has one
+-- a rule has an outcome
 pub rule_outcome : (r : Rule) (l : Units) → (o : Outcome Core) × ReadsRule r l o
 rule_outcome r l = found_outcome ((outcomes (suc (size l))).of_rule r l (omega arith))
 

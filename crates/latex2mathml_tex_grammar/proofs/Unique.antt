@@ -1,4 +1,4 @@
--- Two outcomes of the same units are one.
+-- Two outcomes of the same units are the same.
 use Rattle.std.proofs.Common.{◌≡◌, ℕ, Option, refl, ap, List}
 use Rattle.latex2mathml_elements.specs.Element.{Element}
 use Rattle.latex2mathml_elements.specs.Columns.{Columns}
@@ -10,7 +10,7 @@ use Rattle.latex2mathml_tex_grammar.specs.Units.{Unit, Units}
 use Rattle.latex2mathml_tex_grammar.proofs.Following.{one_rest, rest_is, refused_alike, atom_or_change, core_is, group_is, operand_is, atom_is, rule_moved, taken_moved, found_moved, rows_moved, rows_moved_to_end, rows_next, one_end, cell_moved, base_moved, atoms_moved, words_moved, one_step, same_second, ended_there, word_is, scripts_go_on, script_moved}
 
 mutual
-  -- a rule comes to one outcome
+  -- a rule has one outcome
   pub one_rule : {r : Rule} {l : Units} {o p : Outcome Core} → ReadsRule r l o → ReadsRule r l p → o ≡ p
   one_rule rule_gives rule_gives = refl
   one_rule rule_refuses rule_refuses = refl
@@ -70,7 +70,7 @@ mutual
   one_rule (rows_refused d) (rows_to_end e q es) = cc (one_rows d e)
   one_rule (rows_refused d) (rows_refused e) = cc (one_rows d e)
 
-  -- an operand comes to one outcome
+  -- an operand has one outcome
   pub one_operand : {place : ℕ} {c : Context} {l : Units} {o p : Outcome Operand} → ReadsOperand place c l o → ReadsOperand place c l p → o ≡ p
   one_operand (group_operand {c = c} p s d) (group_operand q t e) = cc (one_atoms d (group_is p q e))
   one_operand (group_operand {c = c} p s d) (group_refused q t e) = cc (one_atoms d (group_is p q e))
@@ -137,7 +137,7 @@ mutual
   one_operand (operand_stopped p) (operand_at_end q) = cc
   one_operand (operand_stopped p) (operand_stopped q) = cc
 
-  -- what stands after an atom comes to one outcome
+  -- what follows an atom has one outcome
   one_scripts : {c : Context} {base : Atom} {scripts : Scripts} {l : Units} {o p : Outcome Atom} → ReadsScripts c base scripts l o → ReadsScripts c base scripts l p → o ≡ p
   one_scripts (scripts_end s) (scripts_end t) = refl
   one_scripts (mark_taken {c = c} {base = base} {scripts = k} p s d) (mark_taken q t e) = one_scripts d (scripts_go_on (λ u. step_of_mark k (mark_of u.piece)) p q s t e)
@@ -165,7 +165,7 @@ mutual
   one_scripts (mark_refused {scripts = k} p s) (script_read q t e es) = cc (one_step (λ u. step_of_mark k (mark_of u.piece)) p q s t)
   one_scripts (mark_refused {scripts = k} p s) (script_refused q t e) = cc (one_step (λ u. step_of_mark k (mark_of u.piece)) p q s t)
 
-  -- an atom comes to one outcome
+  -- an atom has one outcome
   one_atom : {ending : Ending} {c : Context} {u : Unit} {l : Units} {o p : Outcome Atom} → ReadsAtom ending c u l o → ReadsAtom ending c u l p → o ≡ p
   one_atom (divider_read s d) (divider_read t e) = cc (one_rule d e)
   one_atom (divider_read s d) (divider_refused t e) = cc (one_rule d e)
@@ -193,7 +193,7 @@ mutual
   one_atom (base_refused s d) (divider_refused t e) = cc
   one_atom (base_refused s d) (on_empty_row t e) = cc
 
-  -- atoms side by side come to one outcome
+  -- a sequence of atoms has one outcome
   pub one_atoms : {ending : Ending} {c : Context} {row : Row} {l : Units} {o p : Outcome Row} → ReadsAtoms ending c row l o → ReadsAtoms ending c row l p → o ≡ p
   one_atoms (atom_read {ending = ending} {c = c} {row = row} p s d ds) (atom_read q t e es) = one_atoms ds (atoms_moved row (one_atom d (atom_is p q e)) es)
   one_atoms (atom_read {ending = ending} {c = c} p s d ds) (atom_refused q t e) = cc (one_atom d (atom_is p q e))
@@ -260,7 +260,7 @@ mutual
   one_atoms (atom_read p s d ds) (change_refused q t k f) = absurd (atom_or_change p q d k)
   one_atoms (atom_refused p s d) (change_refused q t k f) = absurd (atom_or_change p q d k)
 
-  -- rows of a table come to one outcome
+  -- the rows of a table have one outcome
   one_rows : {end : TableEnd} {place : ℕ} {columns : Columns} {c : Context} {rows cells : List Element} {l : Units} {o p : Outcome Lines} → ReadsRows end place columns c rows cells l o → ReadsRows end place columns c rows cells l p → o ≡ p
   one_rows (cell_read d ds) (cell_read e es) = one_behind_cell ds (cell_moved (one_atoms d e) es)
   one_rows (cell_read d ds) (cell_refused e) = cc (one_atoms d e)
@@ -285,7 +285,7 @@ mutual
   one_behind_cell (next_row p s d) (text_ends_table q) = cc
   one_behind_cell (table_ends p s) (text_ends_table q) = cc
 
-  -- a part of words comes to one outcome
+  -- a part of words has one outcome
   one_word : {place : ℕ} {a : Option Alphabet} {ws : Words} {l : Units} {o p : Outcome Words} → ReadsWord place a ws l o → ReadsWord place a ws l p → o ≡ p
   one_word word_at_end word_at_end = refl
   one_word word_stopped word_stopped = refl
@@ -339,7 +339,7 @@ mutual
   one_word (word_missing s) (no_word t) = cc
   one_word (word_missing s) (word_missing t) = cc
 
-  -- words side by side come to one outcome
+  -- a sequence of words has one outcome
   one_words : {place : ℕ} {a : Option Alphabet} {ws : Words} {l : Units} {o p : Outcome Words} → ReadsWords place a ws l o → ReadsWords place a ws l p → o ≡ p
   one_words words_never_ended words_never_ended = refl
   one_words words_stopped words_stopped = refl

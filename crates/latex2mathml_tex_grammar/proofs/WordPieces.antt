@@ -1,4 +1,4 @@
--- What each piece is in words, and where the unit behind it stands.
+-- What each piece is in words, and where the unit after it is.
 use Rattle.std.proofs.Common.{◌≡◌, ℕ, Bool, true, false, List, Option, Some, None, refl, ◌==◌, if◌then◌else◌, ◌||◌}
 use Rattle.std.specs.Str.{byte}
 use Rattle.latex2mathml_tex_grammar.specs.{Commands.meaning_of, Delimiters.entry_of_name, TextCommands.text_commands}
@@ -9,7 +9,7 @@ use Rattle.latex2mathml_tex_grammar.specs.Units.{Piece, Space, Open, Close, Comm
 use Rattle.latex2mathml_tex_grammar.specs.Words.{Word, WordRule, IsWord, BeginsGroup, EndsGroup, BeginsFormula, TakesWords, NoWord, word_rule, command_rule, meaning_rule}
 use Rattle.latex2mathml_tex_grammar.proofs.{AlikeRules.WordsStand, AlikeRules.before_words, AlikeRules.within_words, Plain.TakesNone, Plain.text_command_plain}
 
--- the piece is all of the words before which it stands, or one part of those in braces
+-- the piece is all of the words where words are due, or one part of words in braces
 abbrev pub EndsWord : Piece → Type 0
 EndsWord piece = (before at : Standing) → WordsStand before at → (is_in_words before ≡ false → is_space_piece piece ≡ false) → standing_behind piece before ≡ at
 
@@ -17,7 +17,7 @@ character_ends : (c : ℕ) → (c == byte "$") ≡ false → EndsWord (Character
 character_ends c h before at before_words s = rw h refl
 character_ends c h before at within_words s = rw h refl
 
--- a dollar sign begins a formula, behind which words stand as said
+-- a dollar sign begins a formula, after which units are where they are after the words
 dollar_begins : (c : ℕ) → (c == byte "$") ≡ true → (before at : Standing) → WordsStand before at → standing_behind (Character c) before ≡ BetweenDollars at
 dollar_begins c h before at before_words = rw h refl
 dollar_begins c h before at within_words = rw h refl
@@ -142,7 +142,7 @@ words_are no_word_here e before at w = cc
 words_are opens e before at w = cc
 words_are closes e before at w = cc
 
--- So it is of the unit behind each piece.
+-- The same holds of the unit after each piece.
 
 pub word_ends : (a : Option Alphabet) (piece : Piece) (w : Word) → word_rule a piece ≡ IsWord w → EndsWord piece
 word_ends a piece w e = word_is (in_a_word a piece) e

@@ -2,14 +2,14 @@
 use Rattle.std.specs.Prelude.{ℕ, ◌+◌, ◌-◌, ◌==◌, ◌&&◌, Bool, nat_le, List, [], ◌∷◌, Option, Some, None, if◌then◌else◌}
 use Rattle.latex2mathml_tex_grammar.specs.Symbols.{Alphabet, Upright, Italic, Bold, BoldItalic, DoubleStruck, Fraktur, Calligraphic, SansSerif, Monospace}
 
--- where an alphabet stands: its first capital, small letter, digit, Greek capital and Greek small letter, where it has them
+-- where an alphabet is: its first capital, small letter, digit, Greek capital and Greek small letter, where it has them
 pub record Blocks : Type 0 where
   pub capital : ℕ
   pub small : ℕ
   pub digit : Option ℕ
   pub greek_capital : Option ℕ
   pub greek_small : Option ℕ
-  -- the letters that stand elsewhere, each with its place
+  -- the letters that are elsewhere, each with its code point there
   pub elsewhere : List (ℕ × ℕ)
 
 abbrev pub blocks : Alphabet → Option Blocks
@@ -68,12 +68,12 @@ blocks Monospace = Some (record { capital = 0x1D670; small = 0x1D68A; digit = So
 abbrev pub is_between : ℕ → ℕ → ℕ → Bool
 is_between first last c = nat_le first c && nat_le c last
 
--- the character that stands in a block as far from its first as c does from this one; c, where there is no block
+-- the character of a block that is as far from its first as c is from this one; c, where there is no block
 abbrev pub moved : ℕ → Option ℕ → ℕ → ℕ
 moved first None c = c
 moved first (Some block) c = block + (c - first)
 
--- the place of the character that stands elsewhere, or else this one
+-- the code point that the entries give to c, or else `other`
 abbrev pub looked_up : List (ℕ × ℕ) → ℕ → ℕ → ℕ
 looked_up [] c other = other
 looked_up (entry ∷ entries) c other = if entry.0 == c then entry.1 else looked_up entries c other
@@ -92,6 +92,6 @@ abbrev pub in_optional_blocks : Option Blocks → ℕ → ℕ
 in_optional_blocks None c = c
 in_optional_blocks (Some b) c = looked_up b.elsewhere c (in_blocks b c)
 
--- the character that stands for this one in the alphabet; one that the alphabet has not is left as it is
+-- the character that represents this one in the alphabet; one that the alphabet does not have is left as it is
 abbrev pub in_alphabet : Alphabet → ℕ → ℕ
 in_alphabet alphabet c = in_optional_blocks (blocks alphabet) c

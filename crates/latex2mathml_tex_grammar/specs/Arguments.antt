@@ -1,4 +1,4 @@
--- Arguments: what a macro, or a definition, takes of the units that stand next.
+-- Arguments: what a macro or a definition takes from the units that come next.
 use Rattle.std.specs.Prelude.{ℕ, zero, suc, List, [], ◌∷◌}
 use Rattle.latex2mathml_tex_grammar.specs.{Next.past_space, Reading.Outcome, Reading.Read, Reading.Refused}
 use Rattle.latex2mathml_tex_grammar.specs.Refusal.{MissingArgument, UnclosedBrace, refusal_at}
@@ -15,12 +15,12 @@ brace_of Open = Opening
 brace_of Close = Closing
 brace_of piece = NoBrace
 
--- what is read first, and what is made of it and of the units after it
+-- what is read first, then what is made of it and of the units after it
 abbrev pub and_then : {A B : Type 0} → Outcome A → (A → Units → Outcome B) → Outcome B
 and_then (Read x l) more = more x l
 and_then (Refused r) more = Refused r
 
--- this before what is read of others
+-- this one, before the others that are read
 abbrev pub with_first : {A : Type 0} → A → Outcome (List A) → Outcome (List A)
 with_first x (Read xs l) = Read (x ∷ xs) l
 with_first x (Refused r) = Refused r
@@ -33,13 +33,13 @@ in_group Closing u l (suc depth) more = with_first u (more depth)
 in_group NoBrace u l depth more = with_first u (more depth)
 
 -- the units up to the brace that closes the group which begins at this place, where this many groups are open within it.
--- The braces of the group are not of its units.
+-- The braces of the group are not among its units.
 abbrev pub group : ℕ → Units → ℕ → Outcome (List Unit)
 group place (Next u l) depth = in_group (brace_of u.piece) u l depth (group place l)
 group place (End at) depth = Refused (refusal_at UnclosedBrace place)
 group place (Stop r) depth = Refused r
 
--- an argument of what stands at this place: one unit, or those of a group
+-- an argument of what is at this place: one unit, or those of a group
 abbrev pub argument_of : Brace → ℕ → Unit → Units → Outcome (List Unit)
 argument_of Opening place u l = group u.place l 0
 argument_of Closing place u l = Refused (refusal_at MissingArgument place)
@@ -50,11 +50,11 @@ argument_here place (Next u l) = argument_of (brace_of u.piece) place u l
 argument_here place (End at) = Refused (refusal_at MissingArgument place)
 argument_here place (Stop r) = Refused r
 
--- .. white space before it is nothing
+-- an argument of what is at this place; white space before the argument is ignored
 abbrev pub argument : ℕ → Units → Outcome (List Unit)
 argument place l = argument_here place (past_space l)
 
--- so many arguments, one after another
+-- this many arguments, one after another
 abbrev pub arguments : ℕ → ℕ → Units → Outcome (List (List Unit))
 arguments place zero l = Read [] l
 arguments place (suc n) l = and_then (argument place l) (λ arg rest. with_first arg (arguments place n rest))

@@ -1,4 +1,4 @@
--- Atoms, and what each is to those beside it: the space between them, prefix signs, words of upright letters.
+-- Atoms, and what each is to those next to it: the space between them, prefix signs, words of upright letters.
 use Rattle.std.specs.Prelude.{Bool, true, false, Option, Some, None, if◌then◌else◌}
 use Rattle.latex2mathml_elements.specs.{Attributes.Prefix, Attributes.Infix, Attributes.Space, Attributes.NoSpace, Element.Element, Element.Mo, Element.token}
 use Rattle.latex2mathml_tex_grammar.specs.Symbols.{Class, Ordinary, Operator, Binary, Relation, Opening, Closing, Punctuation, Inner, Style, InScript}
@@ -7,15 +7,15 @@ use Rattle.latex2mathml_tex_grammar.specs.Symbols.{Class, Ordinary, Operator, Bi
 pub data Kind : Type 0 where
   -- a sign of this class, an `mo` of its own
   SignOf : Class → Kind
-  -- a binary sign that is a prefix where no binary operator can stand
+  -- a binary sign that is a prefix where no binary operator can be
   PlusOrMinus : Kind
   -- any other element, of this class
   Plain : Class → Kind
-  -- an upright letter, which is one word with those beside it
+  -- an upright letter, which forms one word with those next to it
   UprightLetters : Kind
   -- the name of a function
   FunctionWord : Kind
-  -- a delimiter within others. Like an opening one it begins what stands after it.
+  -- a delimiter within others. Like an opening one, it begins what follows it.
   Divider : Kind
   -- a space
   Blank : Kind
@@ -33,13 +33,13 @@ abbrev pub is_letters : Kind → Bool
 is_letters UprightLetters = true
 is_letters kind = false
 
--- what stands before an atom, spaces aside
+-- what precedes an atom, spaces aside
 pub data Before : Type 0 where
   Nothing : Before
   After : Class → Before
   AfterName : Before
 
--- whether no binary operator can stand there
+-- whether no binary operator can follow
 abbrev pub begins_operand : Before → Bool
 begins_operand Nothing = true
 begins_operand AfterName = true
@@ -52,7 +52,7 @@ begins_operand (After Ordinary) = false
 begins_operand (After Closing) = false
 begins_operand (After Inner) = false
 
--- the class that an atom of this class has there: a binary operator that cannot stand is ordinary
+-- the class that an atom of this class has there: where no binary operator can be, a binary one is ordinary
 abbrev pub class_there : Before → Class → Class
 class_there before Binary = if begins_operand before then Ordinary else Binary
 class_there before class = class
@@ -67,8 +67,8 @@ past before FunctionWord = AfterName
 past before Divider = After Opening
 past before Blank = before
 
--- whether a thin space stands between two atoms: it parts the name of a function from what is ordinary or inner;
--- an operator has a space of its own before it
+-- whether there is a thin space between two atoms: it separates the name of a function from another name, from what is
+-- ordinary or inner, and from a closing sign before it; an operator has a space of its own
 abbrev pub parts : Before → Before → Bool
 parts AfterName (After Ordinary) = true
 parts AfterName (After Inner) = true
@@ -78,17 +78,17 @@ parts (After Closing) AfterName = true
 parts (After Inner) AfterName = true
 parts before behind = false
 
--- a space needs none
+-- whether there is a thin space before an atom of this kind; a space needs none
 abbrev pub is_parted : Before → Kind → Bool
 is_parted before Blank = false
 is_parted before kind = parts before (past before kind)
 
--- a sign that stands before its operand
+-- a sign that precedes its operand
 abbrev pub as_prefix : Element → Element
 as_prefix (token t a text) = token t (record a { form = Some Prefix }) text
 as_prefix x = x
 
--- A sign between two operands. As the first element of a row, a browser would take it for a prefix.
+-- A sign between two operands. Where it is the first element of a row, a browser would take it for a prefix.
 abbrev pub as_infix : Bool → Element → Element
 as_infix true (token t a text) = token t (record a { form = Some Infix }) text
 as_infix first x = x
@@ -117,14 +117,14 @@ element_there style first before PlusOrMinus x =
     if begins_operand before then as_prefix x else tight style (as_infix first x)
 element_there style first before kind x = x
 
--- the space around a sign that is all of an atom of this class: where the class has none, or in scripts, there is none
+-- the space around a sign that is the whole of an atom of this class: none in scripts, or where the class has none
 abbrev pub space_as : Style → Class → Option Space → Option Space
 space_as InScript class space = Some NoSpace
 space_as style Binary space = space
 space_as style Relation space = space
 space_as style class space = Some NoSpace
 
--- the sign, which stands before no operand
+-- the sign, which does not precede an operand
 abbrev pub lone_sign : Style → Class → Element → Element
 lone_sign style class (token Mo a text) = token Mo (record a { form = None; space = space_as style class a.space }) text
 lone_sign style class x = x

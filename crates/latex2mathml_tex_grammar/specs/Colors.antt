@@ -4,7 +4,7 @@ use Rattle.std.specs.{Char.is_ascii_digit, Str.byte, Str.str_eq_ignore_ascii_cas
 use Rattle.latex2mathml_elements.specs.Colors.{Color}
 use Rattle.latex2mathml_tex_grammar.specs.Alphabets.{is_between}
 
--- each name, and how much of red, green and blue the color has
+-- each name, and how much red, green and blue the color has
 unfoldable pub color_entries : List (List ℕ × ℕ × ℕ × ℕ)
 color_entries =
     (codes "aliceblue", 0xF0, 0xF8, 0xFF) ∷
@@ -164,13 +164,13 @@ abbrev pub entry_color : List (List ℕ × ℕ × ℕ × ℕ) → List ℕ → O
 entry_color [] name = None
 entry_color (entry ∷ entries) name = if str_eq_ignore_ascii_case name entry.0 then Some (color entry.1 entry.2 entry.3) else entry_color entries name
 
--- the color of this name, in letters of either case
+-- the color with this name, in letters of either case
 unfoldable pub named_color : List ℕ → Option Color
 named_color name = entry_color color_entries name
 
 -- Digits in hexadecimal
 
--- what a digit counts; any other character counts nothing
+-- the value of a digit; any other character has none
 abbrev pub digit_value : ℕ → Option ℕ
 digit_value c =
     if is_ascii_digit c then Some (c - byte "0")
@@ -178,7 +178,7 @@ digit_value c =
     else if is_between (byte "A") (byte "F") c then Some (c - byte "A" + 10)
     else None
 
--- a digit before those of the rest, where each is one
+-- a digit before the others, where all of them are digits
 abbrev pub with_digit : Option ℕ → Option (List ℕ) → Option (List ℕ)
 with_digit (Some d) (Some ds) = Some (d ∷ ds)
 with_digit (Some d) None = None
@@ -188,13 +188,13 @@ abbrev pub digit_values : List ℕ → Option (List ℕ)
 digit_values [] = Some []
 digit_values (c ∷ cs) = with_digit (digit_value c) (digit_values cs)
 
--- two digits for each of red, green and blue, or one that stands for two alike
+-- two digits for each of red, green and blue, or one, which means two that are alike
 abbrev pub color_of_digits : Option (List ℕ) → Option Color
 color_of_digits (Some (r ∷ g ∷ b ∷ [])) = Some (color (r * 17) (g * 17) (b * 17))
 color_of_digits (Some (r ∷ s ∷ g ∷ h ∷ b ∷ c ∷ [])) = Some (color (r * 16 + s) (g * 16 + h) (b * 16 + c))
 color_of_digits ds = None
 
--- the color that a text names, where it names one
+-- the color that a text names, if it names one
 abbrev pub color_of : List ℕ → Option Color
 color_of [] = named_color []
 color_of (c ∷ name) = if c == byte "#" then color_of_digits (digit_values name) else named_color (c ∷ name)

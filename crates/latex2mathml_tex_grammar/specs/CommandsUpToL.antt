@@ -1,5 +1,5 @@
 -- The commands up to those that begin with l, in the order of their names' bytes. A name is its bytes, without the
--- backslash; a character is its code point, and stands after its line as well.
+-- backslash; a character is its code point, and is also shown after its line.
 use Rattle.std.specs.Prelude.{ℕ, pos, negsuc, List, [], ◌∷◌, Some, None, codes}
 use Rattle.latex2mathml_tex_grammar.specs.Meaning.{Meaning, Dots, Shows, FunctionName, Spacing, Styled, Words, Fraction, Accent, Sized, Left, Limits, Changes, ToAlphabet, ToStyle, Divides, words_apart, BeginTable, EndTable, LineBreak, Skip, SkipInBraces, ContinuedFraction, GeneralFraction, Boxed, PhantomWidth, StrikeUp, StrikeDown, Beside, ByStyle, Bar, NoBar, Braced, Bracketed, Bare, Frame, ToColor}
 use Rattle.latex2mathml_tex_grammar.specs.Symbols.{Letter, UprightLetter, Sign, BigOperator, Integral, Ordinary, Binary, Relation, Opening, Closing, Punctuation, Inner, Italic, Bold, BoldItalic, DoubleStruck, Fraktur, Calligraphic, InDisplay}

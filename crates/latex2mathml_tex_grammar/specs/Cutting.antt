@@ -1,5 +1,5 @@
--- The units of a text, computed, so that what is left of a text can be seen as its units. `HasUnits` says what they are:
--- nothing that is promised rests on how they are found here.
+-- The units of a text, computed, so that the rest of a text can be seen as its units. `HasUnits` says what they are, and a law
+-- says that these are the ones. The usual macros are computed with them.
 use Rattle.std.specs.Prelude.{ℕ, zero, suc, ◌+◌, ◌==◌, Bool, List, [], ◌∷◌, ◌++◌, length, Option, Some, None, codes, if◌then◌else◌}
 use Rattle.std.specs.{Char.is_ascii_alphabetic, Str.byte, Str.encode_utf8_all}
 use Rattle.latex2mathml_tex_grammar.specs.Refusal.{Kind, LoneBackslash, ForbiddenCharacter, refusal_at}
@@ -10,12 +10,12 @@ abbrev pub run_of : (ℕ → Bool) → List ℕ → List ℕ
 run_of p [] = []
 run_of p (c ∷ cs) = if p c then c ∷ run_of p cs else []
 
--- what stands after it
+-- what follows that run
 abbrev pub behind_run : (ℕ → Bool) → List ℕ → List ℕ
 behind_run p [] = []
 behind_run p (c ∷ cs) = if p c then behind_run p cs else c ∷ cs
 
--- what stands at the front of a text
+-- what is at the front of a text
 pub data Front : Type 0 where
   -- nothing: the text is empty
   Empty : Front
@@ -24,12 +24,12 @@ pub data Front : Type 0 where
   -- what is refused, and how many bytes after the front
   Unreadable : Kind → ℕ → Front
 
--- a comment of these characters, and what stands after them
+-- a comment of these characters, and what follows them
 abbrev pub comment_front : List ℕ → List ℕ → Front
 comment_front cs [] = Slice (byte "%" ∷ cs) [] None
 comment_front cs (c ∷ rest) = Slice (byte "%" ∷ (cs ++ codes "\n")) rest None
 
--- a command of these letters, and what stands after them
+-- a command of these letters, and what follows them
 abbrev pub letters_front : List ℕ → List ℕ → Front
 letters_front cs rest = Slice (byte "\\" ∷ (cs ++ run_of is_space rest)) (behind_run is_space rest) (Some (Command (encode_utf8_all cs)))
 

@@ -1,4 +1,4 @@
--- Laws of texts of definitions. A text is its characters here.
+-- Laws of texts of definitions. Here a text is given as its characters.
 use Rattle.std.specs.Prelude.{◌≡◌, ◌⊎◌, ℕ, List}
 use Rattle.latex2mathml_tex_grammar.specs.{DefinitionTexts.AreRefused, DefinitionTexts.Defines, Macros.Table, Refusal.Refusal}
 

@@ -1,4 +1,4 @@
--- Texts of definitions: nothing else stands in them but white space. A text is its characters here.
+-- Texts of definitions, with nothing else in them but white space. Here a text is given as its characters.
 use Rattle.std.specs.Prelude.{◌≡◌, ℕ, List, Some, None}
 use Rattle.latex2mathml_tex_grammar.specs.Definitions.{Word, word_of, Definition, definition_of, behind_definition}
 use Rattle.latex2mathml_tex_grammar.specs.{Macros.Table, Next.past_space, Reading.Outcome, Reading.Read, Reading.Refused}
@@ -6,7 +6,7 @@ use Rattle.latex2mathml_tex_grammar.specs.Refusal.{NoDefinition, Refusal, refusa
 use Rattle.latex2mathml_tex_grammar.specs.Units.{Unit, Units, Next, End, Stop, HasUnits}
 use Rattle.latex2mathml_tex_grammar.specs.UsualMacros.{usual_macros}
 
--- the macros that hold behind the definitions that these units are, where these held before, or the refusal of them
+-- the macros that hold after the definitions that these units are, where the first ones held before; or why they are refused
 pub data ReadsDefinitions : Table → Units → Outcome Table → Type 0 where
   no_more : {table : Table} {l : Units} {place : ℕ}
       → past_space l ≡ End place
@@ -30,7 +30,7 @@ pub data ReadsDefinitions : Table → Units → Outcome Table → Type 0 where
       → definition_of word u.place m ≡ Refused r
       → ReadsDefinitions table l (Refused r)
 
--- these macros hold behind the text, where the usual ones held before
+-- these macros hold after the text, where the usual ones held before it
 pub record Defines (text : List ℕ) (macros : Table) : Type 0 where
   pub units : Units
   pub end : ℕ

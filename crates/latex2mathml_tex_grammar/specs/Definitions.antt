@@ -1,5 +1,6 @@
--- Definitions, which stand in the text. Each is a word, a name, how many arguments the macro takes, and its body. What is
--- none is refused: where the word stands, or at a brace that is not closed. White space between its parts is nothing.
+-- Definitions, which are part of the text. Each is a word, a name, how many arguments the macro takes, and its body. What
+-- is not one is refused: at the word, at a brace that is not closed, or where there is no unit. White space between the
+-- parts is ignored.
 use Rattle.std.specs.Prelude.{ℕ, zero, suc, ◌+◌, ◌-◌, Bool, true, false, ◌&&◌, nat_lt, List, [], ◌∷◌, ◌++◌, ◌==◌, codes, Option, Some, None, if◌then◌else◌}
 use Rattle.std.specs.{Char.is_ascii_digit, Str.byte, Str.bytes_eq}
 use Rattle.latex2mathml_tex_grammar.specs.Arguments.{NoBrace, Brace, brace_of, argument, and_then}
@@ -10,7 +11,7 @@ use Rattle.latex2mathml_tex_grammar.specs.Units.{Piece, Open, Close, Command, Ch
 
 -- the words that define
 pub data Word : Type 0 where
-  -- `\newcommand` and `\renewcommand`. Either defines a name anew that stands for a macro.
+  -- `\newcommand` and `\renewcommand`. Either redefines a name that already means a macro.
   NewCommand : Word
   -- `\providecommand`, which leaves such a name as it is
   ProvideCommand : Word
@@ -47,7 +48,7 @@ sign_here c (Next u l) = if is_character c u.piece then (true, l) else (false, N
 sign_here c (End place) = (false, End place)
 sign_here c (Stop r) = (false, Stop r)
 
--- whether this character stands next, and the units behind it, where it does
+-- whether this character comes next, and the units after it, where it does
 abbrev pub sign : ℕ → Units → Bool × Units
 sign c l = sign_here c (past_space l)
 
@@ -64,11 +65,11 @@ digit_here (Next u l) = digit_found (digit_of u.piece) u l
 digit_here (End place) = (None, End place)
 digit_here (Stop r) = (None, Stop r)
 
--- the number that stands next, which is one digit, and the units behind it
+-- the number that comes next, which is one digit, and the units after it
 abbrev pub digit : Units → Option ℕ × Units
 digit l = digit_here (past_space l)
 
--- The name, which may stand between braces
+-- The name, which may be between braces
 
 abbrev pub are_space : List Unit → Bool
 are_space [] = true
@@ -92,7 +93,7 @@ name_of place l = and_then (argument place l) (λ us m. name_read place (name_in
 
 -- How many arguments: a digit between brackets
 
--- a second bracket begins what stands for an argument that is left out
+-- a second bracket begins the default of an argument that is left out
 abbrev pub without_default : ℕ → ℕ → Bool × Units → Outcome ℕ
 without_default place n (true, l) = Refused (refusal_at OptionalArgument place)
 without_default place n (false, l) = Read n l
@@ -112,7 +113,7 @@ number_opened place (false, l) = Read 0 l
 abbrev pub number_of : ℕ → Units → Outcome ℕ
 number_of place l = number_opened place (sign (byte "[") l)
 
--- .. or `#1`, `#2` and so on, in this order
+-- How many arguments, given as `#1`, `#2` and so on, in this order
 
 abbrev pub numbered : ℕ → Bool × Units → (Units → Outcome ℕ) → Outcome ℕ
 numbered place (true, l) more = more l
@@ -122,20 +123,20 @@ abbrev pub parameter : ℕ → ℕ → Bool × Units → (Units → Outcome ℕ)
 parameter place n (true, l) more = numbered place (sign (byte "1" + n) l) more
 parameter place n (false, l) more = Read n l
 
--- the parameters behind n others, of which there can be so many more
+-- the parameters after n others, where the number before n is how many more there can be
 unfoldable pub parameters : ℕ → ℕ → ℕ → Units → Outcome ℕ
 parameters place zero n l = Read n l
 parameters place (suc more) n l = parameter place n (sign (byte "#") l) (parameters place more (suc n))
 
 -- The body
 
--- the argument with this number, which is counted from 1, of so many
+-- the argument with this number, counted from 1, of n arguments
 abbrev pub argument_part : ℕ → Option ℕ → Option Part
 argument_part n (Some zero) = None
 argument_part n (Some (suc k)) = if nat_lt k n then Some (Argument k) else None
 argument_part n None = None
 
--- what stands for a piece behind a number sign: an argument, or a number sign
+-- what a piece after a number sign means: an argument, or a number sign
 abbrev pub parameter_part : ℕ → Piece → Option Part
 parameter_part n piece =
     if is_character (byte "#") piece then Some (Fixed piece) else argument_part n (digit_of piece)
@@ -145,7 +146,7 @@ part_before (Some part) (Some parts) = Some (part ∷ parts)
 part_before (Some part) None = None
 part_before None parts = None
 
--- the parts that units are, the first of which may stand behind a number sign, where there are so many arguments
+-- the parts that units are, the first of which may follow a number sign, where there are n arguments
 abbrev pub parts_behind : Bool → ℕ → List Unit → Option (List Part)
 parts_behind true n [] = None
 parts_behind false n [] = Some []
@@ -161,11 +162,11 @@ abbrev pub body_read : ℕ → Option (List Part) → Units → Outcome (List Pa
 body_read place (Some parts) l = Read parts l
 body_read place None l = Refused (refusal_at UnknownParameter place)
 
--- a body, of a macro with so many arguments
+-- the body of a macro with n arguments
 abbrev pub body : ℕ → ℕ → Units → Outcome (List Part)
 body place n l = and_then (argument place l) (λ us m. body_read place (parts_of n us) m)
 
--- another sign than a brace stands next
+-- the first unit is something other than a brace
 abbrev pub is_delimited : Units → Bool
 is_delimited (Next u l) = is_no_brace (brace_of u.piece)
   where
@@ -174,12 +175,12 @@ is_delimited (Next u l) = is_no_brace (brace_of u.piece)
     is_no_brace brace = false
 is_delimited l = false
 
--- .. which is between braces
+-- the body of a macro with n arguments, which must be between braces
 abbrev pub body_in_braces : ℕ → ℕ → Units → Outcome (List Part)
 body_in_braces place n l =
     if is_delimited (past_space l) then Refused (refusal_at DelimitedArgument place) else body place n l
 
--- what the name of an operator stands for; with a star it has limits
+-- what the name of an operator means; with a star it has limits
 abbrev pub operator_parts : Bool → List Part → List Part
 operator_parts star parts =
     Fixed (Command (codes "operatorname")) ∷ (starred star ++ Fixed Open ∷ (parts ++ Fixed Close ∷ []))
@@ -193,7 +194,7 @@ abbrev pub word_of : Piece → Option Word
 word_of (Command name) = word_named name
 word_of piece = None
 
--- The definitions that stand behind their words
+-- The definitions that follow their words
 
 abbrev pub command_definition : ℕ → Units → Outcome Definition
 command_definition place l =
@@ -213,14 +214,14 @@ operator_definition place l =
     and_then (body place 0 m) (λ parts rest.
     Read (definition name (macro 0 (operator_parts (sign (byte "*") l).0 parts))) rest))
 
--- the definition behind a word at this place
+-- the definition after a word at this place
 abbrev pub definition_of : Word → ℕ → Units → Outcome Definition
 definition_of NewCommand place l = command_definition place l
 definition_of ProvideCommand place l = command_definition place l
 definition_of Def place l = plain_definition place l
 definition_of DeclareOperator place l = operator_definition place l
 
--- the macros that hold behind a definition
+-- the macros that hold after a definition
 
 abbrev pub provided : Definition → Option Macro → Table → Table
 provided d (Some m) table = table

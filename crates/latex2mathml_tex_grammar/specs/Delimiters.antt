@@ -1,5 +1,5 @@
 -- The delimiters, and the relations that have a sign of their own when negated. A name is its bytes, without the
--- backslash; a character is its code point, and stands after its line as well.
+-- backslash; a character is its code point, and is also shown after its line.
 use Rattle.std.specs.Prelude.{ℕ, ◌==◌, List, [], ◌∷◌, Option, Some, None, codes, if◌then◌else◌}
 use Rattle.std.specs.Str.{byte, bytes_eq, encode_utf8_all}
 use Rattle.latex2mathml_tex_grammar.specs.Units.{Piece, Command, Character}
@@ -96,7 +96,7 @@ negated_commands =
     (codes "vdash", 0x22AC) ∷  -- ⊬
     []
 
--- the characters that have one
+-- the characters that have a negated sign of their own
 unfoldable pub negated_characters : List (ℕ × ℕ)
 negated_characters =
     (0x3C, 0x226E) ∷  -- ≮
@@ -118,13 +118,13 @@ abbrev pub text_of : Option ℕ → Option (List ℕ)
 text_of None = None
 text_of (Some c) = Some (encode_utf8_all (c ∷ []))
 
--- the text of the delimiter that a unit is, where it is one. A point is the empty one.
+-- the text of the delimiter that a unit is, where it is one. A point is the empty delimiter.
 abbrev pub delimiter_of : Piece → Option (List ℕ)
 delimiter_of (Command name) = text_of (entry_of_name delimiter_commands name)
 delimiter_of (Character c) = if c == byte "." then Some [] else text_of (entry_of_character delimiter_characters c)
 delimiter_of piece = None
 
--- the text of what a unit is when negated, where it has a sign of its own
+-- the text of the negated sign of a unit, where it has one of its own
 abbrev pub negated_of : Piece → Option (List ℕ)
 negated_of (Command name) = text_of (entry_of_name negated_commands name)
 negated_of (Character c) = text_of (entry_of_character negated_characters c)

@@ -6,7 +6,7 @@ use Rattle.latex2mathml_tex_grammar.specs.Atoms.{Before, After, Nothing}
 use Rattle.latex2mathml_tex_grammar.specs.Scanning.{Argument, ColumnList, Number}
 use Rattle.latex2mathml_tex_grammar.specs.Symbols.{Style, InDisplay, InText, InScript, Ordinary}
 
--- what the first atom of a cell stands behind: the second of a pair goes on with the first
+-- what precedes the first atom of a cell: the second of a pair continues the first
 abbrev pub before_cell : Column → Before
 before_cell SecondOfPair = After Ordinary
 before_cell column = Nothing
@@ -19,12 +19,12 @@ abbrev pub columns_of : List ℕ → List Column
 columns_of [] = []
 columns_of (c ∷ cs) = column_of c ∷ columns_of cs
 
--- what may stand in brackets behind the name of an environment
+-- what may be in brackets after the name of an environment
 pub data Bracket : Type 0 where
   NoBracket : Bracket
-  -- a letter that says how it stands in its line
+  -- a letter that says how the environment is placed in its line
   Position : Bracket
-  -- a letter that says where cells stand in their columns
+  -- a letter that says how cells are aligned in their columns
   Alignment : Bracket
 
 pub record Environment : Type 0 where
@@ -34,7 +34,7 @@ pub record Environment : Type 0 where
   -- the style of its cells
   pub style : Style
   pub bracket : Bracket
-  -- what stands in braces behind its name
+  -- what is in braces after its name
   pub argument : Option Argument
 
 abbrev pub cells_in : Columns → Style → Environment

@@ -1,4 +1,4 @@
--- Some texts and their units, to hold the definitions against.
+-- Some texts and their units, to check the definitions against.
 use Rattle.std.specs.Prelude.{[], ◌∷◌, ◌++◌, codes}
 use Rattle.std.specs.Str.{byte}
 use Rattle.latex2mathml_tex_grammar.specs.Refusal.{LoneBackslash, ForbiddenCharacter, refusal_at}
@@ -6,18 +6,18 @@ use Rattle.latex2mathml_tex_grammar.specs.Units.{Space, Open, Close, Command, Ch
 
 pub record AreUnitsOfExamples : Type 0 where
   pub nothing : HasUnits 0 [] (End 0)
-  -- white space after a command of letters is nothing
+  -- white space after a command of letters is ignored
   pub letters : HasUnits 0 (codes "\\le x y")
       (Next (unit (Command (codes "le")) 0)
       (Next (unit (Character (byte "x")) 4)
       (Next (unit Space 5)
       (Next (unit (Character (byte "y")) 6) (End 7)))))
-  -- behind another command it is white space
+  -- after any other command it is white space
   pub symbol : HasUnits 0 (codes "\\, \\é")
       (Next (unit (Command (codes ",")) 0)
       (Next (unit Space 2)
       (Next (unit (Command (0xC3 ∷ 0xA9 ∷ [])) 3) (End 6))))
-  -- a backslash at the end of a line is one before a space
+  -- a backslash at the end of a line counts as one before a space
   pub line_end : HasUnits 0 (codes "\\\n{}")
       (Next (unit (Command (codes " ")) 0)
       (Next (unit Open 2)

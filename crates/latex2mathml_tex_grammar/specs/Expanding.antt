@@ -1,5 +1,5 @@
--- The expansion of units, computed, so that what is left of a text can be seen as what it expands to. `Expands` says what
--- it is: nothing that is promised rests on how it is found here.
+-- The expansion of units, computed, so that the rest of a text can be seen as what it expands to. `Expands` says what it
+-- is: no promise depends on how it is found here.
 use Rattle.std.specs.Prelude.{ℕ, zero, suc, ◌+◌}
 use Rattle.latex2mathml_tex_grammar.specs.Expansion.{Turn, Stays, Turns, Fails, turn}
 use Rattle.latex2mathml_tex_grammar.specs.Macros.{Table, count}
@@ -10,7 +10,7 @@ turned Stays table uses room u l more = Next u (more table uses room l)
 turned (Turns next uses_left room_left m) table uses room u l more = more next uses_left room_left m
 turned (Fails r) table uses room u l more = Stop r
 
--- the expansion, where so many steps are enough
+-- the expansion, where this many steps are enough
 unfoldable pub expansion_within : ℕ → Table → ℕ → ℕ → Units → Units
 expansion_within zero table uses room l = l
 expansion_within (suc n) table uses room (Next u l) = turned (turn table uses room u l) table uses room u l (expansion_within n)

@@ -1,5 +1,5 @@
--- Expansion: what units come to when the macros that they use are replaced, and the definitions among them taken. What is
--- refused ends the units, as what is no unit does.
+-- Expansion: what units become when the macros that they use are replaced and the definitions among them are taken. What is
+-- refused ends the units, as does what is not a unit.
 use Rattle.std.specs.Prelude.{◌≡◌, ℕ, zero, suc, ◌-◌, nat_lt, List, length, Option, Some, None, if◌then◌else◌}
 use Rattle.latex2mathml_tex_grammar.specs.Arguments.{arguments}
 use Rattle.latex2mathml_tex_grammar.specs.Definitions.{Word, word_named, Definition, definition_of, behind_definition}
@@ -8,7 +8,7 @@ use Rattle.latex2mathml_tex_grammar.specs.Reading.{Outcome, Read, Refused}
 use Rattle.latex2mathml_tex_grammar.specs.Refusal.{TooManyExpansions, Refusal, refusal_at}
 use Rattle.latex2mathml_tex_grammar.specs.Units.{Piece, Command, Unit, Units, Next, End, Stop}
 
--- how many macros a text can use, and how many units can be put in place of them: the expansion of each text ends
+-- how many macros a text can use, and how many units can be put in place of them, so that the expansion of each text ends
 abbrev pub most_uses : ℕ
 most_uses = 1000
 
@@ -32,22 +32,22 @@ abbrev pub name_role : Option Macro → List ℕ → Role
 name_role (Some m) name = Uses m
 name_role None name = word_role (word_named name)
 
--- a macro may have the name of any command, and comes first
+-- a macro may have the name of any command, and takes precedence
 abbrev pub role_of : Table → Piece → Role
 role_of table (Command name) = name_role (table name) name
 role_of table piece = Stands
 
 -- What becomes of a unit before others
 pub data Turn : Type 0 where
-  -- it stands, and the units after it are expanded
+  -- it stays, and the units after it are expanded
   Stays : Turn
-  -- these units are expanded in place of it and those after it: with these macros, and so many of them more that can
-  -- be used and units that can be put
+  -- these units are expanded in place of it and those after it, with these macros; the numbers say how many more macros can
+  -- be used, and how many more units can be put
   Turns : Table → ℕ → ℕ → Units → Turn
   -- it is refused
   Fails : Refusal → Turn
 
--- these units take the place of the macro that is used here, if so many can be put
+-- these units take the place of the macro that is used here, if that many can be put
 abbrev pub replaced : Table → ℕ → ℕ → Unit → List Unit → Units → Turn
 replaced table uses room u us l =
     if nat_lt room (length us) then Fails (refusal_at TooManyExpansions u.place)
@@ -73,7 +73,7 @@ turn_of Stands table uses room u l = Stays
 abbrev pub turn : Table → ℕ → ℕ → Unit → Units → Turn
 turn table uses room u l = turn_of (role_of table u.piece) table uses room u l
 
--- what units expand to where these macros hold, so many of them can be used, and so many units be put
+-- what units expand to where these macros hold; the numbers say how many macros can be used, and how many units can be put
 pub data Expands : Table → ℕ → ℕ → Units → Units → Type 0 where
   at_end : {table : Table} {uses room place : ℕ} → Expands table uses room (End place) (End place)
   at_stop : {table : Table} {uses room : ℕ} {r : Refusal} → Expands table uses room (Stop r) (Stop r)

@@ -5,15 +5,15 @@ use Rattle.latex2mathml_tex_grammar.specs.{Cutting.units_of, Expansion.Expands, 
 use Rattle.latex2mathml_tex_grammar.specs.Refusal.{MissingArgument, TooManyExpansions, refusal_at}
 use Rattle.latex2mathml_tex_grammar.specs.Units.{Open, Command, Character, Units, Next, End, Stop, unit}
 
--- the text comes to these units, where only the usual macros hold, four can be used and ten units be put
+-- the text expands to these units, where only the usual macros hold, four macros can be used and ten units can be put
 abbrev pub ExpandsTo : List ℕ → Units → Type 0
 ExpandsTo text units = Expands usual_macros 4 10 (units_of 0 text) units
 
 pub record AreExpansionExamples : Type 0 where
-  -- a definition is nothing, and holds from there on. A body has the place of the use, an argument its own.
+  -- a definition leaves nothing, and holds from there on. A body has the place of the use, an argument keeps its own.
   pub defined : ExpandsTo (codes "\\R\\def\\R#1{x#1}\\R y")
       (Next (unit (Command (codes "R")) 0) (Next (unit (Character (byte "x")) 15) (Next (unit (Character (byte "y")) 18) (End 19))))
-  -- what takes the place of a macro is read again
+  -- what replaces a macro is read again
   pub again : ExpandsTo (codes "\\def\\a{\\b}\\def\\b{z}\\a")
       (Next (unit (Character (byte "z")) 19) (End 21))
   -- a macro that uses itself is refused

@@ -7,12 +7,12 @@ use Rattle.latex2mathml_tex_grammar.specs.{DefinitionTexts.ReadsDefinitions, Rea
 use Rattle.latex2mathml_tex_grammar.specs.{Expansion.Expands, Expansion.Stands, Expansion.Turns, Expansion.role_of, Expansion.turn, Macros.Part, Macros.Fixed, Macros.Argument, Macros.Macro, Macros.Table, Macros.before, Macros.count}
 use Rattle.latex2mathml_tex_grammar.specs.Units.{Piece, Space, Open, Close, Command, Character, Unit, Units, Next}
 
--- neither a macro is used among the units nor a definition begins
+-- among the units no macro is used, and no definition begins
 abbrev pub AllStand : Table → Units → Type 0
 AllStand table (Next u l) = (role_of table u.piece ≡ Stands) × AllStand table l
 AllStand table l = ⊤
 
--- Units have exactly one expansion, whatever macros hold and however many can be used and units put.
+-- Units have exactly one expansion, whatever macros hold, and however many macros can be used and units can be put.
 pub record HasOneExpansion (table : Table) (uses room : ℕ) (l : Units) : Type 0 where
   pub some : (m : Units) × Expands table uses room l m
   pub one : (m n : Units) → Expands table uses room l m → Expands table uses room l n → m ≡ n
@@ -20,7 +20,7 @@ pub record HasOneExpansion (table : Table) (uses room : ℕ) (l : Units) : Type 
 abbrev pub HaveOneExpansion : Type 0
 HaveOneExpansion = (table : Table) (uses room : ℕ) (l : Units) → HasOneExpansion table uses room l
 
--- Definitions come to exactly one table of macros, or to exactly one refusal.
+-- Definitions have exactly one outcome: a table of macros, or a refusal.
 pub record HasOneTable (table : Table) (l : Units) : Type 0 where
   pub some : (o : Outcome Table) × ReadsDefinitions table l o
   pub one : (o p : Outcome Table) → ReadsDefinitions table l o → ReadsDefinitions table l p → o ≡ p
@@ -28,20 +28,20 @@ pub record HasOneTable (table : Table) (l : Units) : Type 0 where
 abbrev pub HaveOneTable : Type 0
 HaveOneTable = (table : Table) (l : Units) → HasOneTable table l
 
--- What stands in an expansion.
+-- What is in an expansion.
 pub record AreExpanded : Type 0 where
   -- units among which no macro is used and no definition begins are their own expansion
   pub own : (table : Table) (uses room : ℕ) (l : Units) → AllStand table l → Expands table uses room l l
   -- in an expansion no macro is used that held before it, and no definition begins
   pub done : (table : Table) (uses room : ℕ) (l m : Units) → Expands table uses room l m → AllStand table m
-  -- nor is one used that was defined by what stands first
+  -- nor is one used that was defined by what comes first
   pub behind : (table next : Table) (uses room uses_left room_left : ℕ) (u : Unit) (l n m : Units)
       → turn table uses room u l ≡ Turns next uses_left room_left n
       → Expands table uses room (Next u l) m
       → AllStand next m
-  -- so it is its own expansion
+  -- so an expansion is its own expansion
   pub again : (table : Table) (uses room : ℕ) (l m : Units) → Expands table uses room l m → Expands table uses room m m
-  -- it has no more units than stood there and can be put
+  -- it has no more units than there were before, plus those that can be put
   pub most : (table : Table) (uses room : ℕ) (l m : Units) → Expands table uses room l m → count m ≤ count l + room
 
 -- each piece of the units passes
@@ -49,18 +49,18 @@ abbrev pub EachPiece : (Piece → Type 0) → Units → Type 0
 EachPiece P (Next u l) = P u.piece × EachPiece P l
 EachPiece P l = ⊤
 
--- each of a body that stands there itself
+-- each fixed piece of a body passes
 abbrev pub EachFixed : (Piece → Type 0) → List Part → Type 0
 EachFixed P [] = ⊤
 EachFixed P (Fixed p ∷ parts) = P p × EachFixed P parts
 EachFixed P (Argument k ∷ parts) = EachFixed P parts
 
--- and each of the bodies of macros
+-- each fixed piece of the bodies of macros passes
 abbrev pub EachInTable : (Piece → Type 0) → Table → Type 0
 EachInTable P table = (name : List ℕ) (m : Macro) → table name ≡ Some m → EachFixed P m.body
 
--- What holds of each piece of the units and of the macros holds of each of the expansion, if it holds of those that a
--- definition of an operator adds.
+-- What holds of each piece of the units and of the macros holds of each piece of the expansion, if it holds of the pieces
+-- that a definition of an operator adds.
 abbrev pub AddsNothing : Type 0
 AddsNothing = (test : Piece → Bool) (table : Table) (uses room : ℕ) (l m : Units)
     → AllByRecursion (λ p. IsTrue (test p)) (Open ∷ Close ∷ Command (codes "operatorname") ∷ Character (byte "*") ∷ [])
@@ -69,7 +69,7 @@ AddsNothing = (test : Piece → Bool) (table : Table) (uses room : ℕ) (l m : U
     → Expands table uses room l m
     → EachPiece (λ p. IsTrue (test p)) m
 
--- braces in pairs, and whatever stands between them
+-- braces in pairs, and whatever is between them
 pub data IsBalanced : List Unit → Type 0 where
   empty : IsBalanced []
   piece : {u : Unit} {us : List Unit}
@@ -83,7 +83,7 @@ pub data IsBalanced : List Unit → Type 0 where
       → IsBalanced vs
       → IsBalanced (o ∷ (us ++ c ∷ vs))
 
--- The units of a group are those up to the brace that closes it: between them and in them braces stand in pairs.
+-- The units of a group are those up to the brace that closes it: among them, braces come in pairs.
 pub record AreBetweenBraces : Type 0 where
   pub taken : (place : ℕ) (l m : Units) (us : List Unit)
       → group place l 0 ≡ Read us m
@@ -93,7 +93,7 @@ pub record AreBetweenBraces : Type 0 where
       → IsBalanced us
       → group place (before us (Next c m)) 0 ≡ Read us m
 
--- White space is nothing between the parts of a definition and between the arguments of a macro.
+-- White space is ignored after the word of a definition, and before the arguments of a macro.
 pub record IsSpacePassed : Type 0 where
   pub behind_word : (word : Word) (place : ℕ) (u : Unit) (l : Units) → u.piece ≡ Space → definition_of word place (Next u l) ≡ definition_of word place l
   pub before_argument : (place n : ℕ) (u : Unit) (l : Units) → u.piece ≡ Space → arguments place (suc n) (Next u l) ≡ arguments place (suc n) l

@@ -1,5 +1,5 @@
--- What a formula is read as: the row of the atoms that its text expands to, or the refusal of it; and what a row is written
--- as. A text is its characters here.
+-- What a formula is read as: the row of the atoms that its text expands to, or its refusal; and what a row is written as.
+-- Here a text is given as its characters.
 use Rattle.std.specs.Prelude.{ℕ, Bool, true, false, IsTrue, IsFalse, List, None, map, reverse, if◌then◌else◌}
 use Rattle.std.specs.Str.{encode_utf8_all}
 use Rattle.latex2mathml_elements.specs.{Annotated.annotated_print, Element.children, Print.formula_print}
@@ -17,7 +17,7 @@ pub record IsExpansion (macros : Table) (text : List ℕ) (expanded : Units) : T
   pub spelled : HasUnits 0 text units
   pub expands : Expands macros most_uses most_units units expanded
 
--- whether a formula is refused because `&` or `\\` stands outside of all tables
+-- whether a formula is refused because `&` or `\\` occurs outside of all tables
 abbrev pub is_outside : Kind → Bool
 is_outside OutsideTable = true
 is_outside kind = false
@@ -31,8 +31,8 @@ abbrev pub alone : Style → Outcome Core → Outcome Row
 alone style (Read x l) = Read (finished style (with_atom style empty_row x.atom)) l
 alone style (Refused r) = Refused r
 
--- What the units of a formula come to: they are atoms, unless `&` or `\\` stands outside of all tables. Then they are read as
--- if they stood in `aligned`, and whatever they come to as its rows stands.
+-- The outcome of the units of a formula. They are read as atoms, unless `&` or `\\` occurs outside of all tables. Then they
+-- are read as if they were in `aligned`, and the outcome is that of its rows, whatever it is.
 pub data ReadsFormula (style : Style) (l : Units) : Outcome Row → Type 0 where
   as_atoms : {o : Outcome Row}
       → ReadsAtoms WholeText (formula_context style) empty_row l o
@@ -56,11 +56,11 @@ IsRefusal macros text style refusal = (units : Units) × IsExpansion macros text
 abbrev pub row_print : Style → Row → List ℕ
 row_print style row = formula_print (is_display style) (children (reverse row.elements))
 
--- a character of a source, or U+FFFD in place of one that XML forbids. Only comments hold such, and XML has no way to write them.
+-- a character of a source, or U+FFFD for one that XML forbids. Only comments hold such characters; XML cannot write them.
 abbrev pub source_character : ℕ → ℕ
 source_character c = if is_forbidden c then 0xFFFD else c
 
--- the source of a formula as it is written beside what is shown
+-- the source of a formula as it is written next to what is shown
 abbrev pub source_text : List ℕ → List ℕ
 source_text text = encode_utf8_all (map source_character text)
 

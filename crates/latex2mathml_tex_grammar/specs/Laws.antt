@@ -9,7 +9,7 @@ use Rattle.latex2mathml_tex_grammar.specs.{Reading.Outcome, Reading.ReadsAtoms, 
 use Rattle.latex2mathml_tex_grammar.specs.Spacing.{Alike, AreAlikeOutcomes, HaveAlikeUnits}
 use Rattle.latex2mathml_tex_grammar.specs.Units.{Units, HasUnits}
 
--- the text has exactly one list of units, which ends with the text or with the refusal of what is no unit
+-- the text has exactly one list of units, which ends with the text or with the refusal of what is not a unit
 pub record HasOneListOfUnits (text : List ℕ) : Type 0 where
   pub some : (units : Units) × HasUnits 0 text units
   pub one : (units others : Units) → HasUnits 0 text units → HasUnits 0 text others → units ≡ others
@@ -20,7 +20,7 @@ pub record AreTablesSorted : Type 0 where
   pub signs : IsTrue (ascending_numbers sign_entries)
   pub environments : IsTrue (ascending environments)
 
--- units in a context come to exactly one outcome behind a row: a longer row, or a refusal
+-- units in a context have exactly one outcome after a row: a longer row, or a refusal
 pub record HasOneOutcome (ending : Ending) (c : Context) (row : Row) (l : Units) : Type 0 where
   pub some : (o : Outcome Row) × ReadsAtoms ending c row l o
   pub one : (o p : Outcome Row) → ReadsAtoms ending c row l o → ReadsAtoms ending c row l p → o ≡ p
@@ -42,7 +42,7 @@ pub record HasOneReading (macros : Table) (text : List ℕ) (style : Style) : Ty
 abbrev pub HaveOneReading : Type 0
 HaveOneReading = (macros : Table) (text : List ℕ) (style : Style) → HasOneReading macros text style
 
--- what macros are is what each name stands for
+-- all that matters about macros is what each name means
 pub record AreMacrosTheirNames : Type 0 where
   pub readings : (macros others : Table) (text : List ℕ) (style : Style) (row : Row)
       → SameMacros macros others
@@ -55,23 +55,23 @@ pub record AreMacrosTheirNames : Type 0 where
 
 -- what a text is read as holds no character that XML forbids, whatever text defines the macros
 pub record ReadingsAreAllowed : Type 0 where
-  -- no text of an element does
+  -- no text of an element holds one
   pub elements : (definitions : List ℕ) (macros : Table) (text : List ℕ) (style : Style) (row : Row)
       → Defines definitions macros
       → IsReading macros text style row
       → AllByRecursion HasAllowedTexts row.elements
-  -- and so the markup does not, nor does it hold a dollar sign
+  -- so the markup does not hold one either, nor does it hold a dollar sign
   pub markup : (definitions : List ℕ) (macros : Table) (text : List ℕ) (style : Style) (row : Row)
       → Defines definitions macros
       → IsReading macros text style row
       → IsAllowed (row_print style row) × IsDollarFree (row_print style row)
-  -- .. also where it has the text as an annotation
+  -- and neither does the markup that has the text as an annotation
   pub markup_with_source : (definitions : List ℕ) (macros : Table) (text : List ℕ) (style : Style) (row : Row)
       → Defines definitions macros
       → IsReading macros text style row
       → IsAllowed (row_print_with_source style text row) × IsDollarFree (row_print_with_source style text row)
 
--- no macro is used in the text, and none defined
+-- no macro is used in the text, and none is defined
 abbrev pub StandsByItself : Table → List ℕ → Type 0
 StandsByItself macros text = (units : Units) × HasUnits 0 text units × AllStand macros units
 
@@ -80,18 +80,18 @@ abbrev pub HaveAlikeExpansions : Table → List ℕ → List ℕ → Type 0
 HaveAlikeExpansions macros text other =
     (l : Units) × (m : Units) × IsExpansion macros text l × IsExpansion macros other m × Alike l m
 
--- White space between the units of a formula is nothing.
+-- White space between the units of a formula is ignored.
 pub record IsSpaceNothing : Type 0 where
-  -- units are alike to themselves, and what is alike is so both ways
+  -- units are alike to themselves, and being alike goes both ways
   pub itself : (l : Units) → Alike l l
   pub turned : (l m : Units) → Alike l m → Alike m l
-  -- formulas of units that are alike but for it come to alike outcomes, in each context, behind whatever row
+  -- formulas of units that are alike but for white space have alike outcomes, in each context, after whatever row
   pub outcomes : (c : Context) (row : Row) (l m : Units) (o p : Outcome Row)
       → Alike l m
       → ReadsAtoms WholeText c row l o
       → ReadsAtoms WholeText c row m p
       → AreAlikeOutcomes o p
-  -- and texts that expand to alike units have the same reading, in each style
+  -- texts that expand to alike units have the same reading, in each style
   pub readings : (macros : Table) (text other : List ℕ) (style : Style) (row : Row)
       → HaveAlikeExpansions macros text other
       → IsReading macros text style row
@@ -101,8 +101,8 @@ pub record IsSpaceNothing : Type 0 where
       → HaveAlikeExpansions macros text other
       → IsRefusal macros text style r
       → (q : Refusal) × (r.kind ≡ q.kind) × IsRefusal macros other style q
-  -- So do texts of alike units, where no macro is used and none defined. An argument of a macro may come to stand in words,
-  -- where white space counts.
+  -- Texts of alike units expand to alike units, where no macro is used and none is defined. An argument of a macro may end up
+  -- in words, where white space counts.
   pub expansions : (macros : Table) (text other : List ℕ)
       → HaveAlikeUnits text other
       → StandsByItself macros text

@@ -2,8 +2,8 @@
 use Rattle.std.specs.Prelude.{ℕ, zero, suc, ℤ, pos, negsuc, ◌+◌, ◌-◌, ◌*◌, ◌/◌, ◌==◌, ◌&&◌, Bool, true, false, nat_lt, List, [], ◌∷◌, Option, Some, None, if◌then◌else◌}
 use Rattle.std.specs.{Char.is_ascii_digit, Str.byte}
 
--- what the characters of a length say: its sign, its digits as one number, ten for each digit behind the point, and the two
--- letters of its unit
+-- what the characters of a length say: its sign, its digits as one number, a factor of ten for each digit after the point,
+-- and the two letters of its unit
 pub record Length : Type 0 where
   pub is_negative : Bool
   pub number : ℕ
@@ -36,7 +36,7 @@ with_character l c =
     else if c == byte "-" then record l { is_negative = true }
     else record l { first = l.last; last = c }
 
--- .. and these characters behind others
+-- a length with these further characters
 abbrev pub with_all : Length → List ℕ → Length
 with_all l [] = l
 with_all l (c ∷ cs) = with_all (with_character l c) cs
@@ -83,6 +83,6 @@ within_most is_negative n = if nat_lt most_thousandths n then None else Some (si
 abbrev pub width_in : Length → Option ℤ
 width_in l = within_most l.is_negative (thousandths_of l.first l.last l.number l.scale)
 
--- the thousandths of an em in a length that is written so, unless it is too large
+-- the thousandths of an em in a length of these characters, unless it is too large
 abbrev pub width_of : List ℕ → Option ℤ
 width_of cs = width_in (length_of cs)

@@ -1,16 +1,16 @@
--- Macros: what a name stands for, and what takes the place of its use.
+-- Macros: what a name means, and what takes the place of its use.
 use Rattle.std.specs.Prelude.{◌≡◌, ℕ, zero, suc, List, [], ◌∷◌, ◌++◌, Option, Some, None, if◌then◌else◌}
 use Rattle.std.specs.Str.{bytes_eq}
 use Rattle.latex2mathml_tex_grammar.specs.Units.{Piece, Command, Unit, unit, Units, Next}
 
 -- a part of a body
 pub data Part : Type 0 where
-  -- a piece that stands there as it is
+  -- a piece, as it is
   Fixed : Piece → Part
-  -- an argument, by its number, which is counted from 0
+  -- an argument, by its number, counted from 0
   Argument : ℕ → Part
 
--- how many arguments a macro takes, and what takes its place
+-- how many arguments a macro takes, and what replaces it
 pub record Macro : Type 0 where
   pub arity : ℕ
   pub body : List Part
@@ -18,15 +18,15 @@ pub record Macro : Type 0 where
 abbrev pub macro : ℕ → List Part → Macro
 macro arity body = record { arity = arity; body = body }
 
--- the macros that hold: what each name stands for, where it is a macro's. A name is its bytes, without the backslash.
+-- the macros that hold: what each name means, where it is the name of one. A name is its bytes, without the backslash.
 abbrev pub Table : Type 0
 Table = List ℕ → Option Macro
 
--- each name stands for the same
+-- each name means the same in both
 abbrev pub SameMacros : Table → Table → Type 0
 SameMacros macros others = (name : List ℕ) → macros name ≡ others name
 
--- from here on the name stands for this macro, whatever it stood for
+-- from here on the name means this macro, whatever it meant before
 abbrev pub with_macro : List ℕ → Macro → Table → Table
 with_macro name m table other = if bytes_eq name other then Some m else table other
 
@@ -46,12 +46,12 @@ abbrev pub put_part : List (List Unit) → ℕ → Part → List Unit
 put_part args place (Fixed piece) = unit piece place ∷ []
 put_part args place (Argument k) = argument_at args k
 
--- what takes the place of a macro that is used with these arguments at this place
+-- what replaces a macro that is used with these arguments at this place
 abbrev pub put : List (List Unit) → ℕ → List Part → List Unit
 put args place [] = []
 put args place (part ∷ parts) = put_part args place part ++ put args place parts
 
--- these units, and then those
+-- these units, then those
 abbrev pub before : List Unit → Units → Units
 before [] l = l
 before (u ∷ us) l = Next u (before us l)

@@ -9,7 +9,7 @@ use Rattle.latex2mathml_tex_grammar.specs.Atoms.{Atom, Kind, SignOf, PlusOrMinus
 use Rattle.latex2mathml_tex_grammar.specs.Meaning.{FractionRule, Bar, NoBar, Braced, Bracketed, Bare, LimitPlace, Beside, ByStyle, Movable, Stacked, Box, Phantom, PhantomWidth, PhantomHeight, Smashed, WithoutHeight, WithoutDepth, OverRight, OverLeft, OverBoth, Frame, StrikeUp, StrikeDown, StrikeTwice, Raised, Colored, OnColor}
 use Rattle.latex2mathml_tex_grammar.specs.Symbols.{Class, Ordinary, Operator, Binary, Relation, Opening, Closing, Punctuation, Inner, Style, InDisplay, InText, InScript, Alphabet, Upright, Symbol, Letter, UprightLetter, Sign, BigOperator, Integral}
 
--- an atom, and where its limits stand
+-- an atom, and where its limits are
 pub record Core : Type 0 where
   pub atom : Atom
   pub limits : LimitPlace
@@ -60,7 +60,7 @@ stretches c = c == 0x7C || c == 0x2223 || c == 0x2225  -- | ∣ ∥
 abbrev pub rigid : ℕ → Attributes
 rigid c = if stretches c then record plain { stretch = Some Rigid } else plain
 
--- the signs around an operand at which browsers leave a space, and TeX does not: relations, and those that they do not know
+-- the signs around an operand at which browsers leave a space and TeX does not: relations, and signs that browsers do not know
 abbrev pub leaves_space : ℕ → Bool
 leaves_space c = c == 0x3F || c == 0x2223 || c == 0x2225  -- ? ∣ ∥
     || c == 0x231C || c == 0x231D || c == 0x231E || c == 0x231F  -- ⌜ ⌝ ⌞ ⌟
@@ -83,7 +83,7 @@ sign_attributes Operator c = plain
 sign_attributes Binary c = rigid c
 sign_attributes Relation c = rigid c
 
--- plus, minus, and both of both
+-- plus, minus, plus-minus and minus-plus
 abbrev pub is_plus_or_minus : ℕ → Bool
 is_plus_or_minus c = c == 0x2B || c == 0x2212 || c == 0xB1 || c == 0x2213
 
@@ -111,11 +111,11 @@ function_name limits name = operator limits (atom FunctionWord false (token Mi p
 abbrev pub spacing : ℤ → Atom
 spacing width = atom Blank false (space width)
 
--- a space of so many thousandths of an em
+-- a space of this many thousandths of an em
 abbrev pub blank : ℤ → Atom
 blank width = atom Blank false (rectangle (wide width))
 
--- a stroke through a token, U+0338; what is no token has none
+-- a stroke through a token, U+0338; what is not a token has none
 abbrev pub struck : Element → Option Element
 struck (token t a sign_text) = Some (token t a (sign_text ++ text 0x0338))
 struck x = None
@@ -159,7 +159,7 @@ in_box (Raised height) x = container Mpadded (record plain { raised = height }) 
 in_box (Colored color) x = container Mstyle (record plain { color = Some color }) (children (x ∷ []))
 in_box (OnColor color) x = container Mpadded (record plain { background = Some color }) (children (x ∷ []))
 
--- an operand in a box, which is ordinary
+-- an operand in a box, as an ordinary atom
 abbrev pub boxed_atom : Box → Operand → Atom
 boxed_atom box x = atom (Plain Ordinary) x.high (in_box box x.element)
 
@@ -192,7 +192,7 @@ brace side mark x =
 abbrev pub stack : Side → Class → Element → Element → Core
 stack side class mark base = core (atom (Plain class) true (on_side side plain base mark))
 
--- an arrow as long as the longer of what stands above it and below it, a relation
+-- an arrow as long as the longer of what is above it and below it; a relation
 abbrev pub arrow_sign : ℕ → Element
 arrow_sign sign_character = token Mo (record plain { stretch = Some Stretching }) (text sign_character)
 
@@ -247,8 +247,8 @@ fraction_element Bare above below = without_bar above below
 abbrev pub fraction : FractionRule → Option Style → Element → Element → Core
 fraction rule own above below = core (atom (Plain Inner) true (in_style own (fraction_element rule above below)))
 
--- how an author says that a fraction is drawn: its delimiters, of which an empty text is none, whether it has a line, and its
--- style, where it has one of its own
+-- how a fraction is drawn, as its author says: its delimiters, of which an empty text is none, whether it has a line, and
+-- its style, where it has one of its own
 pub record Outline : Type 0 where
   pub opening : List ℕ
   pub closing : List ℕ
@@ -259,7 +259,7 @@ abbrev pub quotient : Bool → Element → Element → Element
 quotient true above below = pair Mfrac plain above below
 quotient false above below = without_bar above below
 
--- an element between delimiters, where there is any
+-- an element between delimiters, where there are any
 abbrev pub between_any : List ℕ → List ℕ → Element → Element
 between_any [] [] x = x
 between_any opening closing x = fenced true opening closing x
@@ -278,7 +278,7 @@ root degree x = core (atom (Plain Ordinary) true (pair Mroot plain x degree))
 abbrev pub divider : List ℕ → Atom
 divider sign_text = atom Divider false (token Mo (record plain { stretch = Some Stretching; fence = true; space = Some Narrow }) sign_text)
 
--- it does not stretch where nothing beside it is high
+-- it does not stretch where nothing in its row is high
 abbrev pub lowered_divider : Element → Element
 lowered_divider (token t a sign_text) = token t (if a.fence then record a { stretch = Some Rigid } else a) sign_text
 lowered_divider x = x
@@ -302,13 +302,13 @@ sized size class sign_text =
 
 -- Scripts
 
--- what stands after an atom: primes, scripts, and where its limits are to stand
+-- what follows an atom: primes, scripts, and where its limits are to be
 pub record Scripts : Type 0 where
   pub primes : ℕ
   pub below : Option Element
   pub above : Option Element
   pub limits : LimitPlace
-  -- whether it can be said where they are to stand
+  -- whether a command may say where they are to be
   pub takes_limits : Bool
 
 -- an operator has limits
@@ -322,7 +322,7 @@ takes_limits kind = false
 abbrev pub no_scripts : Kind → LimitPlace → Scripts
 no_scripts kind limits = record { primes = 0; below = None; above = None; limits = limits; takes_limits = takes_limits kind }
 
--- so many primes as one text
+-- this many primes as one text
 abbrev pub primes_text : ℕ → List ℕ
 primes_text zero = []
 primes_text (suc n) = primes_text n ++ text 0x2032
@@ -331,7 +331,7 @@ abbrev pub prime_mark : ℕ → Element
 prime_mark primes =
     token Mo (record plain { space = Some NoSpace }) (if primes == 2 then text 0x2033 else if primes == 3 then text 0x2034 else if primes == 4 then text 0x2057 else primes_text primes)
 
--- a superscript behind the primes that stand before it
+-- a superscript after the primes that precede it
 abbrev pub behind_primes : ℕ → Element → Element
 behind_primes zero x = x
 behind_primes (suc n) x = row_element (x ∷ prime_mark (suc n) ∷ [])
@@ -342,7 +342,7 @@ superscript primes (Some x) = Some x
 superscript zero None = None
 superscript (suc n) None = Some (prime_mark (suc n))
 
--- whether scripts stand below and above
+-- whether scripts are placed below and above
 abbrev pub are_stacked : Style → LimitPlace → Bool
 are_stacked style Beside = false
 are_stacked InDisplay ByStyle = true
@@ -350,7 +350,7 @@ are_stacked style ByStyle = false
 are_stacked style Movable = true
 are_stacked style Stacked = true
 
--- a base whose limits the browser is not to move
+-- a base whose limits the browser must not move
 abbrev pub fixed_base : LimitPlace → Element → Element
 fixed_base Stacked (token Mo a sign_text) = token Mo (record a { limits_stay = true }) sign_text
 fixed_base limits x = x
@@ -364,12 +364,12 @@ with_scripts false base (Some below) None = pair Msub plain base below
 with_scripts false base None (Some above) = pair Msup plain base above
 with_scripts false base (Some below) (Some above) = triple Msubsup plain base below above
 
--- what an atom that is changed is to its neighbours: letters are no part of a word
+-- what a changed atom is to its neighbours: letters are not part of a word
 abbrev pub no_letters : Kind → Kind
 no_letters UprightLetters = Plain Ordinary
 no_letters kind = kind
 
--- and with scripts a sign is no `mo` of its own
+-- what an atom with scripts is to its neighbours: a sign is not an `mo` of its own either
 abbrev pub scripted_kind : Kind → Kind
 scripted_kind (SignOf class) = Plain class
 scripted_kind PlusOrMinus = Plain Binary
@@ -380,6 +380,6 @@ scripted_atom style base scripts None None = base
 scripted_atom style base scripts below above =
     atom (scripted_kind base.kind) true (with_scripts (are_stacked style scripts.limits) (fixed_base scripts.limits base.element) below above)
 
--- an atom with what stands after it
+-- an atom with what follows it
 abbrev pub scripted : Style → Atom → Scripts → Atom
 scripted style base scripts = scripted_atom style base scripts scripts.below (superscript scripts.primes scripts.above)

@@ -4,7 +4,7 @@ use Rattle.latex2mathml_elements.specs.Colors.{Color}
 use Rattle.latex2mathml_elements.specs.Attributes.{Side, Stretch, Size}
 use Rattle.latex2mathml_tex_grammar.specs.Symbols.{Class, Style, Alphabet, Symbol}
 
--- whether a fraction has its bar, or has none: then parentheses, braces, brackets or nothing stand around it
+-- whether a fraction has its bar, and if it has none, what is around it: parentheses, braces, brackets or nothing
 pub data FractionRule : Type 0 where
   Bar : FractionRule
   NoBar : FractionRule
@@ -12,8 +12,8 @@ pub data FractionRule : Type 0 where
   Bracketed : FractionRule
   Bare : FractionRule
 
--- where the limits of an operator stand: beside it; in display style above and below it; above and below it, where the
--- browser moves them beside it in text; always above and below it
+-- where the limits of an operator are: next to it; above and below it in display style; above and below it, but in text the
+-- browser moves them next to it; always above and below it
 pub data LimitPlace : Type 0 where
   Beside : LimitPlace
   ByStyle : LimitPlace
@@ -24,24 +24,24 @@ pub data LimitPlace : Type 0 where
 pub data Change : Type 0 where
   -- letters and digits are in an alphabet
   ToAlphabet : Alphabet → Change
-  -- all is in a style
+  -- everything is in a style
   ToStyle : Style → Change
-  -- all is the lower part of a fraction, and what stands before it the upper one
+  -- everything is the lower part of a fraction, and what precedes it is the upper part
   Divides : FractionRule → Change
-  -- all is in the color that stands next
+  -- everything is in the color that comes next
   ToColor : Change
 
--- what is made of the box of an operand
+-- what becomes of the box of an operand
 pub data Box : Type 0 where
-  -- it is not seen; of its box, all is kept, or its width alone, or its height and depth alone
+  -- it is invisible, and keeps its whole box; or only its width; or only its height and depth
   Phantom : Box
   PhantomWidth : Box
   PhantomHeight : Box
-  -- it has no height and no depth, no height, no depth
+  -- it has no height and no depth; or no height; or no depth
   Smashed : Box
   WithoutHeight : Box
   WithoutDepth : Box
-  -- it has no width, and reaches over what stands to the right of it, to the left, or on both sides
+  -- it has no width, and reaches over what is to its right, to its left, or on both sides
   OverRight : Box
   OverLeft : Box
   OverBoth : Box
@@ -51,9 +51,9 @@ pub data Box : Type 0 where
   StrikeUp : Box
   StrikeDown : Box
   StrikeTwice : Box
-  -- it stands so many thousandths of an em above its place
+  -- it is raised above its place by this many thousandths of an em
   Raised : ℤ → Box
-  -- it is in a color, or lies on one
+  -- it is in this color, or on a background of this color
   Colored : Color → Box
   OnColor : Color → Box
 
@@ -66,20 +66,20 @@ pub data Meaning : Type 0 where
   Dots : Meaning
   -- a space, in eighteenths of an em
   Spacing : ℤ → Meaning
-  -- a space as wide as the length that stands next; .. that stands next in braces
+  -- a space as wide as the length that comes next, or that comes next in braces
   Skip : Meaning
   SkipInBraces : Meaning
-  -- its operand in a box; one without height or depth
+  -- its operand in a box; or in a box without height or depth
   Boxed : Box → Meaning
   Smash : Meaning
-  -- its operand, raised by the length that stands next in braces
+  -- its operand, raised by the length that comes next in braces
   Raise : Meaning
-  -- its operand in the color that stands next, or on it
+  -- its operand in the color that comes next, or on a background of that color
   InColor : Meaning
   Highlight : Meaning
   -- a black rectangle of two lengths in braces; a length in brackets before them raises it
   Rectangle : Meaning
-  -- an arrow that is as long as what stands above it, and below it in brackets
+  -- an arrow as long as what is above it, and as what is below it, which is given in brackets
   Arrow : ℕ → Meaning
   -- its operand in an alphabet
   Styled : Alphabet → Meaning
@@ -87,9 +87,9 @@ pub data Meaning : Type 0 where
   Words : Option Alphabet → Meaning
   -- a fraction, which may have a style of its own
   Fraction : FractionRule → Option Style → Meaning
-  -- a fraction in the style of a block, whose numerator may be pushed to a side
+  -- a fraction in display style, whose numerator may be pushed to a side
   ContinuedFraction : Meaning
-  -- a fraction whose delimiters, line and style its author says
+  -- a fraction whose delimiters, line and style the author gives
   GeneralFraction : Meaning
   Root : Meaning
   -- a mark on one operand
@@ -98,10 +98,10 @@ pub data Meaning : Type 0 where
   Brace : Side → ℕ → Meaning
   -- a first operand above or below the second
   Stack : Side → Meaning
-  -- a first operand above the second, which both are a relation
+  -- a first operand above the second; together they are a relation
   StackedRelation : Meaning
   OperatorName : Meaning
-  -- a stroke through the relation that follows, and through an operand
+  -- a stroke through the relation that follows, or through an operand
   Negation : Meaning
   Slash : Meaning
   -- a delimiter of this size and class
@@ -115,7 +115,7 @@ pub data Meaning : Type 0 where
   NoLimits : Meaning
   -- its operand as an atom of this class
   Classed : Class → Meaning
-  -- a change of what stands after it in its group
+  -- a change of what follows it in its group
   Changes : Change → Meaning
   -- a table, and its end
   BeginTable : Meaning
@@ -125,7 +125,7 @@ pub data Meaning : Type 0 where
   -- rows in braces
   Substack : Meaning
 
--- whether words stand behind a command
+-- whether a command with this meaning is followed by words
 abbrev pub takes_words : Option Meaning → Bool
 takes_words (Some (Words alphabet)) = true
 takes_words meaning = false

@@ -1,5 +1,5 @@
--- Reading: what units come to, atoms or a refusal. The table of rules says what each unit begins; the relations here say
--- how rules are read, and they are the same for every rule. White space in formulas is nothing.
+-- Reading: the outcome of units, which is atoms or a refusal. The table of rules says what each unit begins; the relations
+-- here say how rules are read, and they are the same for every rule. White space in formulas is ignored.
 use Rattle.std.specs.Prelude.{◌≡◌, ℕ, Bool, true, false, IsTrue, IsFalse, List, [], ◌∷◌, length, Option, Some, None}
 use Rattle.latex2mathml_elements.specs.{Columns.Columns, Element.Element}
 use Rattle.latex2mathml_tex_grammar.specs.{Atoms.Atom, Delimiters.delimiter_of, Rows.Row, Rows.empty_row, Rows.row_element, Rows.with_atom, Rows.Operand, Rows.operand_of, Rows.single}
@@ -21,7 +21,7 @@ pub data Outcome (A : Type 0) : Type 0 where
   Refused : Refusal → Outcome A
 
 mutual
-  -- what the parts of a rule come to
+  -- the outcome of the parts of a rule
   pub data ReadsRule : Rule → Units → Outcome Core → Type 0 where
     -- nothing more is read
     rule_gives : {x : Core} {l : Units}
@@ -29,7 +29,7 @@ mutual
     -- the formula is refused here
     rule_refuses : {r : Refusal} {l : Units}
         → ReadsRule (refuses r) l (Refused r)
-    -- the operand is read, and what follows it stands after
+    -- the operand is read, then what follows it
     operand_read : {place : ℕ} {c : Context} {then : Operand → Rule} {l m : Units} {x : Operand} {o : Outcome Core}
         → ReadsOperand place c l (Read x m)
         → ReadsRule (then x) m o
@@ -37,7 +37,7 @@ mutual
     operand_refused : {place : ℕ} {c : Context} {then : Operand → Rule} {l : Units} {r : Refusal}
         → ReadsOperand place c l (Refused r)
         → ReadsRule (reads_operand place c then) l (Refused r)
-    -- an atom without scripts is read, and what follows it stands after
+    -- an atom without scripts is read, then what follows it
     core_read : {place : ℕ} {c : Context} {then : Core → Rule} {l m n : Units} {u : Unit} {x : Core} {o : Outcome Core}
         → past_space l ≡ Next u m
         → ReadsRule (rule u.place c u.piece) m (Read x n)
@@ -53,7 +53,7 @@ mutual
     core_stopped : {place : ℕ} {c : Context} {then : Core → Rule} {l : Units} {r : Refusal}
         → past_space l ≡ Stop r
         → ReadsRule (reads_core place c then) l (Refused r)
-    -- the atoms are read up to their ending, and what follows them stands after
+    -- the atoms are read up to their ending, then what follows them
     atoms_read : {ending : Ending} {c : Context} {then : Row → Rule} {l m : Units} {row : Row} {o : Outcome Core}
         → ReadsAtoms ending c empty_row l (Read row m)
         → ReadsRule (then row) m o
@@ -61,7 +61,7 @@ mutual
     atoms_refused : {ending : Ending} {c : Context} {then : Row → Rule} {l : Units} {r : Refusal}
         → ReadsAtoms ending c empty_row l (Refused r)
         → ReadsRule (reads_atoms ending c then) l (Refused r)
-    -- the words are read, and what follows them stands after. White space before them is nothing.
+    -- the words are read, then what follows them. White space before the words is ignored.
     words_read : {place : ℕ} {a : Option Alphabet} {then : Words → Rule} {l m : Units} {ws : Words} {o : Outcome Core}
         → ReadsWord place a no_words (past_space l) (Read ws m)
         → ReadsRule (then ws) m o
@@ -69,31 +69,31 @@ mutual
     words_refused : {place : ℕ} {a : Option Alphabet} {then : Words → Rule} {l : Units} {r : Refusal}
         → ReadsWord place a no_words (past_space l) (Refused r)
         → ReadsRule (reads_words place a then) l (Refused r)
-    -- the units stand next, and the first rule goes on after them
+    -- the units come next, and the first rule goes on after them
     units_taken : {tests : List (Piece → Option (List ℕ))} {then : List ℕ → Rule} {otherwise : Rule} {l m : Units} {texts : List ℕ} {o : Outcome Core}
         → next_are tests l ≡ Some (texts, m)
         → ReadsRule (then texts) m o
         → ReadsRule (takes_if tests then otherwise) l o
-    -- they do not stand next, and the second rule goes on
+    -- they do not come next, and the second rule goes on
     units_missing : {tests : List (Piece → Option (List ℕ))} {then : List ℕ → Rule} {otherwise : Rule} {l : Units} {o : Outcome Core}
         → next_are tests l ≡ None
         → ReadsRule otherwise l o
         → ReadsRule (takes_if tests then otherwise) l o
-    -- a unit that passes the test stands next, and the first rule goes on
+    -- a unit that passes the test comes next, and the first rule goes on
     unit_follows : {test : Piece → Bool} {then otherwise : Rule} {l : Units} {o : Outcome Core}
         → follows test l ≡ true
         → ReadsRule then l o
         → ReadsRule (if_follows test then otherwise) l o
-    -- it does not stand next, and the second rule goes on
+    -- no such unit comes next, and the second rule goes on
     no_unit_follows : {test : Piece → Bool} {then otherwise : Rule} {l : Units} {o : Outcome Core}
         → follows test l ≡ false
         → ReadsRule otherwise l o
         → ReadsRule (if_follows test then otherwise) l o
-    -- the digits that stand next are taken
+    -- the digits that come next are taken
     digits_taken : {then : List ℕ → Rule} {l : Units} {o : Outcome Core}
         → ReadsRule (then (digits_next l).0) (digits_next l).1 o
         → ReadsRule (takes_digits then) l o
-    -- a delimiter stands next, and is taken
+    -- a delimiter comes next, and is taken
     delimiter_taken : {then : List ℕ → Rule} {l m : Units} {sign_text : List ℕ} {o : Outcome Core}
         → next_are (delimiter_of ∷ []) l ≡ Some (sign_text, m)
         → ReadsRule (then sign_text) m o
@@ -101,7 +101,7 @@ mutual
     delimiter_missing : {then : List ℕ → Rule} {l : Units}
         → next_are (delimiter_of ∷ []) l ≡ None
         → ReadsRule (takes_delimiter then) l (Refused (refusal_here MissingDelimiter (past_space l)))
-    -- what is found stands next, and is taken
+    -- what is to be found comes next, and is taken
     found_taken : {spot : Spot} {place : ℕ} {then : List ℕ → Rule} {l m : Units} {text : List ℕ} {o : Outcome Core}
         → scan place l spot ≡ Given text m
         → ReadsRule (then text) m o
@@ -109,17 +109,17 @@ mutual
     found_refused : {spot : Spot} {place : ℕ} {then : List ℕ → Rule} {l : Units} {r : Refusal}
         → scan place l spot ≡ Missing r
         → ReadsRule (takes_found spot place then) l (Refused r)
-    -- what is found is nothing, and the rule goes on behind it
+    -- what is found is ignored, and the rule goes on after it
     passed_over : {spot : Spot} {then : Rule} {l : Units} {o : Outcome Core}
         → ReadsRule then (past spot l) o
         → ReadsRule (passes_over spot then) l o
-    -- the rows are read up to their end, which is taken, and what follows it stands after
+    -- the rows are read up to their end, which is taken, then what follows it
     rows_read : {end : TableEnd} {place : ℕ} {columns : Columns} {c : Context} {then : Lines → ℕ → Rule} {l m n : Units} {u : Unit} {lines : Lines} {o : Outcome Core}
         → ReadsRows end place columns c [] [] (past BeforeRow l) (Read lines m)
         → past_space m ≡ Next u n
         → ReadsRule (then lines u.place) n o
         → ReadsRule (reads_rows end place columns c then) l o
-    -- .. the end of the text is the end of rows that are a whole text
+    -- rows that are a whole text end with the text
     rows_to_end : {end : TableEnd} {place at : ℕ} {columns : Columns} {c : Context} {then : Lines → ℕ → Rule} {l m : Units} {lines : Lines} {o : Outcome Core}
         → ReadsRows end place columns c [] [] (past BeforeRow l) (Read lines m)
         → past_space m ≡ End at
@@ -129,7 +129,7 @@ mutual
         → ReadsRows end place columns c [] [] (past BeforeRow l) (Refused r)
         → ReadsRule (reads_rows end place columns c then) l (Refused r)
 
-  -- what an operand comes to, where this place takes it: a group, one digit, or an atom without scripts
+  -- the outcome of an operand, which is a group, one digit, or an atom without scripts; the place is that of what takes it
   pub data ReadsOperand : ℕ → Context → Units → Outcome Operand → Type 0 where
     group_operand : {place : ℕ} {c : Context} {l m n : Units} {u : Unit} {row : Row}
         → past_space l ≡ Next u m
@@ -166,9 +166,9 @@ mutual
         → past_space l ≡ Stop r
         → ReadsOperand place c l (Refused r)
 
-  -- what stands after an atom with these scripts comes to
+  -- the outcome of an atom with these scripts and what follows them
   pub data ReadsScripts : Context → Atom → Scripts → Units → Outcome Atom → Type 0 where
-    -- no mark stands next
+    -- no mark comes next
     scripts_end : {c : Context} {base : Atom} {scripts : Scripts} {l : Units}
         → step_next scripts (past_space l) ≡ None
         → ReadsScripts c base scripts l (Read (scripted c.style base scripts) l)
@@ -190,13 +190,13 @@ mutual
         → step_of_mark scripts (mark_of u.piece) ≡ Some (TakesOperand with_operand)
         → ReadsOperand u.place (styled c InScript) m (Refused r)
         → ReadsScripts c base scripts l (Refused r)
-    -- a second script, or limits of what is no operator
+    -- a second script, or limits of what is not an operator
     mark_refused : {c : Context} {base : Atom} {scripts : Scripts} {kind : Kind} {l m : Units} {u : Unit}
         → past_space l ≡ Next u m
         → step_of_mark scripts (mark_of u.piece) ≡ Some (Forbidden kind)
         → ReadsScripts c base scripts l (Refused (refusal_at kind u.place))
 
-  -- what the atom comes to that this unit begins, before these units
+  -- the outcome of the atom that this unit begins, followed by these units
   pub data ReadsAtom : Ending → Context → Unit → Units → Outcome Atom → Type 0 where
     divider_read : {ending : Ending} {c : Context} {u : Unit} {l m : Units} {x : Core}
         → atom_start ending u.piece ≡ DividerStart
@@ -220,7 +220,7 @@ mutual
         → ReadsRule (rule u.place c u.piece) l (Refused r)
         → ReadsAtom ending c u l (Refused r)
 
-  -- what a row comes to with the atoms that stand here, up to their ending, which is taken, unless it ends a cell
+  -- the outcome of a row with the atoms that follow, up to their ending, which is taken unless it ends a cell
   pub data ReadsAtoms : Ending → Context → Row → Units → Outcome Row → Type 0 where
     -- a formula that is the whole text ends with it, and so do its rows
     text_ends : {ending : Ending} {c : Context} {row : Row} {l : Units} {at : ℕ}
@@ -250,7 +250,7 @@ mutual
         → IsFalse (ends ending u.piece)
         → ReadsAtom ending c u m (Refused r)
         → ReadsAtoms ending c row l (Refused r)
-    -- a change, and what stands after it
+    -- a change, and what follows it
     rest_read : {ending : Ending} {c d : Context} {row xs : Row} {change : Change} {l m n : Units} {u : Unit} {o : Outcome Row}
         → past_space l ≡ Next u m
         → IsFalse (ends ending u.piece)
@@ -265,8 +265,8 @@ mutual
         → rest_of change c row u.place m ≡ NoRest r
         → ReadsAtoms ending c row l (Refused r)
 
-  -- what a table comes to with these rows and these cells of the next one, and those that stand here, up to its end, which
-  -- is left
+  -- the outcome of a table with these rows and these cells of the next row, and with those that follow, up to its end, which
+  -- is not taken
   pub data ReadsRows : TableEnd → ℕ → Columns → Context → List Element → List Element → Units → Outcome Lines → Type 0 where
     cell_read : {end : TableEnd} {place : ℕ} {columns : Columns} {c : Context} {rows cells : List Element} {l m : Units} {row : Row} {o : Outcome Lines}
         → ReadsAtoms (InCell end place) c (begun_cell columns (length cells)) l (Read row m)
@@ -276,30 +276,30 @@ mutual
         → ReadsAtoms (InCell end place) c (begun_cell columns (length cells)) l (Refused r)
         → ReadsRows end place columns c rows cells l (Refused r)
 
-  -- what it comes to behind one more cell, of these elements
+  -- the outcome of a table after one more cell, of these elements
   pub data ReadsBehindCell : TableEnd → ℕ → Columns → Context → List Element → List Element → List Element → Units → Outcome Lines → Type 0 where
     next_cell : {end : TableEnd} {place : ℕ} {columns : Columns} {c : Context} {rows cells cell : List Element} {l m : Units} {u : Unit} {o : Outcome Lines}
         → past_space l ≡ Next u m
         → cell_end u.piece ≡ PartsCells
         → ReadsRows end place columns c rows (row_element cell ∷ cells) m o
         → ReadsBehindCell end place columns c rows cells cell l o
-    -- a row of these cells, and those after it
+    -- a row of these cells, and the rows after it
     next_row : {end : TableEnd} {place : ℕ} {columns : Columns} {c : Context} {rows cells cell : List Element} {l m : Units} {u : Unit} {o : Outcome Lines}
         → past_space l ≡ Next u m
         → cell_end u.piece ≡ EndsRow
         → ReadsRows end place columns c (a_row (row_element cell ∷ cells) ∷ rows) [] (past_break m) o
         → ReadsBehindCell end place columns c rows cells cell l o
-    -- the end of the table is left
+    -- the end of the table is not taken
     table_ends : {end : TableEnd} {place : ℕ} {columns : Columns} {c : Context} {rows cells cell : List Element} {l m : Units} {u : Unit}
         → past_space l ≡ Next u m
         → cell_end u.piece ≡ EndsTable
         → ReadsBehindCell end place columns c rows cells cell l (Read (with_last rows cells cell) l)
-    -- .. and so is that of the text, with which other cells cannot end
+    -- neither is the end of the text; only the cells of rows that are a whole text can end with it
     text_ends_table : {end : TableEnd} {place at : ℕ} {columns : Columns} {c : Context} {rows cells cell : List Element} {l : Units}
         → past_space l ≡ End at
         → ReadsBehindCell end place columns c rows cells cell l (Read (with_last rows cells cell) l)
 
-  -- what words come to with one part after them, in an alphabet, where this place takes it. White space counts.
+  -- the outcome of words with one more part, in an alphabet; the place is that of what takes the part. White space counts.
   pub data ReadsWord : ℕ → Option Alphabet → Words → Units → Outcome Words → Type 0 where
     word_stands : {place : ℕ} {a : Option Alphabet} {ws : Words} {l : Units} {u : Unit} {w : Word}
         → word_rule a u.piece ≡ IsWord w
@@ -331,7 +331,7 @@ mutual
     word_stopped : {place : ℕ} {a : Option Alphabet} {ws : Words} {r : Refusal}
         → ReadsWord place a ws (Stop r) (Refused r)
 
-  -- what words come to with those that stand here, up to their brace, which is taken, where they begin at this place
+  -- the outcome of words with those that follow, up to their brace, which is taken; the place is where they begin
   pub data ReadsWords : ℕ → Option Alphabet → Words → Units → Outcome Words → Type 0 where
     words_end : {place : ℕ} {a : Option Alphabet} {ws : Words} {l : Units} {u : Unit}
         → IsTrue (is_close u.piece)

@@ -9,7 +9,7 @@ pub data Kind : Type 0 where
   ForbiddenCharacter : ℕ → Kind
   -- no command has this name
   UnknownCommand : List ℕ → Kind
-  -- what a command or a sign takes does not stand there
+  -- what a command or a sign takes is not there
   MissingArgument : Kind
   -- what begins here does not end
   UnclosedBrace : Kind
@@ -20,56 +20,56 @@ pub data Kind : Type 0 where
   UnopenedBrace : Kind
   RightWithoutLeft : Kind
   MiddleWithoutLeft : Kind
-  -- `\limits` or its like that stands after no operator
+  -- `\limits` or the like that does not follow an operator
   LimitsWithoutOperator : Kind
   -- a second script of one atom
   SecondSubscript : Kind
   SecondSuperscript : Kind
-  -- no length stands where one is to stand
+  -- there is no length where there has to be one
   MissingLength : Kind
   -- a length of more than 16384 points
   LengthTooLarge : Kind
   -- no color has this name
   UnknownColor : List ℕ → Kind
-  -- what changes the rest of its group stands where an argument is to stand
+  -- what changes the rest of its group is where an argument has to be
   ChangeAsArgument : Kind
-  -- a second `\over` or its like in one group
+  -- a second `\over` or the like in one group
   SecondInfix : Kind
-  -- no delimiter stands here
+  -- there is no delimiter here
   MissingDelimiter : Kind
-  -- what stands after `\not` takes no stroke
+  -- what follows `\not` takes no stroke
   NothingToNegate : Kind
-  -- a sign that stands in tables alone
+  -- a sign that is allowed in tables only
   OutsideTable : Kind
-  -- no name stands behind `\begin` or `\end`
+  -- no name follows `\begin` or `\end`
   MissingName : Kind
   -- no environment has this name
   UnknownEnvironment : List ℕ → Kind
   BeginWithoutEnd : Kind
   EndWithoutBegin : Kind
-  -- what has begun with one name ends with another
+  -- what begins with one name ends with another
   OtherName : Kind
-  -- what stands among columns is none
+  -- what is among columns is not a column
   UnknownColumn : Kind
   TooManyColumns : Kind
   -- a character that has no meaning in a formula
   MisplacedCharacter : ℕ → Kind
-  -- what cannot stand in words
+  -- what is not allowed in words
   CommandInWords : List ℕ → Kind
   CharacterInWords : ℕ → Kind
-  -- more macros are used than can be, or they put more units than can be: either way the expansion may never end
+  -- too many macros are used, or they put too many units: either way the expansion may never end
   TooManyExpansions : Kind
-  -- what a definition is to define is no name
+  -- what a definition is to define is not a name
   MissingMacroName : Kind
-  -- what stands before the body of a definition does not say how many arguments there are
+  -- what precedes the body of a definition does not say how many arguments there are
   WrongParameters : Kind
   -- an argument that may be left out
   OptionalArgument : Kind
   -- an argument that ends before some sign
   DelimitedArgument : Kind
-  -- a body asks for an argument that is not there
+  -- a body asks for an argument that does not exist
   UnknownParameter : Kind
-  -- what stands among definitions is none
+  -- what is among definitions is not a definition
   NoDefinition : Kind
 
 -- a kind, and the byte of the text where what is refused begins

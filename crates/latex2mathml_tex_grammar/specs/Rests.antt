@@ -1,4 +1,4 @@
--- What a change makes of what stands after it in its group: the context and the row that it is read in, and what row the
+-- What a change makes of what follows it in its group: the context and the row in which that is read, and what row the
 -- group is at its end.
 use Rattle.std.specs.Prelude.{ℕ, Bool, true, false, List, [], ◌∷◌, reverse, Option, Some, None}
 use Rattle.latex2mathml_elements.specs.{Colors.Color, Element.Element, Element.Mstyle, Element.container, Element.children}
@@ -36,7 +36,7 @@ abbrev pub color_after : Option Restyled → Option Color
 color_after None = None
 color_after (Some change) = change.color
 
--- a row that is read in this style up to here: what stands after its last change is one element
+-- a row that is read in this style up to here: what follows its last change is one element
 abbrev pub settled_after : Option Restyled → Style → Row → Row
 settled_after None style row = row
 settled_after (Some change) style row = record row {
@@ -48,7 +48,7 @@ settled_after (Some change) style row = record row {
 abbrev pub settled : Style → Row → Row
 settled style row = settled_after row.restyled style row
 
--- a row before what stands after a change, in a group of this style. That may be higher than a letter.
+-- a row before what follows a change, in a group of this style. What follows may be higher than a letter.
 abbrev pub begun_anew : Style → Bool → Option Color → Row → Row
 begun_anew group has_own_style color row = record row {
   elements = [];
@@ -57,7 +57,7 @@ begun_anew group has_own_style color row = record row {
   restyled = Some (record { before = row.elements; group = group; has_own_style = has_own_style; color = color });
 }
 
--- .. after a change of style, and of color
+-- a row after a change of style, and a row after a change of color
 abbrev pub restyled : Style → Row → Row
 restyled style row = begun_anew (style_of_group row.restyled style) true (color_after row.restyled) (settled style row)
 
@@ -78,26 +78,26 @@ whole_fraction row = below row.under row
 abbrev pub begun_below : FractionRule → Row → Row
 begun_below rule row = record empty_row { under = Some (record { rule = rule; element = row_element row.elements }) }
 
--- the row of a group that is read in this style at its end
+-- the row of a group at its end, where it is read in this style
 abbrev pub finished : Style → Row → Row
 finished style row = whole_fraction (settled style row)
 
 -- What follows a change
 
 pub data Rest : Type 0 where
-  -- it is read in this context, behind this row, from these units on
+  -- it is read in this context, after this row, from these units on
   GoesOnIn : Context → Row → Units → Rest
   -- the change is refused
   NoRest : Refusal → Rest
 
--- what stands before it is the upper part of a fraction, and what stands after it the lower one. A group has no more than one
--- such fraction.
+-- what precedes the change is the upper part of a fraction, and what follows it is the lower part. A group has no more than
+-- one such fraction.
 abbrev pub rest_below : FractionRule → Context → Row → ℕ → Units → Option Upper → Rest
 rest_below rule c row place l None =
     GoesOnIn (styled c (smaller (style_of_group row.restyled c.style))) (begun_below rule (settled c.style row)) l
 rest_below rule c row place l (Some upper) = NoRest (refusal_at SecondInfix place)
 
--- it is in the color of this name, where there is one
+-- what follows is in the color of this name, where there is one
 abbrev pub rest_in : List ℕ → Context → Row → ℕ → Units → Option Color → Rest
 rest_in name c row place l None = NoRest (refusal_at (UnknownColor name) place)
 rest_in name c row place l (Some color) = GoesOnIn c (recolored color c.style row) l
@@ -106,7 +106,7 @@ abbrev pub rest_behind_name : Context → Row → ℕ → Found → Rest
 rest_behind_name c row place (Given name l) = rest_in name c row place l (color_of name)
 rest_behind_name c row place (Missing refusal) = NoRest refusal
 
--- what follows a change at this place, before these units
+-- what follows a change at this place, from these units on
 abbrev pub rest_of : Change → Context → Row → ℕ → Units → Rest
 rest_of (ToAlphabet alphabet) c row place l = GoesOnIn (in_context c.style (Some alphabet)) row l
 rest_of (ToStyle style) c row place l = GoesOnIn (styled c style) (restyled c.style row) l

@@ -1,4 +1,4 @@
--- Rows: the elements of atoms side by side. Here the elements stand the last one first.
+-- Rows: the elements of atoms that are next to each other. Here the last element comes first.
 use Rattle.std.specs.Prelude.{pos, Bool, true, false, ◌&&◌, ◌||◌, List, [], ◌∷◌, ◌++◌, reverse, Option, None}
 use Rattle.latex2mathml_elements.specs.{Attributes.plain, Colors.Color, Element.Element, Element.Mrow, Element.token, Element.space, Element.container, Element.children}
 use Rattle.latex2mathml_tex_grammar.specs.Atoms.{Atom, Kind, SignOf, PlusOrMinus, Plain, Before, Nothing, is_letters, is_parted, past, element_there, element_as}
@@ -11,7 +11,7 @@ pub record Restyled : Type 0 where
   pub before : List Element
   -- the style of the group
   pub group : Style
-  -- whether the style was changed, and the color of what stands after it, where there is one
+  -- whether the style was changed, and the color of what follows, where there is one
   pub has_own_style : Bool
   pub color : Option Color
 
@@ -21,9 +21,9 @@ pub record Upper : Type 0 where
   pub element : Element
 
 pub record Row : Type 0 where
-  -- those since the last change of style or color
+  -- the elements since the last change of style or color
   pub elements : List Element
-  -- what the next atom stands behind
+  -- what precedes the next atom
   pub before : Before
   -- whether its last element is a word of upright letters
   pub ends_in_word : Bool
@@ -31,7 +31,7 @@ pub record Row : Type 0 where
   pub high : Bool
   -- its class as the base of a mark
   pub class : Class
-  -- that change, where there was one
+  -- the last change of style or color, where there was one
   pub restyled : Option Restyled
   -- the upper part of the fraction whose lower part it is, where it is one
   pub under : Option Upper
@@ -84,7 +84,7 @@ with_atom style row x = record {
   under = row.under;
 }
 
--- elements side by side as one
+-- elements that are next to each other, as one
 abbrev pub row_element : List Element → Element
 row_element (x ∷ []) = x
 row_element xs = container Mrow plain (children (reverse xs))
@@ -98,7 +98,7 @@ pub record Operand : Type 0 where
 abbrev pub operand_of : Row → Operand
 operand_of row = record { element = row_element row.elements; class = row.class; high = row.high }
 
--- an operand as what an atom of this class is made of
+-- an operand as the base of an atom of this class
 abbrev pub as_base : Style → Class → Operand → Operand
 as_base style class x = record x { element = element_as style class x.class x.element }
 

@@ -1,5 +1,5 @@
--- The rules of formulas: what a unit begins, as one table. A rule says what is read from left to right, and at its end
--- an atom or a refusal.
+-- The rules of formulas: what a unit begins, as one table. A rule says what is read, from left to right, and at its end
+-- gives an atom or a refusal.
 use Rattle.std.specs.Prelude.{ℕ, zero, ℤ, pos, ◌==◌, ◌||◌, Bool, nat_le, length, true, false, List, [], ◌∷◌, ◌++◌, Option, Some, None, if◌then◌else◌}
 use Rattle.std.specs.{Char.is_ascii_alphabetic, Char.is_ascii_digit, Str.byte, Str.bytes_eq}
 use Rattle.latex2mathml_elements.specs.{Attributes.Above, Columns.Columns, Columns.Centered, Columns.LeftAligned, Columns.RightAligned, Columns.Dense, Columns.Alike, Columns.Listed, Element.Element}
@@ -16,7 +16,7 @@ use Rattle.latex2mathml_tex_grammar.specs.Tables.{Lines, a_table}
 use Rattle.latex2mathml_tex_grammar.specs.Units.{Piece, Space, Open, Close, Command, Character}
 use Rattle.latex2mathml_tex_grammar.specs.Words.{Words, words_atom}
 
--- in what a unit is read: the style, and the alphabet of letters and digits, where there is one
+-- the context in which a unit is read: the style, and the alphabet of letters and digits, where there is one
 pub record Context : Type 0 where
   pub style : Style
   pub alphabet : Option Alphabet
@@ -27,14 +27,14 @@ in_context style alphabet = record { style = style; alphabet = alphabet }
 abbrev pub styled : Context → Style → Context
 styled c style = in_context style c.alphabet
 
--- how a table ends: an environment by `\end`, rows in braces, each of one cell, by their brace, and rows that are a whole
--- text with the text
+-- how a table ends: an environment with `\end`; rows in braces, each of one cell, with their brace; and rows that are a
+-- whole text with the text
 pub data TableEnd : Type 0 where
   ByName : TableEnd
   ByBrace : TableEnd
   ByText : TableEnd
 
--- up to what atoms stand side by side, with the place where it begins
+-- what encloses a sequence of atoms and so ends it, with the place where that begins
 pub data Ending : Type 0 where
   WholeText : Ending
   InBraces : ℕ → Ending
@@ -50,7 +50,7 @@ pub data Rule : Type 0 where
   gives : Core → Rule
   -- nothing more is read, and the formula is refused
   refuses : Refusal → Rule
-  -- an operand in a context, and what follows it. The place is of what takes it.
+  -- an operand in a context, and what follows it. The place is that of what takes the operand.
   reads_operand : ℕ → Context → (Operand → Rule) → Rule
   -- an atom without scripts, and what follows it
   reads_core : ℕ → Context → (Core → Rule) → Rule
@@ -58,15 +58,15 @@ pub data Rule : Type 0 where
   reads_atoms : Ending → Context → (Row → Rule) → Rule
   -- an operand of words
   reads_words : ℕ → Option Alphabet → (Words → Rule) → Rule
-  -- where units that pass these tests stand next, they are taken and the first rule follows, otherwise the second
+  -- if units that pass these tests come next, they are taken and the first rule follows, otherwise the second
   takes_if : List (Piece → Option (List ℕ)) → (List ℕ → Rule) → Rule → Rule
-  -- where a unit that passes this test stands next, the first rule follows, otherwise the second; the unit is left
+  -- if a unit that passes this test comes next, the first rule follows, otherwise the second; the unit is not taken
   if_follows : (Piece → Bool) → Rule → Rule → Rule
   -- the longest run of digits is taken
   takes_digits : (List ℕ → Rule) → Rule
-  -- a delimiter, which must stand next, is taken
+  -- a delimiter, which must come next, is taken
   takes_delimiter : (List ℕ → Rule) → Rule
-  -- what is found from this spot on is taken; it must stand next. The place is of what takes it.
+  -- what is found from this spot on is taken; it must come next. The place is that of what takes it.
   takes_found : Spot → ℕ → (List ℕ → Rule) → Rule
   -- what is found from this spot on is passed over
   passes_over : Spot → Rule → Rule
@@ -108,12 +108,12 @@ after_digits c whole =
 abbrev pub a_number : Context → ℕ → Rule
 a_number c digit = takes_digits (λ more. after_digits c (digit ∷ more))
 
--- a character that is a sign or a letter, and any other
+-- a character that is a sign or a letter, or any other
 abbrev pub a_symbol : Context → ℕ → Option Symbol → Rule
 a_symbol c character (Some s) = gives (symbol c.alphabet s)
 a_symbol c character None = gives (core (upright_letter c.alphabet character))
 
--- a character that begins no atom
+-- a character that does not begin an atom
 abbrev pub begins_none : ℕ → Bool
 begins_none character = character == byte "#" || character == byte "$" || character == byte "_" || character == byte "^" || character == byte "'"
 
@@ -127,11 +127,11 @@ character_rule c character place =
     else if begins_none character then refuses (refusal_at (MisplacedCharacter character) place)
     else a_symbol c character (symbol_of character)
 
--- dots, where what stands next asks for them
+-- dots, in the middle of the line where what comes next asks for that
 abbrev pub some_dots : Context → Rule
 some_dots c = if_follows centers_dots (gives (symbol c.alphabet centered_dots)) (gives (symbol c.alphabet low_dots))
 
--- a fraction, whose parts are smaller
+-- a fraction, whose parts are in a smaller style
 abbrev pub own_style : Option Style → Style → Style
 own_style None style = style
 own_style (Some own) style = own
@@ -140,7 +140,7 @@ abbrev pub a_fraction : ℕ → Context → FractionRule → Option Style → Ru
 a_fraction place c rule own =
     let part = styled c (smaller (own_style own c.style)) in of_two place part part (λ above below. fraction rule own above.element below.element)
 
--- a root, whose degree stands in square brackets
+-- a root, whose degree is in square brackets
 abbrev pub a_root : ℕ → Context → Rule
 a_root place c =
     takes_if (a_character (byte "[") ∷ [])
@@ -178,7 +178,7 @@ rows_rule place c name e columns =
     reads_rows ByName place columns (styled c e.style)
     (λ lines end. takes_found (BeforeArgument Name) end (λ other. ended_table end c e columns lines (bytes_eq other name)))
 
--- so many columns an author may say
+-- how many columns an author may list
 abbrev pub most_columns : ℕ
 most_columns = 16
 
@@ -197,7 +197,7 @@ argument_rule place c name e (Some ColorName) = rows_rule place c name e e.colum
 abbrev pub in_brackets : ℕ → List (Piece → Option (List ℕ))
 in_brackets c = a_character (byte "[") ∷ a_character c ∷ a_character (byte "]") ∷ []
 
--- columns in which a letter in brackets says where cells stand
+-- columns in which a letter in brackets says how cells are aligned
 abbrev pub alignment_rule : ℕ → Context → List ℕ → Environment → Rule
 alignment_rule place c name e =
     takes_if (in_brackets (byte "l")) (λ letter. rows_rule place c name e (Alike LeftAligned))
@@ -227,7 +227,7 @@ abbrev pub with_value : {A : Type 0} → Refusal → (A → Rule) → Option A �
 with_value none more None = refuses none
 with_value none more (Some x) = more x
 
--- a length, which must stand next, and what follows it
+-- a length, which must come next, and what follows it
 abbrev pub a_length : ℕ → Spot → (ℤ → Rule) → Rule
 a_length place spot more = takes_found spot place (λ text. with_value (refusal_at LengthTooLarge place) more (width_of text))
 
@@ -235,21 +235,21 @@ a_length place spot more = takes_found spot place (λ text. with_value (refusal_
 abbrev pub a_skip : ℕ → Spot → Rule
 a_skip place spot = a_length place spot (λ width. gives (core (blank width)))
 
--- a black rectangle, whose width and height stand next in braces
+-- a black rectangle, whose width and height come next in braces
 abbrev pub a_bar : ℕ → Option ℤ → Rule
 a_bar place raise =
     a_length place BeforeLengthInBraces (λ width. a_length place BeforeLengthInBraces (λ height. gives (core (bar raise width height))))
 
--- .. behind the length in brackets that raises it, if one stands next
+-- a black rectangle, after the length in brackets that raises it, if one comes next
 abbrev pub a_rectangle : ℕ → Rule
 a_rectangle place =
     takes_if (a_character (byte "[") ∷ []) (λ bracket. a_length place (InLength AtBracket) (λ height. a_bar place (Some height))) (a_bar place None)
 
--- a color, whose name must stand next, and what follows it
+-- a color, whose name must come next, and what follows it
 abbrev pub a_color : ℕ → (Color → Rule) → Rule
 a_color place more = takes_found (BeforeArgument ColorName) place (λ name. with_value (refusal_at (UnknownColor name) place) more (color_of name))
 
--- an arrow: what stands below it in brackets, if anything does, and what stands above it
+-- an arrow: what is below it, in brackets, if anything is, and what is above it
 abbrev pub an_arrow : ℕ → Context → ℕ → Rule
 an_arrow place c sign_character =
     let small = styled c InScript in
@@ -261,19 +261,19 @@ an_arrow place c sign_character =
 abbrev pub a_box : ℕ → Context → Box → Rule
 a_box place c box = of_one place c (λ x. core (boxed_atom box (as_base c.style Ordinary x)))
 
--- what has no height and no depth: `[t]` says that it is the height alone, and `[b]` the depth
+-- an operand in a box without height and depth; `[t]` takes away only the height, and `[b]` only the depth
 abbrev pub a_smash : ℕ → Context → Rule
 a_smash place c =
     takes_if (in_brackets (byte "t")) (λ top. a_box place c WithoutHeight)
     (takes_if (in_brackets (byte "b")) (λ bottom. a_box place c WithoutDepth) (a_box place c Smashed))
 
--- `[l]` and `[r]`, which push the numerator to a side, are nothing
+-- `[l]` and `[r]`, which push the numerator to a side, are ignored
 abbrev pub a_continued_fraction : ℕ → Context → Rule
 a_continued_fraction place c =
     let whole = a_fraction place c Bar (Some InDisplay) in
     takes_if (in_brackets (byte "l")) (λ left. whole) (takes_if (in_brackets (byte "r")) (λ right. whole) whole)
 
--- Fractions whose delimiters, line and style their authors say
+-- Fractions whose delimiters, line and style the author gives
 
 abbrev pub a_left_brace : Piece → Option (List ℕ)
 a_left_brace Open = Some []
@@ -287,14 +287,14 @@ a_right_brace piece = None
 abbrev pub empty_braces : List (Piece → Option (List ℕ))
 empty_braces = a_left_brace ∷ a_right_brace ∷ []
 
--- a delimiter, which may stand in braces; empty braces are none
+-- a delimiter, which may be in braces; empty braces mean none
 abbrev pub an_outer_delimiter : ℕ → (List ℕ → Rule) → Rule
 an_outer_delimiter place more =
     takes_if (delimiter_of ∷ []) more
     (takes_if (a_left_brace ∷ delimiter_of ∷ a_right_brace ∷ []) more
     (takes_if empty_braces more (refuses (refusal_at MissingDelimiter place))))
 
--- whether there is a line: not where its width in braces is zero
+-- whether there is a line: there is none where its width in braces is zero
 abbrev pub has_width : ℤ → Bool
 has_width (pos zero) = false
 has_width width = true
@@ -302,7 +302,7 @@ has_width width = true
 abbrev pub a_line : ℕ → (Bool → Rule) → Rule
 a_line place more = takes_if empty_braces (λ usual. more true) (a_length place BeforeLengthInBraces (λ width. more (has_width width)))
 
--- the style of this number, where there is one; none is the style around the fraction
+-- the style of this number, where there is one; no number means the style around the fraction
 abbrev pub numbered_style : List ℕ → Option (Option Style)
 numbered_style [] = Some None
 numbered_style (c ∷ []) =
@@ -362,7 +362,7 @@ meaning_rule place c Right = refuses (refusal_at RightWithoutLeft place)
 meaning_rule place c Limits = refuses (refusal_at LimitsWithoutOperator place)
 meaning_rule place c NoLimits = refuses (refusal_at LimitsWithoutOperator place)
 meaning_rule place c (Classed class) = of_one place c (λ x. classed class (as_base c.style class x))
--- among atoms it is no atom, and changes what stands after it
+-- among atoms it is not an atom, and changes what follows it
 meaning_rule place c (Changes change) = refuses (refusal_at ChangeAsArgument place)
 meaning_rule place c BeginTable = takes_found (BeforeArgument Name) place (λ name. environment_rule place c name (environment_of name))
 meaning_rule place c EndTable = refuses (refusal_at EndWithoutBegin place)

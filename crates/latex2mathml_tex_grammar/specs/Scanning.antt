@@ -1,12 +1,12 @@
 -- What is taken unit by unit: the name of an environment, its columns, a length. Each unit has a spot, which says what the
--- unit does there. White space is nothing.
+-- unit does there. White space is ignored.
 use Rattle.std.specs.Prelude.{ℕ, zero, suc, ◌+◌, ◌==◌, ◌&&◌, ◌||◌, Bool, true, false, nat_lt, List, [], ◌++◌, if◌then◌else◌, codes}
 use Rattle.std.specs.{Char.encode_utf8, Char.is_ascii_alphanumeric, Char.is_ascii_digit, Str.byte, Str.bytes_eq}
 use Rattle.latex2mathml_tex_grammar.specs.{Commands.meaning_of, Meaning.takes_words}
 use Rattle.latex2mathml_tex_grammar.specs.Refusal.{Kind, MissingArgument, MissingLength, MissingName, UnknownColumn, Refusal, refusal_at}
 use Rattle.latex2mathml_tex_grammar.specs.Units.{Piece, Space, Open, Close, Command, Character, Unit, Units, Next, End, Stop}
 
--- what stands in braces behind `\begin` and its like
+-- what is in braces after `\begin` and the like
 pub data Argument : Type 0 where
   -- the name of an environment
   Name : Argument
@@ -23,27 +23,27 @@ pub data LengthEnd : Type 0 where
   AtBrace : LengthEnd
   AtUnit : LengthEnd
 
--- where a unit stands
+-- where a unit is
 pub data Spot : Type 0 where
-  -- before the brace of an argument, and behind it
+  -- before the brace of an argument, and after it
   BeforeArgument : Argument → Spot
   InArgument : Argument → Spot
-  -- in columns: before the brace of what stands between two, or of the width of one, and within it, in so many braces
+  -- in columns: before the brace of what is between two, or of the width of one; and within it, in this many more braces
   BeforeGap : Spot
   InGap : ℕ → Spot
-  -- before a brace that is all
+  -- before a brace, which is all that is taken
   BeforeBrace : Spot
-  -- before a letter in brackets, which says how a table stands in its line
+  -- before a letter in brackets, which says how a table is placed in its line
   BeforePosition : Spot
   InPosition : Spot
   BehindPosition : Spot
-  -- behind the sign that ends a row: before its star, and behind it
+  -- after the sign that ends a row: before its star, and after it
   BeforeStar : Spot
   BehindStar : Spot
   -- before a length in brackets or in braces
   BeforeLength : Spot
   BeforeLengthInBraces : Spot
-  -- before a length, behind its sign, in its number, behind so many decimals, behind the first letter of its unit, and behind
+  -- before a length, after its sign, in its number, after this many decimals, after the first letter of its unit, and after
   -- the second
   InLength : LengthEnd → Spot
   BehindSign : LengthEnd → Spot
@@ -56,15 +56,15 @@ pub data Spot : Type 0 where
 
 -- what a unit does
 pub data Deed : Type 0 where
-  -- it is nothing, and the next unit stands there
+  -- it is ignored, and the next unit is at this spot
   Passes : Spot → Deed
-  -- it adds this character, and the next unit stands there
+  -- it adds this character, and the next unit is at this spot
   Adds : ℕ → Spot → Deed
   -- it is the last one
   Ends : Deed
   -- the unit before it is the last one
   Leaves : Deed
-  -- what was to be taken does not stand here
+  -- what was to be taken is not here
   Misses : Deed
   -- the unit is refused
   Refuses : Kind → Deed
@@ -83,11 +83,11 @@ ends_if false = Misses
 
 -- The characters of an argument
 
--- a dollar sign is no part of a name
+-- a dollar sign is not part of a name
 abbrev pub name_deed : ℕ → Deed
 name_deed c = if c == byte "$" then Misses else Adds c (InArgument Name)
 
--- a column on the left, in the middle, or on the right; the width of one says nothing, but that it is on the left
+-- a column on the left, in the middle, or on the right; one that has a width is on the left, and its width is ignored
 abbrev pub column_deed : ℕ → Deed
 column_deed c =
     if c == byte "l" || c == byte "c" || c == byte "r" then Adds c (InArgument ColumnList)
@@ -102,7 +102,7 @@ character_deed ColumnList c = column_deed c
 character_deed Number c = adds_if (is_ascii_digit c) c (InArgument Number)
 character_deed ColorName c = adds_if (is_ascii_alphanumeric c || c == byte "#") c (InArgument ColorName)
 
--- any unit but a character and the brace that ends the argument
+-- any unit other than a character or the brace that ends the argument
 abbrev pub other_deed : Argument → Deed
 other_deed Name = Misses
 other_deed ColumnList = Refuses UnknownColumn
@@ -116,16 +116,16 @@ argument_deed a Open = other_deed a
 argument_deed a Space = other_deed a
 argument_deed a (Command name) = other_deed a
 
--- so many braces may stand in one another
+-- how deep braces may be nested
 abbrev pub most_braces : ℕ
 most_braces = 100
 
--- a brace ends the innermost one, or else what stands in braces among columns
+-- a brace closes the innermost open one, or else ends what is in braces among columns
 abbrev pub behind_brace : ℕ → Spot
 behind_brace zero = InArgument ColumnList
 behind_brace (suc n) = InGap n
 
--- what stands in braces among columns says nothing; words and formulas in words cannot stand there
+-- what is in braces among columns is ignored; words, and formulas in words, are refused there
 abbrev pub gap_deed : ℕ → Piece → Deed
 gap_deed n Open = if nat_lt n most_braces then Passes (InGap (n + 1)) else Refuses UnknownColumn
 gap_deed n Close = Passes (behind_brace n)
@@ -168,7 +168,7 @@ sign_deed end c =
 abbrev pub unit_deed : LengthEnd → ℕ → Deed
 unit_deed end c = adds_if (begins_unit_of_length c) c (BehindLetter end c)
 
--- more decimals make no difference
+-- more decimals than this make no difference
 abbrev pub most_decimals : ℕ
 most_decimals = 5
 
@@ -193,7 +193,7 @@ abbrev pub in_length : Spot → Piece → Deed
 in_length spot (Character c) = length_deed spot c
 in_length spot piece = Misses
 
--- what a unit does behind a length
+-- what a unit does after a length
 abbrev pub ending_deed : LengthEnd → Piece → Deed
 ending_deed AtBracket (Character c) = ends_if (c == byte "]")
 ending_deed AtBrace Close = Ends
@@ -229,7 +229,7 @@ abbrev pub row_deed : Piece → Deed
 row_deed (Command name) = if is_line name then Passes BeforeRow else Leaves
 row_deed piece = Leaves
 
--- What the unit does that stands there
+-- What the unit at a spot does
 
 abbrev pub deed_there : Spot → Piece → Deed
 deed_there (BeforeArgument a) piece = brace_deed (Passes (InArgument a)) Misses piece
@@ -261,7 +261,7 @@ may_end BeforeRow = true
 may_end (BehindLength AtUnit) = true
 may_end spot = false
 
--- why it is refused that what was to be taken does not stand there
+-- the kind of refusal where what was to be taken is missing
 abbrev pub missing : Spot → Kind
 missing (BeforeArgument Name) = MissingName
 missing (InArgument Name) = MissingName
@@ -274,7 +274,7 @@ missing (BehindLetter end first) = MissingLength
 missing (BehindLength end) = MissingLength
 missing spot = MissingArgument
 
--- What was taken: a text, as its bytes, and the units behind it; or why it is refused
+-- what was taken: a text, as its bytes, and the units after it; or why it is refused
 pub data Found : Type 0 where
   Given : List ℕ → Units → Found
   Missing : Refusal → Found
@@ -283,7 +283,7 @@ abbrev pub with_character : ℕ → Found → Found
 with_character c (Given more l) = Given (encode_utf8 c ++ more) l
 with_character c (Missing r) = Missing r
 
--- what comes of a unit, where `behind` gives what is found behind it from each spot on; `place` is of what takes it
+-- the result of a unit, where `behind` gives what is found after it from each spot on; `place` is that of what takes it
 abbrev pub done : ℕ → Spot → Deed → Unit → Units → (Spot → Found) → Found
 done place spot (Passes next) u l behind = behind next
 done place spot (Adds c next) u l behind = with_character c (behind next)
@@ -302,7 +302,7 @@ scan place (Next u us) spot = done place spot (deed spot u.piece) u us (scan pla
 scan place (End at) spot = found_at_end (may_end spot) (End at) (refusal_at (missing spot) place)
 scan place (Stop refusal) spot = found_at_end (may_end spot) (Stop refusal) refusal
 
--- the units behind it, or all of them, where it does not stand here
+-- the units after what was found, or all of them, where it is not here
 abbrev pub behind_found : Units → Found → Units
 behind_found l (Given text m) = m
 behind_found l (Missing refusal) = l
@@ -310,6 +310,6 @@ behind_found l (Missing refusal) = l
 abbrev pub past : Spot → Units → Units
 past spot l = behind_found l (scan 0 l spot)
 
--- behind the sign that ends a row: its star, a length, and the lines before the next row are nothing
+-- the units after the sign that ends a row: its star, a length, and the lines before the next row are skipped
 abbrev pub past_break : Units → Units
 past_break l = past BeforeRow (past BeforeLength (past BeforeStar l))

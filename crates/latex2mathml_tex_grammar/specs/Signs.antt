@@ -1,5 +1,5 @@
 -- The characters that are signs or letters by themselves, in the order of their code points: a sign that an author writes
--- as a character is what its command is.
+-- as a character means the same as its command.
 use Rattle.std.specs.Prelude.{ℕ, List, [], ◌∷◌}
 use Rattle.latex2mathml_tex_grammar.specs.Symbols.{Symbol, Letter, UprightLetter, Sign, BigOperator, Integral, Ordinary, Binary, Relation, Opening, Closing, Punctuation, Inner}
 

@@ -1,14 +1,14 @@
--- Some texts that are alike but for white space and some that are not, to hold the definitions against.
+-- Some texts that are alike but for white space and some that are not, to check the definitions against.
 use Rattle.std.specs.Prelude.{codes}
 use Rattle.latex2mathml_tex_grammar.specs.Spacing.{HaveAlikeUnits}
 
 pub record AreSpacingExamples : Type 0 where
   pub around_signs : HaveAlikeUnits (codes "a+b^2") (codes " a + b ^\n2 ")
-  -- a comment is no unit
+  -- a comment is not a unit
   pub comments : HaveAlikeUnits (codes "12") (codes "1 % one\n2")
-  -- nothing stands in for white space
+  -- nothing takes the place of white space
   pub signs : HaveAlikeUnits (codes "ab") (codes "a~b") → ⊥
-  -- before words and behind them
+  -- before words and after them
   pub around_words : HaveAlikeUnits (codes "\\mbox{a}b") (codes "\\mbox% box\n {a} b")
   -- in words it counts, also in braces within them
   pub in_words : HaveAlikeUnits (codes "\\mbox{a b}") (codes "\\mbox{ab}") → ⊥
@@ -16,5 +16,5 @@ pub record AreSpacingExamples : Type 0 where
   pub behind_dollars : HaveAlikeUnits (codes "\\mbox{$a$ b}") (codes "\\mbox{$a$b}") → ⊥
   -- in a formula within words it does not
   pub in_dollars : HaveAlikeUnits (codes "\\mbox{a $b c$}") (codes "\\mbox{a $bc $}")
-  -- and in other braces neither
+  -- nor does it in other braces
   pub in_groups : HaveAlikeUnits (codes "\\sqrt{a b}") (codes "\\sqrt{ab}")

@@ -9,7 +9,7 @@ use Rattle.latex2mathml_tex_grammar.specs.Rules.{Ending, WholeText, InBraces, In
 use Rattle.latex2mathml_tex_grammar.specs.Symbols.{Ordinary}
 use Rattle.latex2mathml_tex_grammar.specs.Units.{Piece, Open, Close, Command, Character, Unit, Units, Next, End, Stop}
 
--- What ends atoms side by side
+-- What ends a sequence of atoms
 
 abbrev pub is_command : List ℕ → Piece → Bool
 is_command name (Command other) = bytes_eq name other
@@ -27,7 +27,7 @@ is_close piece = false
 abbrev pub is_break : Piece → Bool
 is_break piece = is_command (codes "\\") piece || is_command (codes "cr") piece || is_command (codes "newline") piece
 
--- what ends a cell: it parts it from the next cell, or ends its row, or ends the table
+-- what ends a cell: it separates it from the next cell, or ends its row, or ends the table
 pub data CellEnd : Type 0 where
   PartsCells : CellEnd
   EndsRow : CellEnd
@@ -47,13 +47,13 @@ ends (InCell ByName place) piece = is_command (codes "end") piece || is_characte
 ends (InCell ByBrace place) piece = is_close piece || is_break piece
 ends (InCell ByText place) piece = is_character (byte "&") piece || is_break piece
 
--- what is left of units behind atoms that they begin with, where m stands behind the ending: what ends a cell says how the
+-- the units that are left after atoms, where these are the ending and the units after it: what ends a cell says how the
 -- table goes on, and is not taken with the cell
 abbrev pub left_behind : Ending → Unit → Units → Units
 left_behind (InCell end place) u l = Next u l
 left_behind ending u l = l
 
--- why atoms are refused whose ending does not come, where there is to be one
+-- why atoms are refused if their ending is missing, where there has to be one
 abbrev pub unended : Ending → Option Refusal
 unended WholeText = None
 unended (InBraces place) = Some (refusal_at UnclosedBrace place)
@@ -70,11 +70,11 @@ unended (InCell ByText place) = None
 pub data AtomStart : Type 0 where
   -- with a delimiter within others
   DividerStart : AtomStart
-  -- with a script or a prime, which stands on an empty row
+  -- with a script or a prime, whose base is an empty row
   ScriptStart : AtomStart
-  -- with what has a rule
+  -- with a unit that has a rule
   RuleStart : AtomStart
-  -- no atom begins: what stands after it in the group is changed
+  -- no atom begins: what follows in the group is changed
   ChangeStart : Change → AtomStart
 
 -- how an operand begins
@@ -82,11 +82,11 @@ pub data OperandStart : Type 0 where
   -- no operand begins with the unit
   NoStart : OperandStart
   GroupStart : OperandStart
-  -- with a digit, which is all of it
+  -- with a digit, which is the whole operand
   DigitStart : List ℕ → OperandStart
   OtherStart : OperandStart
 
--- what goes on with an atom: a prime, a script, or where its limits are to stand
+-- what continues an atom: a prime, a script, or where its limits are to be
 pub data Mark : Type 0 where
   Prime : Mark
   Below : Mark
@@ -126,12 +126,12 @@ start_of_mark change (Some Above) = ScriptStart
 start_of_mark change (Some (LimitsAt place)) = RuleStart
 start_of_mark change None = start_of_change change
 
--- how the atom begins that this unit begins, among atoms with this ending
+-- how the atom that this unit begins does so, among atoms with this ending
 abbrev pub atom_start : Ending → Piece → AtomStart
 atom_start (InDelimiters place) piece = if is_command (codes "middle") piece then DividerStart else start_of_mark (change_by piece) (mark_of piece)
 atom_start ending piece = start_of_mark (change_by piece) (mark_of piece)
 
--- what ends atoms, or goes on with one, is no operand
+-- what ends atoms, or continues one, is not an operand
 abbrev pub is_no_operand : Piece → Bool
 is_no_operand piece =
     is_close piece || is_character (byte "&") piece || is_character (byte "_") piece || is_character (byte "^") piece || is_character (byte "'") piece
@@ -157,7 +157,7 @@ operand_start piece =
 pub data Step : Type 0 where
   GoesOn : Scripts → Step
   TakesOperand : (Element → Scripts) → Step
-  -- a second script, or limits of what is no operator
+  -- a second script, or limits of what is not an operator
   Forbidden : Kind → Step
 
 abbrev pub step_of : Scripts → Option Element → Option Element → Mark → Step
@@ -169,7 +169,7 @@ step_of scripts below (Some x) Above = Forbidden SecondSuperscript
 step_of scripts below None Above = TakesOperand (λ x. record scripts { above = Some (behind_primes scripts.primes x) })
 step_of scripts below above (LimitsAt place) = if scripts.takes_limits then GoesOn (record scripts { limits = place }) else Forbidden LimitsWithoutOperator
 
--- the step of the unit that stands next, where it is a mark
+-- the step of the unit that comes next, where it is a mark
 abbrev pub step_of_mark : Scripts → Option Mark → Option Step
 step_of_mark scripts None = None
 step_of_mark scripts (Some mark) = Some (step_of scripts scripts.below scripts.above mark)
@@ -179,6 +179,6 @@ step_next scripts (Next u us) = step_of_mark scripts (mark_of u.piece)
 step_next scripts (End place) = None
 step_next scripts (Stop refusal) = None
 
--- the row that scripts stand on where no atom is before them
+-- the row that is the base of scripts where no atom precedes them
 abbrev pub empty_base : Atom
 empty_base = atom (Plain Ordinary) false (row_element [])

@@ -1,7 +1,7 @@
 -- The words of TeX's formulas: classes, styles, alphabets, and what one character is.
 use Rattle.std.specs.Prelude.{ℕ}
 
--- the class of an atom, which decides the space beside it
+-- the class of an atom, which decides the space next to it
 pub data Class : Type 0 where
   Ordinary : Class
   Operator : Class
@@ -44,7 +44,7 @@ pub data Symbol : Type 0 where
   UprightLetter : ℕ → Symbol
   -- a sign of this class
   Sign : Class → ℕ → Symbol
-  -- an operator whose limits the browser moves, as a sum
+  -- an operator whose limits the browser moves, such as a sum
   BigOperator : ℕ → Symbol
-  -- an operator whose limits stand beside it
+  -- an operator whose limits are next to it
   Integral : ℕ → Symbol

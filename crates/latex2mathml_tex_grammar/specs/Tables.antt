@@ -1,4 +1,4 @@
--- Tables: rows of cells. Here what was read last stands first.
+-- Tables: rows of cells. Here what was read last comes first.
 use Rattle.std.specs.Prelude.{ℕ, true, List, [], ◌∷◌, reverse, Option, Some, None}
 use Rattle.latex2mathml_elements.specs.Attributes.{plain, MathStyle}
 use Rattle.latex2mathml_elements.specs.{Columns.Columns, Columns.column_at, Tables.rows_in}
@@ -7,7 +7,7 @@ use Rattle.latex2mathml_tex_grammar.specs.{Atoms.Plain, Atoms.atom, Makes.Core, 
 use Rattle.latex2mathml_tex_grammar.specs.Environments.{before_cell}
 use Rattle.latex2mathml_tex_grammar.specs.Symbols.{Inner, Style, InDisplay, InText}
 
--- the row of a cell that has so many before it, before its first atom
+-- the row of a cell that has this many cells before it, before its first atom
 abbrev pub begun_cell : Columns → ℕ → Row
 begun_cell columns k = record empty_row { before = before_cell (column_at columns k) }
 
@@ -16,12 +16,12 @@ begun_cell columns k = record empty_row { before = before_cell (column_at column
 abbrev pub a_row : List Element → Element
 a_row cells = container Mrow plain (children (reverse cells))
 
--- one row at least
+-- at least one row
 pub record Lines : Type 0 where
   pub last : Element
   pub others : List Element
 
--- rows with one of these cells behind them, and the atoms of a last one; an empty last row is none
+-- rows, then one of these cells and a last cell with these atoms; an empty last row counts only if it is the only one
 abbrev pub with_last : List Element → List Element → List Element → Lines
 with_last (row ∷ rows) [] [] = record { last = row; others = rows }
 with_last rows cells cell = record { last = a_row (row_element cell ∷ cells); others = rows }
@@ -36,8 +36,8 @@ rows_of columns lines = rows_onto columns lines.others lines.last []
 
 -- Tables
 
--- the style that a table says, where its cells have the first one, and the second stands around it. By itself a table that
--- is in no script has cells in the style of text.
+-- the style that a table states, where its cells have the first one, and the second is around it. By itself, a table that is
+-- not in a script has cells in text style.
 abbrev pub said_style : Style → Style → Option MathStyle
 said_style InText InDisplay = None
 said_style InText InText = None
@@ -47,7 +47,7 @@ abbrev pub between_any : Option (List ℕ × List ℕ) → Element → Element
 between_any None x = x
 between_any (Some delimiters) x = fenced true delimiters.0 delimiters.1 x
 
--- a table in these columns, whose cells have the first style, where the second stands around it
+-- a table in these columns, whose cells have the first style, where the second is around it
 abbrev pub a_table : Option (List ℕ × List ℕ) → Columns → Style → Style → Lines → Core
 a_table delimiters columns style around lines =
     core (atom (Plain Inner) true (between_any delimiters (table (record plain { style = said_style style around }) (rows_of columns lines))))

@@ -1,5 +1,5 @@
--- The commands that are one character in words, in the order of their names' bytes. A name is its bytes, without the backslash;
--- a character is its code point, and stands after its line as well.
+-- The commands that are one character in words, in the order of their names' bytes. A name is its bytes, without the
+-- backslash; a character is its code point, and is also shown after its line.
 use Rattle.std.specs.Prelude.{ℕ, List, [], ◌∷◌, codes}
 
 unfoldable pub text_commands : List (List ℕ × ℕ)

@@ -1,4 +1,4 @@
--- The units of a text: its slices in turn, each with the byte where it begins. Nothing here scans: a slice, before the
+-- The units of a text: its slices in turn, each with the byte where it begins. Nothing here scans: a slice, followed by the
 -- rest of the text, is a unit, or it is nothing, or the text is refused there.
 use Rattle.std.specs.Prelude.{◌≡◌, ℕ, ◌+◌, Bool, ◌||◌, ◌==◌, IsTrue, IsFalse, not, List, [], ◌∷◌, ◌++◌, length, codes, Option, Some, None, ⊤, if◌then◌else◌}
 use Rattle.std.specs.{Char.is_ascii_alphabetic, List.AllByRecursion, Str.byte, Str.encode_utf8_all}
@@ -7,7 +7,7 @@ use Rattle.latex2mathml_tex_grammar.specs.Refusal.{LoneBackslash, ForbiddenChara
 
 -- what a unit is
 pub data Piece : Type 0 where
-  -- white space, however much
+  -- white space of any length
   Space : Piece
   -- the braces
   Open : Piece
@@ -31,7 +31,7 @@ pub data Units : Type 0 where
   Next : Unit → Units → Units
   -- the end of the text, at this place
   End : ℕ → Units
-  -- what stands here is no unit, and is refused
+  -- what is here is not a unit, and is refused
   Stop : Refusal → Units
 
 -- the white space: space, tab, line feed and carriage return
@@ -46,7 +46,7 @@ is_line_feed c = c == byte "\n"
 abbrev pub is_in_line : ℕ → Bool
 is_in_line c = not (is_line_feed c)
 
--- what begins a unit that is no character
+-- what begins a unit that is not a character
 abbrev pub is_special : ℕ → Bool
 is_special c = is_space c || c == byte "{" || c == byte "}" || c == byte "%" || c == byte "\\"
 
@@ -65,14 +65,14 @@ pub record IsRun (p : ℕ → Bool) (w rest : List ℕ) : Type 0 where
   pub passes : AllByRecursion (λ c. IsTrue (p c)) w
   pub ends : Stops p (head rest)
 
--- the name of a command that is a backslash and this character, which is no letter. A backslash before a line's end or
--- a tab is one before a space.
+-- the name of a command that is a backslash and this character, which is not a letter. A backslash before the end of a line
+-- or before a tab counts as one before a space.
 abbrev pub symbol_name : ℕ → List ℕ
 symbol_name c = if is_space c then codes " " else encode_utf8_all (c ∷ [])
 
 -- the slice w, where the rest follows it, is this piece, or nothing
 pub data Spells (w rest : List ℕ) (piece : Option Piece) : Type 0 where
-  -- white space, as much as stands there
+  -- white space, all that is there
   white_space : (c : ℕ) (cs : List ℕ)
       → w ≡ c ∷ cs
       → IsTrue (is_space c)
@@ -98,14 +98,14 @@ pub data Spells (w rest : List ℕ) (piece : Option Piece) : Type 0 where
       → rest ≡ []
       → piece ≡ None
       → Spells w rest piece
-  -- a backslash and one character that is no letter
+  -- a backslash and one character that is not a letter
   symbol_command : (c : ℕ)
       → IsFalse (is_ascii_alphabetic c)
       → IsFalse (is_forbidden c)
       → w ≡ byte "\\" ∷ c ∷ []
       → piece ≡ Some (Command (symbol_name c))
       → Spells w rest piece
-  -- a backslash and all letters that follow it. The white space after them is of the slice.
+  -- a backslash and all letters that follow it. The white space after them is part of the slice.
   letter_command : (c : ℕ) (cs space : List ℕ)
       → w ≡ byte "\\" ∷ c ∷ (cs ++ space)
       → IsTrue (is_ascii_alphabetic c)
@@ -121,7 +121,7 @@ pub data Spells (w rest : List ℕ) (piece : Option Piece) : Type 0 where
       → piece ≡ Some (Character c)
       → Spells w rest piece
 
--- the text, which begins at this place, begins with no unit, and is refused
+-- the text, which begins at this place, does not begin with a unit, and is refused
 pub data IsRefusedAt (place : ℕ) (text : List ℕ) (refusal : Refusal) : Type 0 where
   lone_backslash : text ≡ codes "\\"
       → refusal ≡ refusal_at LoneBackslash place

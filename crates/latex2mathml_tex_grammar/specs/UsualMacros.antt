@@ -1,5 +1,5 @@
 -- The usual macros, which hold in every text, in the order of their names' bytes. A name and a body are their bytes, a name
--- without its backslash. A definition of the author's comes first.
+-- without its backslash. A definition by the author takes precedence.
 use Rattle.std.specs.Prelude.{ℕ, List, [], ◌∷◌, Some, None, codes, if◌then◌else◌}
 use Rattle.std.specs.{Option.unwrap_or, Str.bytes_eq, Str.chars}
 use Rattle.latex2mathml_tex_grammar.specs.{Cutting.units_of, Definitions.parts_of, Macros.Macro, Macros.macro, Macros.Table}
@@ -83,7 +83,7 @@ abbrev pub listed : Units → List Unit
 listed (Next u l) = u ∷ listed l
 listed l = []
 
--- the macro with so many arguments, whose body has this text
+-- the macro with this many arguments, whose body has this text
 abbrev pub macro_with : ℕ → List ℕ → Macro
 macro_with arity text = macro arity (unwrap_or (parts_of arity (listed (units_of 0 (chars text)))) [])
 

@@ -1,4 +1,4 @@
--- Words: what stands in `\text` and its like, character by character.
+-- Words: what is in `\text` and the like, character by character.
 use Rattle.std.specs.Prelude.{ℕ, ◌==◌, ◌||◌, Bool, true, false, List, [], ◌∷◌, ◌++◌, Option, Some, None, if◌then◌else◌}
 use Rattle.std.specs.Str.{byte}
 use Rattle.latex2mathml_elements.specs.{Attributes.plain, Element.Element, Element.Mtext, Element.token}
@@ -16,7 +16,7 @@ pub data Word : Type 0 where
 
 -- what a unit is in words
 pub data WordRule : Type 0 where
-  -- a part, which it is by itself
+  -- a part of words by itself
   IsWord : Word → WordRule
   -- the beginning of words in braces, or their end
   BeginsGroup : WordRule
@@ -25,14 +25,14 @@ pub data WordRule : Type 0 where
   BeginsFormula : WordRule
   -- words in this alphabet, where there is one
   TakesWords : Option Alphabet → WordRule
-  -- it cannot stand in words
+  -- it is not allowed in words
   NoWord : Kind → WordRule
 
--- a space that does not vanish, U+00A0
+-- a space that is not collapsed, U+00A0
 abbrev pub word_space : Word
 word_space = Shown (text 0xA0)
 
--- a character in an alphabet; quotation marks are those of print
+-- a character in an alphabet; without one, quotation marks become typographic ones
 abbrev pub word_character : Option Alphabet → ℕ → ℕ
 word_character None c = if c == byte "`" then 0x2018 else if c == byte "'" then 0x2019 else c
 word_character (Some alphabet) c = in_alphabet alphabet c
@@ -44,7 +44,7 @@ character_rule alphabet c =
     else if c == byte "_" || c == byte "^" || c == byte "&" || c == byte "#" then NoWord (CharacterInWords c)
     else IsWord (Shown (text (word_character alphabet c)))
 
--- what a command is in words, by its meaning. A change of the alphabet is nothing.
+-- what a command is in words, by its meaning. A change of the alphabet is ignored.
 abbrev pub meaning_rule : List ℕ → Option Meaning → WordRule
 meaning_rule name (Some (Spacing width)) = IsWord word_space
 meaning_rule name (Some (Shows sign)) = IsWord (Formula (single InText (symbol None sign).atom).element)
@@ -54,12 +54,12 @@ meaning_rule name (Some (Changes (ToAlphabet alphabet))) = IsWord Nothing
 meaning_rule name (Some meaning) = NoWord (CommandInWords name)
 meaning_rule name None = NoWord (UnknownCommand name)
 
--- .. that is one character in words, where it is
+-- what a command is in words: one character, where it is one, or else what its meaning says
 abbrev pub command_rule : List ℕ → Option ℕ → WordRule
 command_rule name (Some c) = IsWord (Shown (text c))
 command_rule name None = meaning_rule name (meaning_of name)
 
--- what a unit is in words of this alphabet
+-- what a unit is in words in this alphabet
 abbrev pub word_rule : Option Alphabet → Piece → WordRule
 word_rule alphabet Space = IsWord word_space
 word_rule alphabet Open = BeginsGroup
@@ -75,7 +75,7 @@ pub record Words : Type 0 where
 abbrev pub no_words : Words
 no_words = record { elements = []; ends_in_text = false }
 
--- a text behind a text makes it longer
+-- a text after a text makes it longer
 abbrev pub with_text : Bool → List ℕ → List Element → List Element
 with_text true more (token t a before ∷ xs) = token t a (before ++ more) ∷ xs
 with_text ends_in_text more xs = token Mtext plain more ∷ xs

@@ -1,4 +1,4 @@
--- What reading a file of the system comes to.
+-- The result of reading a file of the system.
 use Rattle.std.proofs.Common.{ℕ, List, Option, Result, Ok, Err, None}
 use Rattle.std.specs.{Io.KnownBytes.Consumes, Prelude.IfErr}
 use Rattle.latex2mathml.specs.declared.error.FileFault.{FileFault}
@@ -6,7 +6,7 @@ use Rattle.latex2mathml.specs.declared.error.FileFault.TheVariants.{List as Unli
 use Rattle.latex2mathml.specs.{Inputs.IsReadFault, Streams.StreamState}
 use Rattle.latex2mathml_tex_program.specs.Definitions.{IsUnread}
 
--- the fault of a source, where the bytes of the file are not known
+-- the fault of a source if the bytes of the file are not known
 unread_source : (bytes : List ℕ) (state : StreamState) (fault : FileFault) → IsReadFault bytes state fault → IsUnread None fault
 unread_source bytes state Read is = tt
 unread_source bytes state NotText is = (bytes, tt, is.1)

@@ -24,8 +24,8 @@ pub none_left : (rest : List ℕ) → true ≡ (length rest == 0) → rest ≡ [
 none_left [] is = refl
 none_left (b ∷ rest) is = absurd (let k : length (b ∷ rest) ≡ 0 = true-eqb _ _ is in omega arith)
 
--- What was replied so far are the replies to the first formulas of the text, and behind these it has whatever formulas the rest
--- of it has.
+-- What was replied so far are the replies to the first formulas of the text. After these, the text has whatever formulas the
+-- rest of it has.
 pub record AreRepliedSoFar (macros : Table) (text : List ℕ) (format : Format) (replies rest : List ℕ) : Type 0 where
   pub formulas : List (List ℕ)
   pub replied : AreReplies macros formulas format replies
@@ -70,7 +70,7 @@ all_replied macros text format replies rest so_far is = (
   so_far.replied,
 )
 
--- .. or one more formula stands there, which no NUL ends
+-- one more formula is left, which no NUL ends
 pub last_replied : (macros : Table) (text : List ℕ) (format : Format) (replies rest reply : List ℕ)
     → AreRepliedSoFar macros text format replies rest
     → rest ≢ []

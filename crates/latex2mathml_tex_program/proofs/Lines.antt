@@ -1,11 +1,11 @@
--- What writing a line comes to.
+-- The result of writing a line.
 use Rattle.std.proofs.Common.{ℕ, List, Result, Ok, Err, IfErr, OnOk, ◌≡◌, subst}
 use Rattle.latex2mathml.specs.declared.error.FileFault.{FileFault}
 use Rattle.latex2mathml.specs.declared.error.FileFault.TheVariants.{List as Unlisted, Entry, TooDeep, Read, NotText, Refused, Create, Write}
 use Rattle.latex2mathml.specs.Streams.{CanGoOn, IsStopped, StreamState, Takes}
 use Rattle.latex2mathml_tex_program.specs.Exits.{LinePrinted, Stopped, Whole}
 
--- a line for which memory was found was put on a stream
+-- a line for which memory was found was written to a stream
 pub printed : (line : List ℕ) (old new : StreamState) (result : Result Unit FileFault)
     → OnOk result (Takes old new line)
     → OnOk result (CanGoOn new)
@@ -21,7 +21,7 @@ printed line old new (Err Entry) taken ready stopped = absurd stopped
 printed line old new (Err TooDeep) taken ready stopped = absurd stopped
 printed line old new (Err Create) taken ready stopped = absurd stopped
 
--- .. also if it is written otherwise
+-- the same if the line equals another
 pub printed_as : (line other : List ℕ) (old new : StreamState) (result : Result Unit FileFault)
     → line ≡ other
     → OnOk result (Takes old new line)

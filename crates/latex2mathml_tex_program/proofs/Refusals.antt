@@ -5,7 +5,7 @@ some_weaker : {A : Type 0} (P Q : A → Type 0) (found : Option A) → ((a : A) 
 some_weaker P Q (Some a) h p = h a p
 some_weaker P Q None h p = p
 
--- what holds of each refusal that the first holds of, holds of the one that the error reports
+-- what follows from P for each refusal holds for the refusal that the error reports
 pub refusals_weaker : {A B E : Type 0} (reported : E → Option B) (P Q : B → Type 0) (result : Result A E)
     → ((b : B) → P b → Q b)
     → IfErr result (λ error. IfSome (reported error) P)

@@ -1,4 +1,4 @@
--- What a run comes to that stops for its definitions.
+-- The result of a run that stops because of its definitions.
 use Rattle.std.proofs.Common.{◌≡◌, ℕ, List, Option, Result, Ok, Err, refl, sym, subst}
 use Rattle.std.specs.Prelude.{IsErrAnd}
 use Rattle.latex2mathml.specs.Streams.{StreamState}
@@ -6,7 +6,7 @@ use Rattle.latex2mathml_tex_program.specs.Definitions.{IsRefusedFault, IsTextAsk
 use Rattle.latex2mathml_tex_program.specs.Runs.{IsRun, undefined, unread_definitions}
 use Rattle.latex2mathml_tex_program.specs.declared.{fault.Fault.Fault, request.Request.Request}
 
--- a `?` passes on that no text was read of their file
+-- a `?` passes on that no text was read from the file of definitions
 pub unread_passed : (bytes_of : List ℕ → Option (List ℕ)) (request : Request) (input output : StreamState) (fault : Fault)
     (result : Result Unit Fault) → IsErrAnd result (λ e. e ≡ fault)
     → IsUnreadFault bytes_of request.definitions fault
@@ -15,7 +15,7 @@ unread_passed bytes_of request input output fault (Ok done) passed is = elim pas
 unread_passed bytes_of request input output fault (Err e) passed is =
     unread_definitions e (subst (IsUnreadFault bytes_of request.definitions) (sym passed) is) refl refl refl
 
--- .. or that the text is refused
+-- a `?` passes on that the text of definitions is refused
 pub undefined_passed : (bytes_of : List ℕ → Option (List ℕ)) (request : Request) (input output : StreamState) (fault : Fault)
     (definitions text : List ℕ) (result : Result Unit Fault) → IsErrAnd result (λ e. e ≡ fault)
     → IsTextAsked bytes_of request.definitions definitions

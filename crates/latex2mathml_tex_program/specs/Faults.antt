@@ -5,7 +5,7 @@ use Rattle.latex2mathml_tex_units.specs.{ErrorTexts.error_kind_text, ErrorTexts.
 use Rattle.latex2mathml_tex_program.specs.declared.fault.Fault.{Fault}
 use Rattle.latex2mathml_tex_program.specs.declared.fault.Fault.TheVariants.{File, Refused, RefusedDefinition, UnreadDefinitions}
 
--- the position in a file of this name
+-- the position in the file with this name
 abbrev pub position_text : List ℕ → Position → List ℕ
 position_text name position = name ++ (codes ":" ++ (decimal position.line ++ (codes ":" ++ decimal position.column)))
 

@@ -1,4 +1,4 @@
--- What the program makes of formulas, where some macros hold. A text is its bytes here.
+-- What the program makes of formulas under some macros. Here a text is its bytes.
 use Rattle.std.specs.Prelude.{◌≡◌, ◌≢◌, ℕ, Bool, true, false, List, [], ◌∷◌, ◌++◌, IfSome, codes}
 use Rattle.latex2mathml_tex_units.specs.{ErrorTexts.error_text, Errors.refusal_of, declared.error.TexError.TexError}
 use Rattle.latex2mathml_tex.specs.Answers.{IsAnswer, IsAnswerWithSource, IsRefusal, style_in}
@@ -8,18 +8,18 @@ use Rattle.latex2mathml_tokens.specs.declared.DisplayStyle.TheVariants.{Block, I
 use Rattle.latex2mathml_tex_program.specs.declared.request.{Display.Display, Format.Format}
 use Rattle.latex2mathml_tex_program.specs.declared.request.Display.TheVariants.{All, Each}
 
--- the text holds this formula, which stands so
+-- the text holds this formula, with this display style
 pub data HoldsFormula (text : List ℕ) : Display → DisplayStyle → List ℕ → Type 0 where
   as_all : {style : DisplayStyle} → HoldsFormula text (All style) style text
-  -- the first line says how
+  -- the first line says the style
   in_line : (tex : List ℕ) → text ≡ codes "inline\n" ++ tex → HoldsFormula text Each Inline tex
   in_block : (tex : List ℕ) → text ≡ codes "block\n" ++ tex → HoldsFormula text Each Block tex
-  -- .. or does not
+  -- the first line does not say the style
   unsaid : ((tex : List ℕ) → text ≢ codes "inline\n" ++ tex)
       → ((tex : List ℕ) → text ≢ codes "block\n" ++ tex)
       → HoldsFormula text Each Inline text
 
--- what is so of the formula that a text holds, in the style in which it is read
+-- P holds of the formula that a text holds, in the style in which it is read
 abbrev pub OfFormula : (Table → List ℕ → Style → Type 0) → Table → List ℕ → Display → Type 0
 OfFormula P macros text display =
     (style : DisplayStyle) × (tex : List ℕ) × HoldsFormula text display style tex × P macros tex (style_in style)
@@ -29,16 +29,16 @@ abbrev pub IsAnswerWith : Bool → Table → List ℕ → Style → List ℕ →
 IsAnswerWith true = IsAnswerWithSource
 IsAnswerWith false = IsAnswer
 
--- .. as it is asked for
+-- the markup of the formula that a text holds, in the format that is asked for
 abbrev pub IsMarkup : Table → List ℕ → Format → List ℕ → Type 0
 IsMarkup macros text format markup =
     OfFormula (λ m tex style. IsAnswerWith format.is_annotated m tex style markup) macros text format.display
 
--- why it is refused
+-- why the formula that a text holds is refused
 abbrev pub IsNoMarkup : Table → List ℕ → Format → Refusal → Type 0
 IsNoMarkup macros text format refusal = OfFormula (λ m tex style. IsRefusal m tex style refusal) macros text format.display
 
--- .. as a line
+-- the markup of the formula that a text holds, as a line
 abbrev pub IsLine : Table → List ℕ → Format → List ℕ → Type 0
 IsLine macros text format line = (markup : List ℕ) × IsMarkup macros text format markup × (line ≡ markup ++ codes "\n")
 
@@ -48,7 +48,7 @@ pub data IsReply (macros : Table) (text : List ℕ) (format : Format) (reply : L
       → IsMarkup macros text format markup
       → reply ≡ codes "mathml\n" ++ (markup ++ 0 ∷ [])
       → IsReply macros text format reply
-  -- by an error that is out of memory, or reports why the formula is refused
+  -- the error is out of memory, or reports why the formula is refused
   refused : (error : TexError)
       → IfSome (refusal_of error) (IsNoMarkup macros text format)
       → reply ≡ codes "error\n" ++ (error_text error ++ 0 ∷ [])

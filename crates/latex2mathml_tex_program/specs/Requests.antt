@@ -1,4 +1,4 @@
--- What the words of the command line ask for. The first of them is the program's name.
+-- What the words of the command line ask for. The first word is the program's name.
 use Rattle.std.specs.Prelude.{◌≡◌, ◌≢◌, ℕ, Bool, true, false, List, [], ◌∷◌, Option, Some, None, Result, IfOk, codes, map, option_map}
 use Rattle.clap.specs.Words.{App, FailsBy, Row, Rule, Text, fault_of, first_of, matches_of, new_app, new_rule, one_of, with_rule}
 use Rattle.clap.specs.Simple.{on_top}
@@ -11,12 +11,12 @@ use Rattle.latex2mathml_tokens.specs.declared.DisplayStyle.TheVariants.{Block, I
 use Rattle.latex2mathml_tex_program.specs.declared.request.{Display.Display, Request.Request}
 use Rattle.latex2mathml_tex_program.specs.declared.request.Display.TheVariants.{All, Each}
 
--- the parser takes one of three words
+-- the parser accepts one of three words
 abbrev pub IsChoice : ValueParser → Type 0
 IsChoice (Names names) = map (λ name. name.now) names.now ≡ codes "inline" ∷ codes "block" ∷ codes "each" ∷ []
 IsChoice parser = ⊥
 
--- `--display DISPLAY`, which is `inline` where it is not given
+-- `--display DISPLAY`, which is `inline` if it is not given
 abbrev pub display_rule : ValueParser → Rule
 display_rule choice = record (new_rule (codes "display")) {
   long = Some (codes "display");
@@ -39,7 +39,7 @@ definitions_rule = record (new_rule (codes "definitions")) {
   value_names = 1;
 }
 
--- the program, as far as its words are read
+-- the program, as far as reading its words is concerned
 abbrev pub program : ValueParser → App
 program choice =
     with_rule (with_rule (with_rule (with_rule (on_top (λ s. record s { has_version = true }) (new_app (codes "tex2mathml")))
@@ -56,7 +56,7 @@ abbrev pub IsGiven : Option Text → Bool → Type 0
 IsGiven None is_given = is_given ≡ false
 IsGiven (Some text) is_given = (text ≡ codes "true" → is_given ≡ true) × (text ≡ codes "false" → is_given ≡ false)
 
--- what was found of the arguments asks for this
+-- the matches of the arguments ask for this
 abbrev pub IsAsked : List Row → Request → Type 0
 IsAsked rows request =
     IsDisplay (first_of (codes "display") rows) request.format.display
@@ -64,8 +64,8 @@ IsAsked rows request =
     × IsGiven (one_of (codes "null") rows) request.is_many
     × (option_map (λ name. name.now) request.definitions ≡ first_of (codes "definitions") rows)
 
--- The answer to the words: the request, or an error whose kind says what is wrong with them or what else they ask for. Memory
--- may run out in place of anything.
+-- The answer to the words: the request, or an error whose kind says what is wrong with them or what else they ask for. Out of
+-- memory may replace any other result.
 abbrev pub IsRequested : List Text → Result Request Error → Type 0
 IsRequested words result =
     (choice : ValueParser)

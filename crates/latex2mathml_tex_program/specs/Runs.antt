@@ -1,5 +1,5 @@
--- What a run of the program may come to. The first state of a stream says what is known of it before, and the second what is
--- known then.
+-- How a run of the program may end. The first state of a stream is what is known of it before, and the second what is
+-- known after.
 use Rattle.std.specs.Prelude.{◌≡◌, ℕ, Bool, true, false, List, Option, IfSome, Result, Ok, Err}
 use Rattle.std.specs.Io.KnownBytes.{Keeps}
 use Rattle.latex2mathml.specs.{Inputs.IsReadFault, Inputs.IsWholeText}
@@ -12,7 +12,7 @@ use Rattle.latex2mathml_tex_program.specs.Replies.{AreFormulas, AreReplies, IsLi
 use Rattle.latex2mathml_tex_program.specs.declared.{fault.Fault.Fault, request.Format.Format, request.Request.Request}
 use Rattle.latex2mathml_tex_program.specs.declared.fault.Fault.TheVariants.{File, Refused}
 
--- what is made of a text that holds many formulas, and of one that is a formula, where some macros hold
+-- what is made of a text that holds many formulas, and of one that is a formula, under some macros
 abbrev pub IsMadeOf : Table → Bool → List ℕ → Format → List ℕ → Type 0
 IsMadeOf macros true text format product = (formulas : List (List ℕ)) × AreFormulas text formulas × AreReplies macros formulas format product
 IsMadeOf macros false text format product = IsLine macros text format product
@@ -25,7 +25,7 @@ IsMade macros request text product = IsMadeOf macros request.is_many text reques
 abbrev pub IsNotMade : Table → Request → List ℕ → Refusal → Type 0
 IsNotMade macros request text refusal = (request.is_many ≡ false) × IsNoMarkup macros text request.format refusal
 
--- what putting out what is made of a text may come to where these macros hold, by what is known of the output before and then
+-- how writing what is made of a text under these macros may end, by what is known of the output before and after
 abbrev pub IsPut : Table → List ℕ → Request → StreamState → StreamState → Result Unit Fault → Type 0
 IsPut macros text request old new (Ok _) =
     CanGoOn new × ((product : List ℕ) × IsMade macros request text product × Takes old new product)
@@ -35,9 +35,9 @@ IsPut macros text request old new (Err (Refused error)) =
     IfSome (refusal_of error) (IsNotMade macros request text) × CanGoOn new × Keeps old.bytes new.bytes
 IsPut macros text request old new (Err fault) = ⊥
 
--- what a run may come to, by what is known of the bytes of files, and of the input and the output before and after it
+-- how a run may end, by what is known of the bytes of files, and of the input and the output before and after it
 pub data IsRun (bytes_of : List ℕ → Option (List ℕ)) (request : Request) (input_old input_new output_old output_new : StreamState) (result : Result Unit Fault) : Type 0 where
-  -- the macros hold that the file of definitions defines, or the usual ones where none is asked for
+  -- the macros are those that the file of definitions defines, or the usual ones if no file is asked for
   converted : (definitions bytes : List ℕ) (macros : Table)
       → IsTextAsked bytes_of request.definitions definitions
       → Hold request.definitions definitions macros
@@ -45,7 +45,7 @@ pub data IsRun (bytes_of : List ℕ → Option (List ℕ)) (request : Request) (
       → IsWholeText bytes input_new
       → IsPut macros bytes request output_old output_new result
       → IsRun bytes_of request input_old input_new output_old output_new result
-  -- so they do, but no text is read of the input: nothing is put out
+  -- the macros are the same, but no text is read from the input: nothing is written
   unread : (definitions bytes : List ℕ) (macros : Table) (fault : FileFault)
       → IsTextAsked bytes_of request.definitions definitions
       → Hold request.definitions definitions macros
@@ -54,14 +54,14 @@ pub data IsRun (bytes_of : List ℕ → Option (List ℕ)) (request : Request) (
       → result ≡ Err (File fault)
       → output_new ≡ output_old
       → IsRun bytes_of request input_old input_new output_old output_new result
-  -- no text is read of the file of definitions: nothing is read of the input either, and nothing put out
+  -- no text is read from the file of definitions: nothing is read from the input either, and nothing is written
   unread_definitions : (fault : Fault)
       → IsUnreadFault bytes_of request.definitions fault
       → result ≡ Err fault
       → input_new ≡ input_old
       → output_new ≡ output_old
       → IsRun bytes_of request input_old input_new output_old output_new result
-  -- its text defines no macros: nothing is read or put out either
+  -- the text of the file defines no macros: nothing is read from the input, and nothing is written
   undefined : (definitions : List ℕ) (fault : Fault)
       → IsTextAsked bytes_of request.definitions definitions
       → IsRefusedFault request.definitions definitions fault

@@ -1,4 +1,4 @@
-//! Definitions in files, whose macros the formulas may use.
+//! Reads definitions from files. The formulas may use their macros.
 ghost use Rattle.std.specs.Prelude.{ℕ, List, Option, None, IfErr, IfOk, IfSome, string_bytes};
 ghost use Rattle.std.specs.Str.{chars};
 ghost use Rattle.latex2mathml_tex_units.specs.{Errors.refusal_of, MacroTables.macros_in};
@@ -15,10 +15,10 @@ use std::rt::Files;
 
 /// Text files, by their names.
 pub trait TextFiles {
-    /// The bytes of the file of a name, where they are known.
+    /// The bytes of the file with a name, where they are known.
     ghost bytes_of: { Self → List ℕ → Option (List ℕ) };
 
-    /// Reads the file of a name to its end.
+    /// Reads the file with this name to its end.
     ///
     /// # Errors
     ///
@@ -31,7 +31,7 @@ pub trait TextFiles {
         ensures fault { IfErr result (IsUnread (bytes_of self.now name.now)) };
 }
 
-/// The files of the system. No contract says what stands in them.
+/// The files of the system. No contract says what is in them.
 impl<R: Files + Alloc + Clone + Drop> TextFiles for Disk<'_, R> {
     ghost bytes_of = { λ disk name. None };
 
@@ -62,7 +62,7 @@ pub(crate) fn read_definitions<'a, F: TextFiles>(
     }
 }
 
-/// Returns the macros that the file of definitions defines, whose text this is, or the usual ones if none is asked for.
+/// Returns the macros that the file of definitions with this text defines, or the usual ones if no file is asked for.
 pub(crate) fn macros_of<'a, 't>(
     alloc: Global,
     request: Request<'a>,
@@ -82,7 +82,7 @@ pub(crate) fn macros_of<'a, 't>(
     }
 }
 
-/// The fault where a definition of the text of this file is refused, or memory ran out for it.
+/// Returns the fault if a definition in the text of this file is refused, or memory ran out for it.
 fn refused<'a>(name: &'a str, text: &str, error: TexError) -> Fault<'a>
     requires { IfSome (refusal_of error) (AreRefused (chars text.now)) }
     ensures fault { IsFaultIn name.now text.now result }

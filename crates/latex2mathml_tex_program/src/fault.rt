@@ -1,4 +1,4 @@
-//! Why a run stopped.
+//! Faults of a run.
 ghost use Rattle.std.specs.Prelude.{Some};
 ghost use Rattle.latex2mathml_tex_program.specs.Faults.{fault_text};
 
@@ -10,16 +10,16 @@ use std::fmt;
 /// Why a run stopped.
 #[derive(Debug, Drop)]
 pub enum Fault<'a> {
-    /// The input could not be read or is no text, or the output stopped.
+    /// The input could not be read or is not text, or the output stopped.
     File(FileFault),
     /// The formula is refused, or memory ran out.
     Refused(TexError),
-    /// The file of definitions of this name could not be read, or is no text.
+    /// The file of definitions with this name could not be read, or is not text.
     UnreadDefinitions {
         name: &'a str,
         fault: FileFault,
     },
-    /// A definition is refused that stands in the file of this name at this position.
+    /// A definition at this position in the file with this name is refused.
     RefusedDefinition {
         name: &'a str,
         position: Position,
@@ -27,8 +27,8 @@ pub enum Fault<'a> {
     },
 }
 
-/// Prints the text of the fault of the file, or of the error. Of definitions, the name of the file stands before it, and where it is
-/// about a definition also the line and the column, such as `macros.tex:3:1: not a definition`.
+/// Prints the text of the file fault or of the error. A fault of definitions has the name of the file before it, and that
+/// of a single definition also the line and the column, such as `macros.tex:3:1: not a definition`.
 impl fmt::Display for Fault<'_> {
     ghost output = { λ fault. Some (fault_text fault) };
 

@@ -1,4 +1,4 @@
-//! What is put out for formulas.
+//! Makes what is written for formulas.
 ghost use Rattle.std.specs.Prelude.{◌≡◌, ℕ, ◌++◌, ◌∷◌, [], codes, IfErr, IfOk, IfSome, List, OnOk, string_bytes};
 ghost use Rattle.latex2mathml_tex_units.specs.{ErrorTexts.error_text, Errors.refusal_of, MacroTables.Holding};
 ghost use Rattle.latex2mathml_tex_program.specs.Replies.{AreFormulas, AreReplies, HoldsFormula, IsLine, IsMarkup, IsNoMarkup, IsReply};
@@ -14,7 +14,7 @@ use std::fmt::Write;
 ///
 /// # Errors
 ///
-/// As those of [`tex_to_mathml`].
+/// The errors are those of [`tex_to_mathml`].
 pub fn line<'a>(
     alloc: Global,
     macros: &Macros<'a>,
@@ -51,7 +51,7 @@ fn markup<'a>(
     }
 }
 
-/// Returns the formula that a text holds, and how it stands.
+/// Returns the formula that a text holds, and its display style.
 fn formula_in<'a>(text: &'a str, display: Display) -> (&'a str, DisplayStyle)
     ensures { HoldsFormula text.now display result.1 result.0.now }
 {
@@ -69,7 +69,7 @@ fn formula_in<'a>(text: &'a str, display: Display) -> (&'a str, DisplayStyle)
     }
 }
 
-/// Returns a reply for each formula of a text, in turn. In the text a NUL ends each formula; after the last one it may be
+/// Returns a reply to each formula of a text, in turn. In the text, a NUL ends each formula. After the last one it may be
 /// missing. A reply is a line that says `mathml` or `error`, then the markup, or why the formula is refused, and a NUL.
 ///
 /// The only `Err` is out of memory.
@@ -104,7 +104,7 @@ pub fn replies<'a>(
     Ok(replies)
 }
 
-/// Appends the reply to the formula that a text holds. What it says is first put into `room`.
+/// Appends the reply to the formula that a text holds. The contents of the reply are first written to `room`.
 fn append_reply<'a>(
     converter: &mut Converter<'a>,
     room: &mut String,
@@ -146,7 +146,7 @@ fn append_markup<'a>(
     }
 }
 
-/// Appends the reply that says why a formula is refused. The words are first put into `room`.
+/// Appends the reply that says why a formula is refused. The message is first written to `room`.
 fn append_refusal(
     replies: &mut String,
     error: &TexError,

@@ -1,4 +1,4 @@
-//! What the arguments ask for.
+//! Reads what the arguments ask for.
 ghost use Rattle.std.specs.Prelude.{◌≡◌, codes, false, map, string_bytes};
 ghost use Rattle.clap.specs.declared.builder.value_parser.ValueParser.{ValueParser};
 ghost use Rattle.clap.specs.Words.{first_value, found_of, kind_of, one_text, rule_of};
@@ -9,16 +9,16 @@ use clap::{Arg, ArgAction, ArgMatches, Command, Error};
 use latex2mathml_tex::DisplayStyle;
 use std::alloc::Global;
 
-/// How the formulas stand.
+/// The display style of the formulas.
 #[derive(Debug, Clone, Copy, PartialEq, Eq)]
 pub enum Display {
     /// All in a line of text, or all on a line of their own.
     All(DisplayStyle),
-    /// Each as its first line says, which is `inline` or `block`. Without such a line, it stands in a line of text.
+    /// Each as its first line says, which is `inline` or `block`. A formula without such a line is in a line of text.
     Each,
 }
 
-/// What the markup of each formula is to be.
+/// The form of the markup of each formula.
 #[derive(Debug, Clone, Copy, PartialEq, Eq)]
 pub struct Format {
     pub display: Display,
@@ -26,21 +26,21 @@ pub struct Format {
     pub is_annotated: bool,
 }
 
-/// What the program is asked for.
+/// What the program is asked to do.
 #[derive(Debug, Clone, Copy, PartialEq, Eq)]
 pub struct Request<'a> {
     pub format: Format,
     /// Whether the input holds many formulas, with a NUL after each.
     pub is_many: bool,
-    /// The name of the file of definitions, where the formulas may use the macros that it defines.
+    /// The name of the file of definitions, if the formulas may use the macros that it defines.
     pub definitions: Option<&'a str>,
 }
 
-/// Returns what the arguments ask for. The first of them is the program's name.
+/// Returns what the arguments ask for. The first argument is the program's name.
 ///
 /// # Errors
 ///
-/// If they are wrong, or ask for the help or the version: the error's text is then what is to be printed.
+/// If the arguments are wrong, or ask for the help or the version. The error's text is then the text to print.
 pub fn requested<'a>(alloc: Global, words: &'a [String]) -> Result<Request<'a>, Error>
     ensures { IsRequested (map string_bytes words.now) result }
 {
@@ -122,7 +122,7 @@ fn display_in(matches: &ArgMatches) -> Display
     }
 }
 
-/// Whether the option of this name is given, which takes no value.
+/// Whether the option of this name, which takes no value, is given.
 fn is_given(matches: &ArgMatches, name: &str) -> bool
     ensures { IsGiven (one_text (found_of matches.now) name.now) result }
 {

@@ -1,4 +1,4 @@
-//! A run of the program, from its input to its exit status.
+//! Runs the program, from its input to its exit status.
 ghost use Rattle.std.specs.Prelude.{◌≡◌, ◌++◌, ℕ, [], IfErr, IfOk, IfSome, IsTrue, List, codes, string_bytes};
 ghost use Rattle.std.specs.Io.KnownBytes.{IsAtEnd};
 ghost use Rattle.latex2mathml.specs.Streams.{CanGoOn};
@@ -18,8 +18,9 @@ const DONE: u8 = 0;
 
 const STOPPED: u8 = 1;
 
-/// Does what was asked for, and returns the exit status: 0, or 1 if the run stopped. `errors` then gets a line that says why.
-/// If memory for the line runs out, it is left out. If `errors` does not take the line completely, the status stays 1.
+/// Serves the request and returns the exit status: 0, or 1 if the run stopped. If it stopped, `errors` gets a line that
+/// says why. If memory for the line runs out, it is left out. If `errors` does not take the line completely, the status
+/// stays 1.
 pub fn serve<F: TextFiles, R: Source, W: Sink, E: Sink>(
     alloc: Global,
     files: &F,
@@ -47,15 +48,16 @@ pub fn serve<F: TextFiles, R: Source, W: Sink, E: Sink>(
 }
 
 /// Converts all of the input, and writes the result to the output: the markup of the formula with a line feed, or a reply to
-/// each formula. If definitions are asked for, the macros that they define hold in each formula. Neither stream may have failed
-/// or ended before the call.
+/// each formula. If definitions are asked for, the macros that they define hold in each formula. Neither stream may have
+/// failed or ended before the call.
 ///
 /// # Errors
 ///
 /// - [`Fault::UnreadDefinitions`] and [`Fault::RefusedDefinition`] if the file of definitions cannot be read, is not UTF-8, or
-///   holds what is no definition. Nothing was read of the input then, and nothing was written.
-/// - [`Fault::File`] if the input failed or is not UTF-8, or if the output stopped. It then took the first bytes of the result.
-/// - [`Fault::Refused`] if the formula is refused, or memory runs out. Nothing was written then.
+///   holds something that is not a definition. In that case nothing was read of the input, and nothing was written.
+/// - [`Fault::File`] if the input failed or is not UTF-8, or if the output stopped. If the output stopped, it took the first
+///   bytes of the result.
+/// - [`Fault::Refused`] if the formula is refused, or memory runs out. In that case nothing was written.
 pub fn run<'a, F: TextFiles, R: Source, W: Sink>(
     alloc: Global,
     files: &F,
@@ -79,7 +81,7 @@ pub fn run<'a, F: TextFiles, R: Source, W: Sink>(
     put_product(alloc, macros, request, text.as_str(), output)
 }
 
-/// Writes what is to be put out for a text whose formulas may use these macros.
+/// Writes the product of a text whose formulas may use these macros.
 fn put_product<'a, 't, W: Sink>(
     alloc: Global,
     macros: Macros<'t>,
@@ -101,7 +103,7 @@ fn put_product<'a, 't, W: Sink>(
     }
 }
 
-/// Returns what is to be put out for a text whose formulas may use these macros.
+/// Returns the product of a text, which is to be written. Its formulas may use these macros.
 fn product<'a>(
     alloc: Global,
     macros: &Macros<'a>,

@@ -13,7 +13,7 @@ const X: &str =
 const X_WITH_SOURCE: &str =
     "<math xmlns=\"http://www.w3.org/1998/Math/MathML\" display=\"inline\" alttext=\"x\"><semantics><mi>x</mi><annotation encoding=\"application/x-tex\">x</annotation></semantics></math>";
 
-/// The text of the error for a formula in a line of text, and its position.
+/// Returns the text of the error for a formula in a line of text, and its position.
 fn refusal(alloc: Global, tex: &str) -> Result<(String, Position), Fail> {
     let macros = Macros::new(alloc);
     match tex_to_mathml(alloc, &macros, tex, DisplayStyle::Inline) {

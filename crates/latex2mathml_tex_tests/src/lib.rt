@@ -1,4 +1,4 @@
-//! Tests of `tex_to_mathml`, of a converter, of macros and of the example callers, beside those that the program shows.
+//! Tests of `tex_to_mathml`, of a converter, of macros and of the example callers, in addition to what the program shows.
 #![tactic(auto)]
 
 #[cfg(test)]

@@ -4,7 +4,7 @@ use latex2mathml_tex::{DisplayStyle, Macros, tex_to_mathml};
 use std::alloc::Global;
 use std::test::Fail;
 
-/// The text of the error for a text of definitions.
+/// Returns the text of the error for a text of definitions.
 fn refusal(alloc: Global, definitions: &str) -> Result<String, Fail> {
     match Macros::read(alloc, definitions) {
         Ok(_) => Err(Fail::new(String::from_str(alloc, definitions)?)),
@@ -12,7 +12,7 @@ fn refusal(alloc: Global, definitions: &str) -> Result<String, Fail> {
     }
 }
 
-/// Whether a formula that uses what was defined is drawn as another one, in which no macro stands.
+/// Whether a formula that uses what was defined is drawn like another one, which has no macros.
 fn is_drawn_as(
     alloc: Global,
     definitions: &'static str,
@@ -116,7 +116,7 @@ fn refusals(rt: HostRuntime) -> Result<(), Fail> {
     Ok(())
 }
 
-/// What a formula defines is forgotten behind it.
+/// What a formula defines is forgotten after it.
 #[test]
 fn formulas_in_turn(rt: HostRuntime) -> Result<(), Fail> {
     let alloc = rt.alloc();

@@ -7,7 +7,7 @@ use std::test::Fail;
 
 const PREAMBLE: &str = "\\newcommand{\\R}{\\mathbb{R}}";
 
-/// The markup of a formula of a page in a line of text, or the text of its error behind the word that says whose it is.
+/// Returns the markup of a formula of a page in a line of text, or the text of its error after a word that says whose it is.
 fn shown(alloc: Global, preamble: Option<&'static str>, tex: &'static str) -> Result<String, Fail> {
     Ok(match formula(alloc, preamble, tex, DisplayStyle::Inline) {
         Ok(markup) => markup,

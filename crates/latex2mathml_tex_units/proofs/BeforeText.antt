@@ -12,7 +12,7 @@ put_before-push (v ∷ us) u l = put_before-push us u (units.Next (unit_of v) l)
 pub put_before-last : (old new : List Unit) (u : Unit) (l : Units) → old ≡ new ++ u ∷ [] → put_before old l ≡ units.Next (unit_of u) (put_before new l)
 put_before-last old new u l e = ap (λ us. put_before us l) e ∙ put_before-push new u l
 
--- what was put last stands next
+-- what was put last is next
 pub last_next : (us : List Unit) (l : Units) (u : Unit) → slice_get us (length us - 1) ≡ Some u → Some (piece_of u.piece) ≡ next_piece (put_before us l)
 last_next [] l u e = absurd (none_some u e)
   where

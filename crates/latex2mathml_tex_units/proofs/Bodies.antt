@@ -7,7 +7,7 @@ use Rattle.latex2mathml_tex_grammar.specs.Macros as macros
 use Rattle.latex2mathml_tex_units.specs.{Bodies.part_of, Taking.piece_of, Taking.unit_of, declared.macros.part.Part.Part, declared.unit.Unit.Unit}
 use Rattle.latex2mathml_tex_units.specs.declared.macros.part.Part.TheVariants as part
 
--- with these parts before them
+-- what is found, preceded by these parts
 abbrev pub with_parts : List macros.Part → Option (List macros.Part) → Option (List macros.Part)
 with_parts xs (Some ys) = Some (xs ++ ys)
 with_parts xs None = None
@@ -16,7 +16,7 @@ with_parts-push : (xs : List macros.Part) (x : macros.Part) (o : Option (List ma
 with_parts-push xs x (Some ys) = ap Some (append_assoc xs (x ∷ []) ys)
 with_parts-push xs x None = refl
 
--- a part is put behind those that were found
+-- a part is put after those that were found
 pushed : (xs xs' : List Part) (x : Part) (o : Option (List macros.Part)) → xs' ≡ xs ++ x ∷ [] → with_parts (map part_of xs) (part_before (Some (part_of x)) o) ≡ with_parts (map part_of xs') o
 pushed xs xs' x o e = sym (ap (λ ys. with_parts ys o) (ap (map part_of) e ∙ map-append part_of xs (x ∷ [])) ∙ with_parts-push (map part_of xs) (part_of x) o)
 

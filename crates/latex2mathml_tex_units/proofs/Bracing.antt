@@ -1,4 +1,4 @@
--- Delimiters that stand next, in braces or without.
+-- Delimiters that come next, in braces or without.
 use Rattle.std.proofs.Common.{◌≡◌, ◌≤◌, ℕ, List, [], ◌∷◌, ◌++◌, None, Some, Option, append-nil, refl, subst, sym}
 use Rattle.latex2mathml_tex_grammar.specs.{Delimiters.delimiter_of, Next.next_are, Units.Units}
 use Rattle.latex2mathml_tex_grammar.specs.Reading.{ReadsRule, rule_refuses, units_missing, units_taken}
@@ -37,7 +37,7 @@ module _ (l m : Units) (e : next_are (a_left_brace ∷ []) l ≡ Some ([], m)) w
     pub braced_taken : (k : Units) → next_are (a_right_brace ∷ []) n ≡ Some ([], k) → braced l ≡ Some (text ++ [], k)
     braced_taken k g = rw (first_stands a_left_brace (delimiter_of ∷ a_right_brace ∷ []) l m [] e, first_stands delimiter_of (a_right_brace ∷ []) m n text f, g) refl
 
--- What each of the three hands on
+-- What each of the three cases hands on
 
 pub bare_hands : (l m : Units) (text : List ℕ) → next_are (delimiter_of ∷ []) l ≡ Some (text, m) → (place : ℕ) → HandsOn (an_outer_delimiter place) l text m
 bare_hands l m text e place more o d = units_taken e d

@@ -1,4 +1,4 @@
--- Macros that a text of definitions defines, which holds in a formula as a table of its own.
+-- Macros that a text of definitions defines, and which hold in a formula as a table of their own.
 use Rattle.std.proofs.Common.{◌≡◌, ℕ, List, [], Option, Some, None, option_map, Ok, Err, ap, refl, ◌∙◌}
 use Rattle.std.specs.BTreeMap as tree
 use Rattle.latex2mathml_tex_grammar.specs.{Cutting.units_of, DefinitionTexts.AreRefused, DefinitionTexts.Defines, DefinitionTexts.no_more, Macros.Macro, Macros.SameMacros, Macros.Table, Refusal.refusal_at, Units.End, Units.at_end, UsualMacros.usual_macros}
@@ -12,7 +12,7 @@ use Rattle.latex2mathml_tex_units.specs.declared.macros.halt.Halt.TheVariants as
 pub usual_defined : Defines [] usual_macros
 usual_defined = record { units = End 0; end = 0; spelled = at_end refl refl; read = no_more refl }
 
--- where a text has defined nothing, the usual macros hold
+-- if a text has defined nothing, the usual macros hold
 pub usual_alone : (m : Macros) → tree.IsEmpty m.defined → SameMacros usual_macros (macros_in m)
 usual_alone m e name = rw e refl
 
@@ -20,7 +20,7 @@ or_nothing : (found : Option Macro) → or_else found None ≡ found
 or_nothing (Some m) = refl
 or_nothing None = refl
 
--- where nothing was defined before a text, what it defines is all
+-- if nothing was defined before a text, what it defines is all
 alone : (scope : Scope) → scope.outer ≡ None → SameMacros (table_of scope) (macros_in (record { defined = scope.inner }))
 alone scope e name =
     ap (λ outer. or_usual (or_else (defined_here scope name) (defined_before (option_map (λ o. o.now) outer) name)) name) e ∙ ap (λ found. or_usual found name) (or_nothing (defined_here scope name))

@@ -14,7 +14,7 @@ use Rattle.latex2mathml_tex_units.specs.declared.macros.{halt.Halt.Halt, scope.S
 use Rattle.latex2mathml_tex_units.specs.declared.macros.halt.Halt.TheVariants as halt
 use Rattle.latex2mathml_tex_units.specs.{Defined.definition_in, Pending.Comes}
 
--- whatever the units that are left come to, the whole text comes to
+-- the outcome of the units that are left is that of the whole text
 abbrev pub Leads : Units → Scope → Units → Type 0
 Leads start scope l = (table : Table) × SameMacros table (table_of scope) × (scope.outer ≡ None) × ((o : Outcome Table) → ReadsDefinitions table l o → ReadsDefinitions usual_macros start o)
 

@@ -7,7 +7,7 @@ use Rattle.latex2mathml_tex_grammar.specs.Units.{Units, Next, End, Stop}
 use Rattle.latex2mathml_tex_units.specs.{Pending.units_in, Taking.piece_of, Taking.unit_of, declared.unit.Unit.Unit, declared.unit.Piece.Piece}
 use Rattle.latex2mathml_tex_units.specs.declared.unit.Piece.TheVariants as piece
 
--- with all of these read before it
+-- what is read, preceded by all of these
 abbrev pub with_all : {A : Type 0} → List A → Outcome (List A) → Outcome (List A)
 with_all xs (Read ys l) = Read (xs ++ ys) l
 with_all xs (Refused r) = Refused r

@@ -3,7 +3,7 @@ use Rattle.std.proofs.Common.{◌≡◌, ℕ, ◌-◌, ◌^◌, false, List, [],
 use Rattle.std.specs.Fmt.{format_spec, padded_integral, char_count, number_padding}
 use Rattle.std.specs.Prelude.{replicate}
 
--- zeros stand before the digits, up to four
+-- zeros precede the digits, up to a width of four
 pub zeros_before : (digits : List ℕ)
     → padded_integral (format_spec 32 0 4 4 (2 ^ 64 - 1)) false [] digits ≡ replicate (4 - length digits) 48 ++ digits
 unfolding padded_integral char_count

@@ -16,7 +16,7 @@ entry_found (e ∷ es) name d some h = rw h refl
 pub one_of_nine : (a b c d e f g h i : Bool) → a ≡ false → b ≡ false → c ≡ false → d ≡ false → e ≡ false → f ≡ false → g ≡ false → h ≡ false → i ≡ false → ((((((((a || b) || c) || d) || e) || f) || g) || h) || i) ≡ false
 one_of_nine a b c d e f g h i p q r s t u v w x = rw (p, q, r, s, t, u, v, w, x) refl
 
--- Letters that say columns
+-- Letters that represent columns
 
 length-columns : (cs : List ℕ) → length (columns_of cs) ≡ length cs
 length-columns [] = refl

@@ -1,4 +1,4 @@
--- Names that stand in no entry.
+-- Names that are in no entry.
 use Rattle.std.proofs.Common.{◌≡◌, ℕ, false, List, inl, inr, sym}
 use Rattle.std.proofs.{lemmas.Bool.cases_Bool, lemmas.Slice.Eq.bytes_eq-Decides}
 use Rattle.std.specs.Str.{bytes_eq}

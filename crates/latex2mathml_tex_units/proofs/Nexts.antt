@@ -1,11 +1,11 @@
--- Units that stand next, white space aside.
+-- Units that come next, ignoring white space.
 use Rattle.std.proofs.Common.{◌≡◌, ℕ, ◌<◌, ◌≤◌, List, [], ◌∷◌, ◌++◌, Option, Some, None, arith, inl, inr, refl, ap, ◌∙◌, append-nil, sym}
 use Rattle.std.proofs.lemmas.Bool.{cases_Bool}
 use Rattle.latex2mathml_tex_grammar.specs.Next.{first_is, first_passes, is_space_piece, next_are, past_space, with_text}
 use Rattle.latex2mathml_tex_grammar.specs.Units.{Piece, Units, Next, End, Stop}
 use Rattle.latex2mathml_tex_units.specs.Left.{unit_count}
 
--- a unit that passes a test, and one after it
+-- a unit that passes a test, followed by another
 module _ (first second : Piece → Option (List ℕ)) where
   passed : (found : Option (List ℕ)) (us m n : Units) (a b : List ℕ) → first_passes found (Some ([], us)) ≡ Some (a, m) → first_is second (next_are []) (past_space m) ≡ Some (b, n) → first_passes found (first_is second (next_are []) (past_space us)) ≡ Some (a ++ b, n)
   passed (Some text) us m n a b e f =
@@ -25,7 +25,7 @@ module _ (first second : Piece → Option (List ℕ)) where
       seen (End place) h = cc
       seen (Stop r) h = cc
 
--- a unit that passes a test, and what stands behind it
+-- a unit that passes a test, and what follows it
 module _ (test : Piece → Option (List ℕ)) (tests : List (Piece → Option (List ℕ))) where
   found_behind : (found : Option (List ℕ)) (us m : Units) (a : List ℕ) → first_passes found (Some ([], us)) ≡ Some (a, m) → first_passes found (next_are tests us) ≡ with_text a (next_are tests m)
   found_behind (Some text) us m a e =
@@ -67,7 +67,7 @@ no_more_past_space (Next u us) = elim (cases_Bool (is_space_piece u.piece)) [
 no_more_past_space (End place) = omega arith
 no_more_past_space (Stop r) = omega arith
 
--- where units that pass tests are taken
+-- the number of units left does not grow when units that pass tests are taken
 no_more_passed : (found : Option (List ℕ)) (others : Option (List ℕ × Units)) (n : ℕ) → ((texts : List ℕ) (m : Units) → others ≡ Some (texts, m) → unit_count m ≤ n) → (texts : List ℕ) (m : Units) → first_passes found others ≡ Some (texts, m) → unit_count m ≤ n
 no_more_passed (Some first) (Some (behind, k)) n h texts m e =
     let here : List ℕ × Units = (first ++ behind, k) in

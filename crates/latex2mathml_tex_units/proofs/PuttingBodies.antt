@@ -1,4 +1,4 @@
--- Units that are put, one after another from the last one on.
+-- Units that are put one after another, from the last one on.
 use Rattle.std.proofs.Common.{◌≡◌, ℕ, zero, suc, ◌+◌, ◌<◌, ◌≤◌, true, false, List, [], ◌∷◌, ◌++◌, map, drop, get_or, length, refl, sym, ap, ◌∙◌, length-append, arith, Vec, Global}
 use Rattle.std.proofs.lemmas.List.{drop_more}
 use Rattle.latex2mathml_tex_grammar.specs.Macros.{argument_at, before, put, put_part}
@@ -53,7 +53,7 @@ put_fewer args place (suc k) (p ∷ ps) =
     let e = length-append (put_part args place (part_of p)) (put args place (map part_of ps)) in
     omega (arith, ih, e)
 
--- where there is no room for a part, there is none for the body
+-- if there is no room for a part, there is none for the body
 pub no_room : (args : List (List units.Unit)) (place : ℕ) (body : List Part) (k left : ℕ) (d : Part) (first room room' : ℕ) (start l m : Units)
     → IsPut true (put args place (map part_of (drop left body))) first room start l
     → left ≡ k + 1

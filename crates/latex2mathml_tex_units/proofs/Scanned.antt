@@ -27,7 +27,7 @@ pub behind_character : (text : List ℕ) (c : ℕ) (found : Found) → behind_te
 behind_character text c (Given more l) = ap (λ t. Given t l) (append_assoc text (encode_utf8 c) more)
 behind_character text c (Missing r) = refl
 
--- nothing more is found behind a text
+-- nothing more is found after a text
 pub found_nothing : (error : Option TexError) (text : List ℕ) (l : Units) (found : Found) → IsFound error [] l found → IsFound error text l (behind_text text found)
 found_nothing None text l found h = ap (behind_text text) h ∙ ap (λ t. Given t l) (append-nil text)
 found_nothing (Some error) text l found (r, e, h) = (r, e, ap (behind_text text) h)

@@ -1,4 +1,4 @@
--- How texts begin: what each branch of the reader has found is what the definitions say.
+-- How texts begin: what each branch of the lexer has found agrees with the definitions.
 use Rattle.std.proofs.Common.{◌≡◌, ℕ, ◌+◌, true, false, List, [], ◌∷◌, ◌++◌, codes, refl, sym, ap, subst, ◌∙◌, arith, append_assoc, Some, None}
 use Rattle.std.proofs.lemmas.Bool.Decides.{nat_tests}
 use Rattle.std.specs.{Char.is_ascii_alphabetic, Str.byte, Str.encode_utf8_all}
@@ -18,7 +18,7 @@ lone_here place text e = lone_backslash (ap (λ k. byte "\\" ∷ k) e) (ap (refu
 pub forbidden_named : (c : ℕ) (text after : List ℕ) → text ≡ c ∷ after → is_forbidden c ≡ true → (place : ℕ) → IsRefusedAt place (byte "\\" ∷ text) (refusal_at (ForbiddenCharacter c) (place + 1))
 forbidden_named c text after e h place = forbidden_name c after h (ap (λ k. byte "\\" ∷ k) e) refl
 
--- a command that is one character which is no letter
+-- a command whose name is one character that is no letter
 pub symbol_named : (c : ℕ) (text after name : List ℕ) → text ≡ c ∷ after → is_ascii_alphabetic c ≡ false → is_forbidden c ≡ false → name ≡ symbol_name c → (w : List ℕ) × (byte "\\" ∷ text ≡ w ++ after) × Spells w after (Some (Command name))
 symbol_named c text after name e h f n = (byte "\\" ∷ c ∷ [], ap (λ k. byte "\\" ∷ k) e, symbol_command c h f refl (ap (λ k. Some (Command k)) n))
 
@@ -40,7 +40,7 @@ comment_ends text end after c (w, (whole, run)) e =
     let all : text ≡ (w ++ codes "\n") ++ after = whole ∙ ap (λ k. w ++ k) (e ∙ ap (λ d. d ∷ after) line_feed) ∙ sym (append_assoc w (codes "\n") after) in
     (byte "%" ∷ (w ++ codes "\n"), ap (λ k. byte "%" ∷ k) all, comment w refl (record { passes = run.passes; ends = refl }) refl)
 
--- or with the text
+-- a comment that ends with the text
 pub comment_ends_text : (text end : List ℕ) → (w : List ℕ) × ((text ≡ w ++ end) × IsRun is_in_line w end) → end ≡ [] → IsCommentEnd text end
 comment_ends_text text end (w, (whole, run)) e = (byte "%" ∷ w, ap (λ k. byte "%" ∷ k) whole, last_comment w refl run e refl)
 

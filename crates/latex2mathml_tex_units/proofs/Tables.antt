@@ -32,7 +32,7 @@ pub none_defined : (x : Option Macro) (name : List ℕ) → is_some x ≡ false 
 none_defined (Some m) name e = cc
 none_defined None name e = refl
 
--- what a definition behind another word than `\providecommand` does
+-- what a definition after another word than `\providecommand` does
 pub defined_anew : (w : Word) (d : Definition) (t : Table) → (w ≡ word.ProvideCommand → ⊥) → (name : List ℕ) → with_macro d.name d.stands_for t name ≡ behind_definition (word_of w) d t name
 defined_anew word.ProvideCommand d t h name = absurd (h refl)
 defined_anew word.NewCommand d t h name = refl

@@ -1,4 +1,4 @@
--- What a start of a text takes from its units.
+-- What the start of a text takes from its units.
 use Rattle.std.proofs.Common.{◌≡◌, ℕ, ◌+◌, ◌-◌, ◌≤◌, List, [], ◌∷◌, ◌++◌, length, Some, None, refl, sym, ap, ◌∙◌, arith}
 use Rattle.std.specs.Str.{chars, IsUtf8}
 use Rattle.latex2mathml_tex_grammar.specs.{Cutting.units_of, Refusal.Refusal}
@@ -12,11 +12,11 @@ nothing_left place text e = units_are place text (End place) (at_end e refl)
 pub refused_there : (place : ℕ) (text : List ℕ) (r : Refusal) → IsRefusedAt place text r → units_of place text ≡ Stop r
 refused_there place text r h = units_are place text (Stop r) (refused r h refl)
 
--- the end of a text does not reach before its beginning
+-- the end of a text does not begin before the text
 pub end_within : (text rest : List ℕ) → IsUtf8 text → IsUtf8 rest → (w : List ℕ) × (chars text ≡ w ++ chars rest) → length rest ≤ length text
 end_within text rest u v (w, e) = omega (arith, text_length text rest w u v e)
 
--- the place behind a slice
+-- the place after a slice
 behind_is : (place : ℕ) (text rest w : List ℕ) → IsUtf8 text → IsUtf8 rest → chars text ≡ w ++ chars rest → behind place w ≡ place + (length text - length rest)
 behind_is place text rest w u v e = omega (arith, text_length text rest w u v e)
 
@@ -33,7 +33,7 @@ unfolding chars
 some_bytes c [] after e = absurd (cc)
 some_bytes c (b ∷ text) after e = omega arith
 
--- a text that is refused has a byte
+-- a text that is refused has at least one byte
 pub refused_some : (place : ℕ) (text : List ℕ) (r : Refusal) → IsRefusedAt place (chars text) r → 1 ≤ length text
 refused_some place text r (lone_backslash e f) = some_bytes _ text _ e
 refused_some place text r (forbidden c rest h e f) = some_bytes c text rest e

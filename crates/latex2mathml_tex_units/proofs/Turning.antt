@@ -35,7 +35,7 @@ pub replaced_defined : (m : Scope) (name : List ℕ) (place uses room uses_left 
 replaced_defined m name place uses room uses_left room_left l k found e d =
     (table_of m, ap (λ x. turn_of (name_role (or_usual x name) name) (table_of m) uses room (named name place) l) (sym e) ∙ d, λ other. refl)
 
--- what a name stands for that was not defined
+-- what a name that was not defined means
 undefined : (m : Scope) (name : List ℕ) (x : Option Macro) → None ≡ defined_in m name → x ≡ usual_macros name → x ≡ table_of m name
 undefined m name x e f = f ∙ ap (λ y. or_usual y name) e
 
@@ -78,7 +78,7 @@ ended (next.Unit u) table uses room l k start same apart d = absurd (apart u ref
 ended (next.End place) table uses room l k start same apart (is, left) = (sym same ∙ ap (expansion table uses room) is ∙ expansion_end table uses room place, ap (expansion table uses room) left ∙ same)
 ended (next.Fault fault place) table uses room l k start same apart (is, left) = (sym same ∙ ap (expansion table uses room) is ∙ expansion_stop table uses room _, ap (expansion table uses room) left ∙ same)
 
--- a unit that stands
+-- a unit that stays
 pub stood : (taken : Next) (table : Table) (uses room : ℕ) (u : Unit) (v : units.Unit) (l k start x : Units) → taken ≡ next.Unit u → expansion table uses room l ≡ start → l ≡ units.Next (unit_of u) k → unit_of u ≡ v
     → turn table uses room v k ≡ Stays → x ≡ expansion table uses room k → Takes taken start x
 stood taken table uses room u v l k start x e same is v_is stays rest =

@@ -1,4 +1,4 @@
--- The table of usual macros is sorted, and a look-up in it is one by name.
+-- The table of usual macros is sorted, and looking up in it is looking up by name.
 use Rattle.std.proofs.Common.{◌≡◌, ℕ, ◌<◌, true, List, [], ◌∷◌, Some, if◌then◌else◌, length, map, refl, ap, ◌∙◌, arith}
 use Rattle.std.specs.Str.{bytes_eq}
 use Rattle.std.proofs.lemmas.List.{length-map}

@@ -19,7 +19,7 @@ macro_of m = macros.macro m.arity (parts_in m.body)
 abbrev pub entry_of : Usual → List ℕ × ℕ × List ℕ
 entry_of entry = (entry.name.now, entry.arity, entry.body.now)
 
--- .. by its name
+-- the entry as a pair of its name and the rest
 abbrev pub by_name : List ℕ × ℕ × List ℕ → List ℕ × (ℕ × List ℕ)
 by_name entry = (entry.0, (entry.1, entry.2))
 

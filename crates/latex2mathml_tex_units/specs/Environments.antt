@@ -1,4 +1,4 @@
--- The environments of the code, as the definitions have them.
+-- The environments of the code, as the definitions describe them.
 use Rattle.std.specs.Prelude.{ℕ, List, [], ◌∷◌, option_map, Option}
 use Rattle.latex2mathml_elements.specs.Columns.{Centered, LeftAligned, RightAligned, Dense, Columns, Alike, InPairs, Listed}
 use Rattle.latex2mathml_tex_grammar.specs.Environments as environments

@@ -5,7 +5,7 @@ use Rattle.latex2mathml_tex_units.specs.Errors.{kind_of_error, refusal_of}
 use Rattle.latex2mathml_tex_units.specs.declared.error.{TexError.TexError, TexErrorKind.TexErrorKind}
 use Rattle.latex2mathml_tex_grammar.specs.Refusal as kind
 
--- a number in hexadecimal, with four digits at least
+-- a number in hexadecimal, with at least four digits
 abbrev pub four_digits : ℕ → List ℕ
 four_digits n = replicate (4 - length (digits 16 true n)) (byte "0") ++ digits 16 true n
 
@@ -55,7 +55,7 @@ kind_text kind.NoDefinition = codes "not a definition"
 abbrev pub refusal_text : kind.Refusal → List ℕ
 refusal_text refusal = kind_text refusal.kind ++ (codes " at " ++ decimal refusal.place)
 
--- the text of what is a refusal or is out of memory, by the text of what it is where it is a refusal
+-- the text of a refusal, which `text` gives, or that of running out of memory
 abbrev pub text_by : {A : Type 0} → (A → List ℕ) → Option A → List ℕ
 text_by text (Some refused) = text refused
 text_by text None = codes "out of memory"

@@ -53,11 +53,11 @@ kind_of_error kind.OutOfMemory = None
 abbrev pub refusal_of : TexError → Option refusal.Refusal
 refusal_of error = option_map (λ k. refusal.refusal_at k error.place) (kind_of_error error.kind)
 
--- the error is out of memory, or this holds of the refusal that it reports
+-- the error is running out of memory, or this holds of the refusal that it reports
 abbrev pub IfRefused : {A : Type 0} → Result A TexError → (refusal.Refusal → Type 0) → Type 0
 IfRefused result P = IfErr result (λ error. IfSome (refusal_of error) P)
 
--- whether the error is that `&` or `\\` stands outside of all tables
+-- whether the error is that `&` or `\\` is outside of all tables
 abbrev pub is_outside_kind : TexErrorKind → Bool
 is_outside_kind kind.OutsideTable = true
 is_outside_kind k = false
@@ -66,7 +66,7 @@ abbrev pub is_outside_error : {A : Type 0} → Result A TexError → Bool
 is_outside_error (Ok x) = false
 is_outside_error (Err error) = is_outside_kind error.kind
 
--- out of memory: no place of the text is at fault
+-- the error of running out of memory: no place of the text is at fault
 abbrev pub out_of_memory : TexError
 out_of_memory = record { kind = kind.OutOfMemory; place = 0 }
 

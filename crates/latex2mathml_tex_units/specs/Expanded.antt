@@ -6,7 +6,7 @@ use Rattle.latex2mathml_tex_units.specs.{Pending.pending_units, MacroTables.tabl
 use Rattle.latex2mathml_tex_units.specs.declared.{macros.expander.Expander.Expander, macros.halt.Halt.Halt, unit.Fault.Fault}
 use Rattle.latex2mathml_tex_units.specs.declared.macros.halt.Halt.TheVariants as halt
 
--- what was refused is all that is left
+-- only the refusal, if there was one; otherwise these units
 abbrev pub after_refusal : Option (Fault × ℕ) → units.Units → units.Units
 after_refusal (Some refused) l = units.Stop (refusal_at (kind_of refused.0) refused.1)
 after_refusal None l = l
@@ -18,18 +18,18 @@ still_expanded e = expansion (table_of e.macros) e.uses e.room (pending_units e.
 abbrev pub expanded_left : Expander → units.Units
 expanded_left e = after_refusal e.refused (still_expanded e)
 
--- what becomes of a command of this name that stood at this place
+-- what becomes of a command with this name that was taken at this place
 abbrev pub turn_of_name : Expander → List ℕ → ℕ → Turn
 turn_of_name e name place = turn (table_of e.macros) e.uses e.room (units.unit (units.Command name) place) (pending_units e.pending)
 
--- what becomes of a unit, in the turn from one state to another, is what the result says
+-- the result says what becomes of a unit in the turn from one state to another
 abbrev pub Turned : Result Bool Halt → Turn → Expander → Expander → Type 0
 Turned (Ok true) turn old new = (next : Table) × (turn ≡ Turns next new.uses new.room (pending_units new.pending)) × SameMacros next (table_of new.macros)
 Turned (Ok false) turn old new = (turn ≡ Stays) × (still_expanded new ≡ still_expanded old)
 Turned (Err (halt.Refused fault place)) turn old new = turn ≡ Fails (refusal_at (kind_of fault) place)
 Turned (Err halt.OutOfMemory) turn old new = ⊤
 
--- these units are the refusal
+-- these units are the refusal alone
 abbrev pub IsHalted : Halt → units.Units → Type 0
 IsHalted (halt.Refused fault place) l = l ≡ units.Stop (refusal_at (kind_of fault) place)
 IsHalted halt.OutOfMemory l = ⊤

@@ -4,15 +4,15 @@ use Rattle.std.specs.Str.{chars}
 use Rattle.latex2mathml_tex_grammar.specs.{Cutting.units_of, Macros.before, Next.next_are, Refusal.refusal_at, Units.Units}
 use Rattle.latex2mathml_tex_grammar.specs.Units as units
 use Rattle.latex2mathml_tex_units.specs.Taking.{kind_of, unit_of}
-use Rattle.latex2mathml_tex_units.specs.declared.{input.Input.Input, macros.whole.End.End, reader.Reader.Reader, unit.Next.Next}
+use Rattle.latex2mathml_tex_units.specs.declared.{input.Input.Input, macros.whole.End.End, lexer.Lexer.Lexer, unit.Next.Next}
 use Rattle.latex2mathml_tex_units.specs.declared.macros.whole.End.TheVariants as end
 use Rattle.latex2mathml_tex_units.specs.declared.unit.Next.TheVariants as next
 
--- .. by a reader
-abbrev pub units_left : Reader → Units
+-- the units that a lexer has left
+abbrev pub units_left : Lexer → Units
 units_left r = units_of r.place (chars r.rest.now)
 
--- these units, behind what stands before them
+-- what is next, followed by these units
 abbrev pub put_back : Next → Units → Units
 put_back (next.Unit u) l = units.Next (unit_of u) l
 put_back (next.End place) l = units.End place
@@ -23,23 +23,23 @@ abbrev pub units_end : End → Units
 units_end (end.Text place) = units.End place
 units_end (end.Fault fault place) = units.Stop (refusal_at (kind_of fault) place)
 
--- those behind the one that is in sight
+-- the units after the lookahead
 abbrev pub units_behind : Input → Units
 units_behind i = before (map unit_of (drop i.passed i.units.now)) (units_end i.end)
 
--- .. and with it
+-- the lookahead and the units after it
 abbrev pub units_at : Input → Units
 units_at i = put_back i.next (units_behind i)
 
--- units that pass these tests stood next and were taken: this is their text
+-- units that pass these tests came next and were taken: this is their text
 abbrev pub TakesNext : List (units.Piece → Option (List ℕ)) → List ℕ → Input → Input → Type 0
 TakesNext tests text old new = next_are tests (units_at old) ≡ Some (text, units_at new)
 
--- no such units stand next, and none is taken
+-- no such units come next, and none is taken
 abbrev pub TakesNone : List (units.Piece → Option (List ℕ)) → Input → Input → Type 0
 TakesNone tests old new = (next_are tests (units_at old) ≡ None) × (units_at new ≡ units_at old)
 
--- how many there are
+-- how many units there are
 abbrev pub unit_count : Units → ℕ
 unit_count (units.Next u l) = suc (unit_count l)
 unit_count (units.End place) = 0

@@ -5,12 +5,12 @@ use Rattle.std.specs.{Cmp.Lexicographic.slice_cmp, Ordering.nat_cmp}
 use Rattle.latex2mathml_tex_grammar.specs.{DefinitionTexts.Defines, Macros.Macro, Macros.SameMacros, Macros.Table, UsualMacros.usual_macros}
 use Rattle.latex2mathml_tex_units.specs.{Bodies.macro_of, declared.macros.scope.Scope.Scope, declared.macros.table.Macros.Macros}
 
--- the first of two, where there is one, or else the other
+-- the first of two, if there is one, or else the other
 abbrev pub or_else : Option Macro → Option Macro → Option Macro
 or_else (Some m) other = Some m
 or_else None other = other
 
--- a usual macro holds where none of its name was defined
+-- a usual macro holds if no macro with its name was defined
 abbrev pub or_usual : Option Macro → List ℕ → Option Macro
 or_usual found name = or_else found (usual_macros name)
 
@@ -21,7 +21,7 @@ defined_by m name = option_map macro_of (tree.get_by (λ k. slice_cmp nat_cmp na
 abbrev pub macros_in : Macros → Table
 macros_in m name = or_usual (defined_by m name) name
 
--- what holds of each table in which each name stands for what it stands for among these macros
+-- this holds of each table in which each name means what it means among these macros
 abbrev pub Holding : Macros → (Table → Type 0) → Type 0
 Holding m P = (table : Table) → SameMacros table (macros_in m) → P table
 
@@ -29,7 +29,7 @@ Holding m P = (table : Table) → SameMacros table (macros_in m) → P table
 abbrev pub AreDefined : Macros → Type 0
 AreDefined m = (definitions : List ℕ) × (table : Table) × Defines definitions table × SameMacros table (macros_in m)
 
--- In a text: what it defined itself comes first, and then what was defined before it
+-- In a text: what the text itself defined comes first, and then what was defined before it
 
 abbrev pub defined_before : Option Macros → Table
 defined_before (Some outer) name = defined_by outer name

@@ -3,11 +3,11 @@ use Rattle.std.specs.Prelude.{ℕ, ◌+◌, List, take}
 use Rattle.std.specs.{Fmt.is_char_start, List.after_last, List.count_by}
 use Rattle.latex2mathml_tex_grammar.specs.Units.{is_line_feed}
 
--- what stands before a place: all of the text, if it ends before the place
+-- the text before a place: all of it, if it ends before the place
 abbrev pub before : ℕ → List ℕ → List ℕ
 before place text = take place text
 
--- what stands between the last line feed before a place and the place
+-- the text between the last line feed before a place and the place
 abbrev pub line_before : ℕ → List ℕ → List ℕ
 line_before place text = after_last is_line_feed (before place text)
 

@@ -7,7 +7,7 @@ use Rattle.latex2mathml_tex_units.specs.{Bodies.part_of, Pending.pending_units, 
 use Rattle.latex2mathml_tex_units.specs.declared.{macros.halt.Halt.Halt, macros.part.Part.Part, macros.pending.Pending.Pending, unit.Unit.Unit}
 use Rattle.latex2mathml_tex_units.specs.declared.macros.halt.Halt.TheVariants as halt
 
--- whether the units were put before the others, where there was so much room, of which so much is left
+-- whether the units were put before the others, with room for `room` units before and for `left` after
 abbrev pub IsPut : Bool → List units.Unit → ℕ → ℕ → units.Units → units.Units → Type 0
 IsPut true us room left old new = (room ≡ left + length us) × (new ≡ before us old)
 IsPut false us room left old new = room < length us
@@ -16,7 +16,7 @@ IsPut false us room left old new = room < length us
 abbrev pub ArePut : List units.Unit → Pending → Pending → Type 0
 ArePut us old new = pending_units new ≡ before us (pending_units old)
 
--- the result says whether they were, where there was so much room, of which so much is left
+-- the result says whether these units were put, with room for `room` units before and for `left` after
 abbrev pub Puts : {E : Type 0} → Result Bool E → List units.Unit → ℕ → ℕ → Pending → Pending → Type 0
 Puts result us room left old new = IfOk result (λ is_put. IsPut is_put us room left (pending_units old) (pending_units new))
 
@@ -24,11 +24,11 @@ Puts result us room left old new = IfOk result (λ is_put. IsPut is_put us room 
 abbrev pub part_units : List (Vec Unit Global) → ℕ → Part → List units.Unit
 part_units arguments place part = put_part (map units_in arguments) place (part_of part)
 
--- and a body
+-- what a body puts, with these arguments, at this place
 abbrev pub body_units : List (Vec Unit Global) → ℕ → List Part → List units.Unit
 body_units arguments place body = put (map units_in arguments) place (map part_of body)
 
--- what becomes of the use of a macro is what the result says: with so many uses, so much room and these units
+-- the result says what becomes of the use of a macro: the units l, with `uses` more uses and room for `room` more units
 abbrev pub Replaces : {A : Type 0} → Result A Halt → Turn → Table → ℕ → ℕ → units.Units → Type 0
 Replaces (Ok done) turn table uses room l = turn ≡ Turns table uses room l
 Replaces (Err (halt.Refused fault place)) turn table uses room l = turn ≡ Fails (refusal_at (kind_of fault) place)

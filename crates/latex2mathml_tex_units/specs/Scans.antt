@@ -1,4 +1,4 @@
--- Where a unit stands that is taken one by one, and what it does, as the definitions have them.
+-- Where a unit is when units are taken one by one, and what it does there, as the definitions have it.
 use Rattle.std.specs.Prelude.{◌≡◌, ℕ, List, ◌++◌, Option, Some, None}
 use Rattle.latex2mathml_tex_grammar.specs.Refusal.{Refusal, UnknownColumn}
 use Rattle.latex2mathml_tex_grammar.specs.Scanning as scanning
@@ -51,12 +51,12 @@ deed_of deed.Leaves = scanning.Leaves
 deed_of deed.Misses = scanning.Misses
 deed_of deed.Refuses = scanning.Refuses UnknownColumn
 
--- what is found, with a text before it
+-- what is found, preceded by a text
 abbrev pub behind_text : List ℕ → Found → Found
 behind_text text (Given more l) = Given (text ++ more) l
 behind_text text (Missing r) = Missing r
 
--- where no error is returned, this text was found, and these units are left; otherwise it is refused as the error says
+-- if no error is returned, this text was found, and these units are left; otherwise it is refused as the error says
 abbrev pub IsFound : Option TexError → List ℕ → Units → Found → Type 0
 IsFound None text l found = found ≡ Given text l
 IsFound (Some error) text l found = (r : Refusal) × (refusal_of error ≡ Some r) × (found ≡ Missing r)

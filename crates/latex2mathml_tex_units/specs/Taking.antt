@@ -1,12 +1,12 @@
--- What the reader's functions return, in the words of the definitions of units.
+-- What the lexer's functions return, in terms of the definitions of units.
 use Rattle.std.specs.Prelude.{◌≡◌, ℕ, ◌+◌, ◌≤◌, List, [], ◌∷◌, ◌++◌, Some, None, ⊤}
 use Rattle.std.specs.Str.{byte, chars}
 use Rattle.latex2mathml_tex_grammar.specs.Refusal.{Kind, LoneBackslash, ForbiddenCharacter, refusal_at}
 use Rattle.latex2mathml_tex_grammar.specs.Refusal as refusal
 use Rattle.latex2mathml_tex_grammar.specs.Units as units
 use Rattle.latex2mathml_tex_grammar.specs.Units.{Units, Spells, IsRefusedAt}
-use Rattle.latex2mathml_tex_units.specs.declared.reader.slices.Start.{Start}
-use Rattle.latex2mathml_tex_units.specs.declared.reader.slices.Start.TheVariants as start
+use Rattle.latex2mathml_tex_units.specs.declared.lexer.slices.Start.{Start}
+use Rattle.latex2mathml_tex_units.specs.declared.lexer.slices.Start.TheVariants as start
 use Rattle.latex2mathml_tex_units.specs.declared.unit.{Fault.Fault, Next.Next, Piece.Piece, Unit.Unit}
 use Rattle.latex2mathml_tex_units.specs.declared.unit.Fault.TheVariants as fault
 use Rattle.latex2mathml_tex_units.specs.declared.unit.Next.TheVariants as next
@@ -37,26 +37,26 @@ kind_of fault.DelimitedArgument = refusal.DelimitedArgument
 kind_of fault.UnknownParameter = refusal.UnknownParameter
 kind_of fault.NoDefinition = refusal.NoDefinition
 
--- what stands next was taken from the units `old`, and the units `new` are left
+-- what comes next was taken from the units `old`, and the units `new` are left
 abbrev pub Takes : Next → Units → Units → Type 0
 Takes (next.Unit u) old new = old ≡ units.Next (unit_of u) new
 Takes (next.End place) old new = (old ≡ units.End place) × (new ≡ old)
 Takes (next.Fault kind place) old new = (old ≡ units.Stop (refusal_at (kind_of kind) place)) × (new ≡ old)
 
--- the text begins so
+-- this is how the text begins
 abbrev pub IsStart : List ℕ → Start → Type 0
 IsStart text start.Empty = text ≡ []
 IsStart text (start.Piece p rest) = (w : List ℕ) × (text ≡ w ++ chars rest.now) × Spells w (chars rest.now) (Some (piece_of p))
 IsStart text (start.Comment rest) = (w : List ℕ) × (text ≡ w ++ chars rest.now) × Spells w (chars rest.now) None
 IsStart text (start.Fault kind bytes) = (place : ℕ) → IsRefusedAt place text (refusal_at (kind_of kind) (place + bytes))
 
--- a fault stands at most one byte behind the start
+-- a fault is at most one byte after the start
 abbrev pub IsNear : Start → Type 0
 IsNear (start.Fault kind bytes) = bytes ≤ 1
 IsNear start.Empty = ⊤
 IsNear (start.Piece p rest) = ⊤
 IsNear (start.Comment rest) = ⊤
 
--- behind its `%`, the text is the rest of a comment, and what follows the comment
+-- after its `%`, the text is the rest of a comment, followed by `rest`
 abbrev pub IsCommentEnd : List ℕ → List ℕ → Type 0
 IsCommentEnd text rest = (w : List ℕ) × (byte "%" ∷ text ≡ w ++ rest) × Spells w rest None

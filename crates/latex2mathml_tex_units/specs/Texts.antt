@@ -6,7 +6,7 @@ use Rattle.latex2mathml_tex_units.specs.{MacroTables.table_of, Taking.kind_of}
 use Rattle.latex2mathml_tex_units.specs.declared.macros.{halt.Halt.Halt, scope.Scope.Scope}
 use Rattle.latex2mathml_tex_units.specs.declared.macros.halt.Halt.TheVariants as halt
 
--- the definitions that these units are come to what the result says, where the usual macros held before
+-- the result says what these units define, if the usual macros held before
 abbrev pub ReadsTo : Result Scope Halt → units.Units → Type 0
 ReadsTo (Ok scope) l = (table : Table) × (place : ℕ) × ReadsDefinitions usual_macros l (Read table (units.End place)) × SameMacros table (table_of scope) × (scope.outer ≡ None)
 ReadsTo (Err (halt.Refused fault place)) l = ReadsDefinitions usual_macros l (Refused (refusal_at (kind_of fault) place))

@@ -1,4 +1,4 @@
-//! Braces around arguments, and delimiters that may stand in them.
+//! Braces around arguments, and delimiters that may be in braces.
 ghost use Rattle.std.specs.Prelude.{◌≡◌, ◌≤◌, ◌∷◌, ◌++◌, ℕ, [], MatchBool, MatchOption, None, Some};
 ghost use Rattle.latex2mathml_tex_grammar.specs.{Delimiters.delimiter_of, Next.next_are};
 ghost use Rattle.latex2mathml_tex_grammar.specs.Refusal.{MissingDelimiter, refusal_at};
@@ -11,8 +11,8 @@ use crate::input::Input;
 use crate::unit::{Next, Piece};
 
 impl<'a> Input<'a> {
-    /// Takes the delimiter that stands next, in braces or without. Empty braces are the empty one. Otherwise nothing is passed
-    /// over.
+    /// Takes a delimiter, in braces or without, if one comes next. Empty braces are the empty delimiter. Otherwise skips
+    /// nothing.
     pub fn take_outer_delimiter(&mut self) -> Option<Option<char>>
         ensures { MatchOption result
             ((units_at self.new ≡ units_at self.old)
@@ -34,7 +34,7 @@ impl<'a> Input<'a> {
         None
     }
 
-    /// Takes the delimiter in braces that stands next, if one does.
+    /// Takes a delimiter in braces, if one comes next.
     fn take_braced_delimiter(&mut self) -> Option<Option<char>>
         ensures { MatchOption result
             ((next_are (a_left_brace ∷ delimiter_of ∷ a_right_brace ∷ []) (units_at self.old)
@@ -54,7 +54,7 @@ impl<'a> Input<'a> {
         None
     }
 
-    /// Takes the empty braces that stand next, if they do.
+    /// Takes empty braces, if they come next.
     pub fn take_empty_braces(&mut self) -> bool
         ensures { MatchBool result
             (next_are empty_braces (units_at self.old) ≡ Some ([], units_at self.new))
@@ -69,7 +69,7 @@ impl<'a> Input<'a> {
         false
     }
 
-    /// Takes the opening brace that stands next, if one does.
+    /// Takes an opening brace, if one comes next.
     fn take_left_brace(&mut self) -> bool
         ensures { MatchBool result
             (next_are (a_left_brace ∷ []) (units_at self.old) ≡ Some ([], units_at self.new))
@@ -88,7 +88,7 @@ impl<'a> Input<'a> {
         false
     }
 
-    /// Takes the closing brace that stands next, if one does.
+    /// Takes a closing brace, if one comes next.
     fn take_right_brace(&mut self) -> bool
         ensures { MatchBool result
             (next_are (a_right_brace ∷ []) (units_at self.old) ≡ Some ([], units_at self.new))

@@ -7,7 +7,7 @@ ghost use Rattle.latex2mathml_tex_units.specs.Taking.{piece_of};
 use crate::unit::Piece;
 use latex2mathml_tex_commands::named::{Named, find};
 
-/// The delimiter that this piece is, if it is one. A point is the empty delimiter, which has no character.
+/// Returns the delimiter that this piece is, if it is one. A point is the empty delimiter, which has no character.
 pub fn delimiter_of(piece: Piece) -> Option<Option<char>>
     ensures { delimiter_of (piece_of piece.entry) ≡ option_map delimiter_text result }
 {
@@ -19,7 +19,7 @@ pub fn delimiter_of(piece: Piece) -> Option<Option<char>>
     }
 }
 
-/// What this piece is when negated, if it has a sign of its own.
+/// Returns the sign of this piece when negated, if it has one of its own.
 pub fn negated_of(piece: Piece) -> Option<char>
     ensures { negated_of (piece_of piece.entry) ≡ text_of result }
 {
@@ -56,7 +56,7 @@ fn negated_character(c: char) -> Option<char>
     }
 }
 
-/// The commands that are delimiters, in the order of their names' bytes.
+/// Returns the commands that are delimiters, in the order of their names' bytes.
 #[tactic(auto, unfolding(latex2mathml_tex_grammar::specs::Delimiters::delimiter_commands))]
 fn delimiter_commands() -> &'static [Named]
     ensures { map named_entry result.now ≡ delimiter_commands }
@@ -64,7 +64,7 @@ fn delimiter_commands() -> &'static [Named]
     &DELIMITERS
 }
 
-/// The commands that have a negated sign of their own, in the order of their names' bytes.
+/// Returns the commands that have a negated sign of their own, in the order of their names' bytes.
 #[tactic(auto, unfolding(latex2mathml_tex_grammar::specs::Delimiters::negated_commands))]
 fn negated_commands() -> &'static [Named]
     ensures { map named_entry result.now ≡ negated_commands }

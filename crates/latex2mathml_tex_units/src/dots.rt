@@ -1,4 +1,4 @@
-//! Dots: where they stand in the middle of the line, and where on it.
+//! Dots: where they are in the middle of the line, and where they are on it.
 ghost use Rattle.std.specs.Prelude.{◌≡◌};
 ghost use Rattle.latex2mathml_tex_grammar.specs.Dots;
 ghost use Rattle.latex2mathml_tex_commands.specs.Meanings.{class_of, meaning_of, symbol_of};
@@ -14,7 +14,7 @@ pub const LOW_DOTS: Symbol = Symbol::Sign(Class::Inner, '…');
 /// Dots in the middle of the line.
 pub const CENTERED_DOTS: Symbol = Symbol::Sign(Class::Inner, '⋯');
 
-/// Whether dots before this piece stand in the middle of the line.
+/// Whether dots before this piece are in the middle of the line.
 pub fn centers_dots(piece: Piece) -> bool
     ensures { result ≡ Dots.centers_dots (piece_of piece.entry) }
 {

@@ -12,33 +12,33 @@ use latex2mathml_tex_commands::meaning::Style;
 #[derive(Clone, Copy)]
 pub struct Environment {
     pub name: &'static str,
-    /// The delimiters around it, if it has any. One without a character is none.
+    /// The delimiters around it, if it has any. One without a character is no delimiter.
     pub delimiters: Option<(Option<char>, Option<char>)>,
     pub layout: Layout,
     /// The style of its cells.
     pub style: Style,
-    /// What may stand in brackets behind its name.
+    /// What may follow its name in brackets.
     pub bracket: Bracket,
-    /// What stands in braces behind its name.
+    /// What follows its name in braces.
     pub argument: Option<Argument>,
 }
 
-/// What may stand in brackets behind the name of an environment.
+/// What may follow the name of an environment in brackets.
 #[derive(Clone, Copy)]
 pub enum Bracket {
     Nothing,
-    /// A letter that says how it stands in its line.
+    /// A letter that gives the position of the environment in its line.
     Position,
-    /// A letter that says where cells stand in their columns.
+    /// A letter that says how cells are aligned in their columns.
     Alignment,
 }
 
-/// How the cells of an environment stand in their columns, unless the author says it.
+/// How the cells of an environment are aligned in their columns, unless the author says otherwise.
 #[derive(Clone, Copy)]
 pub enum Layout {
     Centered,
     LeftAligned,
-    /// In the middle, with little space around.
+    /// In the middle, with little space around them.
     Dense,
     InPairs,
     /// The two sides of a relation, and the relation between them.
@@ -46,7 +46,7 @@ pub enum Layout {
 }
 
 impl Layout {
-    /// The columns.
+    /// Returns the columns.
     pub fn columns(self) -> Columns
         ensures { columns_of result ≡ layout_of self }
     {
@@ -60,7 +60,7 @@ impl Layout {
     }
 }
 
-/// The environment of this name, if there is one.
+/// Returns the environment with this name, if there is one.
 pub fn look_up(name: &str) -> Option<&'static Environment>
     ensures { MatchOption result (Environments.environment_of name.now ≡ None)
         (λ e. (Environments.environment_of name.now ≡ Some (environment_of e.now))
@@ -85,7 +85,7 @@ fn search(table: &'static [Environment], name: &str) -> Option<&'static Environm
     None
 }
 
-/// The environments, in the order of their names' bytes.
+/// Returns the environments, in the order of their names' bytes.
 #[tactic(auto, unfolding(latex2mathml_tex_grammar::specs::Environments::environments))]
 fn environments() -> &'static [Environment]
     ensures { map entry_of result.now ≡ Environments.environments }

@@ -1,4 +1,4 @@
-//! Why a formula is refused.
+//! Why a formula or a text of definitions is refused.
 ghost use Rattle.std.specs.Prelude.{◌≡◌, Some};
 ghost use Rattle.std.specs.Option.{is_some};
 ghost use Rattle.latex2mathml_tex_units.specs.ErrorTexts.{error_kind_text, error_text};
@@ -9,7 +9,7 @@ use std::alloc::AllocError;
 use std::error::Error;
 use std::fmt;
 
-/// Why a formula or a text of definitions is refused, or that memory is missing. The name of a command is without its backslash.
+/// Why a formula or a text of definitions is refused, or that memory ran out. The name of a command is without its backslash.
 #[derive(Debug, Drop)]
 pub enum TexErrorKind {
     /// A backslash ends the text.
@@ -18,80 +18,79 @@ pub enum TexErrorKind {
     ForbiddenCharacter(char),
     /// No command has this name.
     UnknownCommand(String),
-    /// What a command or a sign takes does not stand there.
+    /// What a command or a sign takes is missing.
     MissingArgument,
-    /// A brace that does not end.
+    /// A brace that is not closed.
     UnclosedBrace,
-    /// A bracket that does not end.
+    /// A bracket that is not closed.
     UnclosedBracket,
-    /// A formula in words that does not end.
+    /// A formula in words that is not closed.
     UnclosedDollar,
-    /// A `\left` whose `\right` does not come.
+    /// A `\left` without its `\right`.
     LeftWithoutRight,
     /// A closing brace that closes nothing.
     UnopenedBrace,
     RightWithoutLeft,
     MiddleWithoutLeft,
-    /// `\limits` or the like that stands after no operator.
+    /// `\limits` or the like that follows no operator.
     LimitsWithoutOperator,
     SecondSubscript,
     SecondSuperscript,
-    /// No length stands behind a command that takes one.
+    /// No length follows a command that takes one.
     MissingLength,
     /// A length of more than 16384 points.
     LengthTooLarge,
     /// No color has this name.
     UnknownColor(String),
-    /// A command for the rest of its group that stands where an argument is to stand.
+    /// A command for the rest of its group in the place of an argument.
     ChangeAsArgument,
     /// A second `\over` or the like in one group.
     SecondInfix,
-    /// No delimiter stands here.
+    /// A delimiter is missing.
     MissingDelimiter,
-    /// What stands after `\not` takes no stroke.
+    /// What follows `\not` takes no stroke.
     NothingToNegate,
-    /// A sign that stands in tables alone.
+    /// A sign that may appear only in tables.
     OutsideTable,
-    /// No name stands behind `\begin` or `\end`.
+    /// No name follows `\begin` or `\end`.
     MissingName,
     /// No environment has this name.
     UnknownEnvironment(String),
-    /// A `\begin` whose `\end` does not come.
+    /// A `\begin` without its `\end`.
     BeginWithoutEnd,
     EndWithoutBegin,
     /// An `\end` whose name is not that of its `\begin`.
     OtherName,
-    /// What stands among the columns of an `array` is none.
+    /// Something among the columns of an `array` or a `subarray` that is not a column.
     UnknownColumn,
-    /// An `array` of more columns than can be said.
+    /// An `array` or a `subarray` with more than 16 columns.
     TooManyColumns,
     /// A character that has no meaning in a formula.
     MisplacedCharacter(char),
-    /// A command that cannot stand in words.
+    /// A command that is not allowed in words.
     CommandInWords(String),
-    /// A character that cannot stand in words.
+    /// A character that is not allowed in words.
     CharacterInWords(char),
-    /// More macros are used than can be, or they put more than can be: 1,000 uses, or 100,000 characters, commands and
-    /// braces.
+    /// More than 1,000 macros are used, or they insert more than 100,000 units: characters, commands, braces and white space.
     TooManyExpansions,
-    /// What a definition is to define is no name.
+    /// What a definition should define is not a name.
     MissingMacroName,
-    /// What stands before the body of a definition does not say how many arguments there are.
+    /// What precedes the body of a definition does not say how many arguments there are.
     WrongParameters,
-    /// An argument of a macro that may be left out.
+    /// An optional argument of a macro.
     OptionalArgument,
-    /// An argument that ends before some sign.
+    /// An argument that is delimited by a sign.
     DelimitedArgument,
-    /// The body of a definition asks for an argument that is not there.
+    /// The body of a definition refers to an argument that does not exist.
     UnknownParameter,
-    /// What stands among definitions is none.
+    /// Something among definitions that is not a definition.
     NoDefinition,
     /// Out of memory.
     OutOfMemory,
 }
 
 /// Why a formula or a text of definitions is refused, and the byte of that text where what is refused begins.
-/// [`TexError::position`] tells that place as a line and a column.
+/// [`TexError::position`] gives that place as a line and a column.
 #[derive(Debug, Drop)]
 pub struct TexError {
     pub kind: TexErrorKind,
@@ -154,7 +153,7 @@ impl fmt::Display for TexErrorKind {
     }
 }
 
-/// Prints the kind in words and, where the error is about a place, the place, such as `unknown command \foo at 7`.
+/// Prints the kind in words and, if the error is about a place, the place, such as `unknown command \foo at 7`.
 impl fmt::Display for TexError {
     ghost output = { λ error. Some (error_text error) };
 
@@ -170,7 +169,7 @@ impl fmt::Display for TexError {
 impl Error for TexError {}
 
 impl TexErrorKind {
-    /// Why no unit stands next.
+    /// Returns the kind that reports this fault.
     #[cold]
     pub fn of_fault(fault: Fault) -> TexErrorKind
         ensures { kind_of_error result ≡ Some (kind_of fault) }
@@ -199,7 +198,7 @@ impl TexErrorKind {
 }
 
 impl TexError {
-    /// Out of memory: no place of the text is at fault.
+    /// Returns the error of running out of memory: no place of the text is at fault.
     #[cold]
     pub fn out_of_memory() -> TexError
         ensures { result ≡ out_of_memory }

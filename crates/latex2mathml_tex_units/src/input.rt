@@ -1,4 +1,4 @@
-//! The units that are left, of which the next one is in sight.
+//! The units that are left, with a lookahead of one unit.
 ghost use Rattle.std.specs.Prelude.{◌≡◌, ◌∷◌, [], false, IsTrue, MatchBool, MatchOption, None, Some};
 ghost use Rattle.latex2mathml_tex_grammar.specs.Delimiters.{delimiter_of, negated_of};
 ghost use Rattle.latex2mathml_tex_grammar.specs.{Dots.centers_dots, Next.follows, Next.past_space};
@@ -15,16 +15,16 @@ use crate::unit::{Next, Piece, Unit};
 #[derive(Clone, Copy)]
 pub struct Input<'a> {
     units: &'a [Unit<'a>],
-    /// How many stand before those behind the one in sight.
+    /// How many units precede those after the lookahead.
     passed: usize,
-    /// How they end.
+    /// How the units end.
     end: End,
-    /// What stands next.
+    /// The lookahead: what is next.
     pub next: Next<'a>,
 }
 
 impl End {
-    /// What stands behind the last unit.
+    /// Returns what follows the last unit.
     fn next<'a>(self) -> Next<'a>
         ensures { (l : units.Units) → put_back result l ≡ units_end self }
     {
@@ -36,7 +36,7 @@ impl End {
 }
 
 impl<'a> Input<'a> {
-    /// All of these units.
+    /// Creates an input of all of these units.
     pub fn new(whole: &'a Whole<'a>) -> Input<'a>
         ensures { units_at result ≡ whole_units whole.now }
     {
@@ -50,14 +50,14 @@ impl<'a> Input<'a> {
         input
     }
 
-    /// Passes over the unit that stands next, if one does.
+    /// Skips the next unit, if there is one.
     pub fn advance(&mut self)
         ensures { units_at self.old ≡ put_back self.old.next (units_at self.new) }
     {
         self.look_ahead();
     }
 
-    /// Brings the first of the units behind the one in sight into sight.
+    /// Reads ahead: the first of the units after the lookahead becomes the lookahead.
     fn look_ahead(&mut self)
         ensures { units_at self.new ≡ units_behind self.old }
     {
@@ -70,7 +70,7 @@ impl<'a> Input<'a> {
         }
     }
 
-    /// Passes over white space.
+    /// Skips white space.
     pub fn skip_space(&mut self)
         ensures { units_at self.new ≡ past_space (units_at self.old) }
     {
@@ -85,7 +85,7 @@ impl<'a> Input<'a> {
         }
     }
 
-    /// Whether dots before what stands next stand in the middle of the line.
+    /// Whether dots before what comes next are in the middle of the line.
     pub fn centers_dots(&self) -> bool
         ensures { result ≡ follows centers_dots (units_at self.now) }
     {
@@ -97,7 +97,7 @@ impl<'a> Input<'a> {
         }
     }
 
-    /// Takes the delimiter that stands next, if one does. Otherwise nothing is passed over.
+    /// Takes a delimiter, if one comes next. Otherwise skips nothing.
     pub fn take_delimiter(&mut self) -> Option<Option<char>>
         ensures { MatchOption result
             (TakesNone (delimiter_of ∷ []) self.old self.new)
@@ -115,7 +115,7 @@ impl<'a> Input<'a> {
         None
     }
 
-    /// Takes the unit that stands next, if it has a sign of its own when it is negated: that sign.
+    /// Takes the next unit, if it has a sign of its own when negated. Returns that sign.
     pub fn take_negated(&mut self) -> Option<char>
         ensures { MatchOption result
             (TakesNone (negated_of ∷ []) self.old self.new)
@@ -133,7 +133,7 @@ impl<'a> Input<'a> {
         None
     }
 
-    /// Takes this ASCII character, if it stands next.
+    /// Takes this ASCII character, if it comes next.
     pub fn take_character(&mut self, c: char) -> bool
         ensures { MatchBool result
             (TakesNext (a_character c ∷ []) (c ∷ []) self.old self.new)
@@ -151,7 +151,7 @@ impl<'a> Input<'a> {
         self.take_character_past_space(c)
     }
 
-    /// The same, where white space may stand first.
+    /// Takes this ASCII character, if it comes next, possibly after white space.
     fn take_character_past_space(&mut self, c: char) -> bool
         ensures { MatchBool result
             (TakesNext (a_character c ∷ []) (c ∷ []) self.old self.new)
@@ -170,7 +170,7 @@ impl<'a> Input<'a> {
         false
     }
 
-    /// Takes this ASCII character in brackets, if it stands next.
+    /// Takes this ASCII character in brackets, if it comes next.
     pub fn take_in_brackets(&mut self, c: char) -> bool
         ensures { MatchBool result
             (TakesNext (in_brackets c) (91 ∷ c ∷ 93 ∷ []) self.old self.new)
@@ -184,7 +184,7 @@ impl<'a> Input<'a> {
         false
     }
 
-    /// Takes the digit that stands next, if one does.
+    /// Takes a digit, if one comes next.
     pub fn take_digit(&mut self) -> Option<char>
         ensures { MatchOption result
             (TakesNone (a_digit ∷ []) self.old self.new)
@@ -202,7 +202,7 @@ impl<'a> Input<'a> {
         self.take_digit_past_space()
     }
 
-    /// The same, where white space may stand first.
+    /// Takes a digit, if one comes next, possibly after white space.
     fn take_digit_past_space(&mut self) -> Option<char>
         ensures { MatchOption result
             (TakesNone (a_digit ∷ []) self.old self.new)
@@ -221,7 +221,7 @@ impl<'a> Input<'a> {
         None
     }
 
-    /// Takes a point and the digit after it, if they stand next: the digit.
+    /// Takes a point and the digit after it, if they come next. Returns the digit.
     pub fn take_point(&mut self) -> Option<char>
         ensures { MatchOption result
             (TakesNone (a_character 46 ∷ a_digit ∷ []) self.old self.new)

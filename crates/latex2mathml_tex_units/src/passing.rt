@@ -1,4 +1,4 @@
-//! What is found among the units that are left, and is taken or passed over: names, columns and lengths.
+//! Names, columns and lengths, which are found among the units that are left and taken or skipped.
 ghost use Rattle.std.specs.Prelude.{◌≡◌, IfOk, OnOk, string_bytes};
 ghost use Rattle.latex2mathml_tex_grammar.specs.Scanning.{past, past_break, scan};
 ghost use Rattle.latex2mathml_tex_units.specs.{Left.units_at, Scans.IsFound, Scans.behind_text, Scans.spot_of};
@@ -10,8 +10,8 @@ use crate::unit::Next;
 use std::alloc::{AllocError, Global};
 
 impl<'a> Input<'a> {
-    /// Takes what is found from this spot on, and puts its text behind this one. Returns why it is refused, where it does not
-    /// stand here: then units before that may have been passed over. The place is of what takes it.
+    /// Takes what is found from this spot on, and appends its text to `text`. Returns why it is refused, if it is not there:
+    /// units before the refused one may then have been skipped. The place is that of what takes it.
     pub fn scan(
         &mut self,
         place: usize,
@@ -59,7 +59,7 @@ impl<'a> Input<'a> {
         }
     }
 
-    /// Passes over what is found from this spot on, if it stands here.
+    /// Skips what is found from this spot on, if it is there.
     pub fn pass(&mut self, alloc: Global, spot: Spot) -> Result<(), AllocError>
         ensures { OnOk result (units_at self.new ≡ past (spot_of spot) (units_at self.old)) }
     {
@@ -71,8 +71,7 @@ impl<'a> Input<'a> {
         Ok(())
     }
 
-    /// Passes over what stands behind the sign that ends a row and is nothing: its star, a length, the lines before the next
-    /// row.
+    /// Skips what is ignored after the sign that ends a row: its star, a length, and the lines before the next row.
     pub fn pass_break(&mut self, alloc: Global) -> Result<(), AllocError>
         ensures { OnOk result (units_at self.new ≡ past_break (units_at self.old)) }
     {

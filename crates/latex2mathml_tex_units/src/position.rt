@@ -1,4 +1,4 @@
-//! Where an error is, as a reader of the formula sees it.
+//! Where an error is, as a lexer of the formula sees it.
 ghost use Rattle.std.specs.Prelude.{◌≡◌};
 ghost use Rattle.std.specs.Fmt.{is_char_start};
 ghost use Rattle.latex2mathml_tex_units.specs.Positions.{column_of, line_of};
@@ -13,12 +13,13 @@ pub struct Position {
 }
 
 impl TexError {
-    /// Where the error's place is in the text that is refused, as a line and a column.
+    /// Returns the error's place in the text that is refused, as a line and a column.
     ///
-    /// A line feed ends a line. A place inside a character counts as one behind it, and one behind the text as the end of the
-    /// text. An error of [`tex_to_mathml`](crate::tex_to_mathml) that is about no place is at the beginning of the text.
+    /// A line feed ends a line. A place inside a character counts as the place after the character, and a place after the text
+    /// as the end of the text. An error of [`tex_to_mathml`](crate::tex_to_mathml) that is about no place is at the beginning
+    /// of the text.
     ///
-    /// The formula `"x^2\n+ \\foo"` is refused for the command that begins at its byte 6: that is column 3 of line 2.
+    /// The formula `"x^2\n+ \\foo"` is refused because of the command that begins at byte 6, which is column 3 of line 2.
     pub fn position(&self, tex: &str) -> Position
         ensures line { result.line ≡ line_of self.now.place tex.now }
         ensures column { result.column ≡ column_of self.now.place tex.now }
@@ -38,7 +39,7 @@ impl TexError {
     }
 }
 
-/// In UTF-8 a character begins at each byte that continues none.
+/// Whether a character begins with this byte. In UTF-8, each byte that continues no character begins one.
 fn begins_character(byte: u8) -> bool
     ensures { result ≡ is_char_start byte }
 {

@@ -1,5 +1,5 @@
-//! What each unit does where the name of an environment, its columns, a color or a length is taken unit by unit. A spot says where it
-//! stands. White space is nothing.
+//! What each unit does when the name of an environment, its columns, a color or a length is taken unit by unit. A spot is
+//! where a unit is. White space is ignored.
 ghost use Rattle.std.specs.Prelude.{◌≡◌, ℕ, [], Some};
 ghost use Rattle.latex2mathml_tex_grammar.specs.Refusal.{refusal_at};
 ghost use Rattle.latex2mathml_tex_grammar.specs.{Commands.meaning_of, Meaning.takes_words};
@@ -14,7 +14,7 @@ use crate::unit::{Fault, Piece};
 use latex2mathml_tex_commands::commands;
 use latex2mathml_tex_commands::meaning::Meaning;
 
-/// What stands in braces behind `\begin` and its like.
+/// What follows `\begin` and the like in braces.
 #[derive(Clone, Copy)]
 pub enum Argument {
     /// The name of an environment.
@@ -36,21 +36,22 @@ pub enum LengthEnd {
     AtUnit,
 }
 
-/// Where a unit stands.
+/// Where a unit is.
 #[derive(Clone, Copy)]
 pub enum Spot {
     BeforeArgument(Argument),
     InArgument(Argument),
-    /// In columns: what stands between two, or the width of one, within so many braces.
+    /// In columns, before the braces that say what is between two of them, or how wide one is.
     BeforeGap,
+    /// Within this many such braces.
     InGap(u8),
-    /// Before a brace that is all.
+    /// Before a brace, which is all that is taken.
     BeforeBrace,
-    /// A letter in brackets, which says how a table stands in its line.
+    /// A letter in brackets that gives the position of a table in its line.
     BeforePosition,
     InPosition,
     BehindPosition,
-    /// Behind the sign that ends a row.
+    /// After the sign that ends a row.
     BeforeStar,
     BehindStar,
     /// Before a length in brackets, or in braces.
@@ -59,9 +60,9 @@ pub enum Spot {
     InLength(LengthEnd),
     BehindSign(LengthEnd),
     InNumber(LengthEnd),
-    /// Behind so many decimals.
+    /// After the given number of decimals.
     InDecimals(LengthEnd, u8),
-    /// Behind the first letter of a unit of length.
+    /// After the first letter of a unit of length.
     BehindLetter(LengthEnd, char),
     BehindLength(LengthEnd),
     /// Before a row, where lines may be drawn.
@@ -71,15 +72,15 @@ pub enum Spot {
 /// What a unit does.
 #[derive(Clone, Copy)]
 pub enum Deed {
-    /// It is nothing, and the next unit stands there.
+    /// It adds nothing, and the next unit is at this spot.
     Passes(Spot),
-    /// It adds this character, and the next unit stands there.
+    /// It adds this character, and the next unit is at this spot.
     Adds(char, Spot),
     /// It is the last one.
     Ends,
     /// The unit before it is the last one.
     Leaves,
-    /// What was to be taken does not stand here.
+    /// What was to be taken is not here.
     Misses,
     /// It is refused among columns.
     Refuses,
@@ -142,7 +143,7 @@ fn takes_words(name: &str) -> bool
     matches!(commands::look_up(name), Some(Meaning::Words(_)))
 }
 
-/// Behind the brace that ends the innermost of so many, or else what stands in braces among columns.
+/// Returns the spot after the brace that closes the innermost of `depth` braces or, if there are none, those among columns.
 fn behind_brace(depth: u8) -> Spot
     ensures { spot_of result ≡ Scanning.behind_brace depth }
 {
@@ -152,7 +153,7 @@ fn behind_brace(depth: u8) -> Spot
     Spot::InGap(depth - 1)
 }
 
-/// In braces among columns, within so many more. More than a hundred are refused.
+/// Returns what a unit does in braces among columns, within `depth` more braces. More than a hundred are refused.
 fn gap_deed(depth: u8, piece: Piece) -> Deed
     ensures { deed_of result ≡ Scanning.gap_deed depth (piece_of piece.entry) }
 {
@@ -243,7 +244,7 @@ fn digit_or_unit_deed(end: LengthEnd, c: char) -> Deed
     unit_deed(end, c)
 }
 
-/// Behind so many decimals. More than five make no difference.
+/// Returns what a character does after `count` decimals. More than five make no difference.
 fn decimal_deed(end: LengthEnd, count: u8, c: char) -> Deed
     ensures { deed_of result ≡ Scanning.decimal_deed (length_end_of end) count c }
 {
@@ -280,7 +281,7 @@ fn in_length(spot: Spot, piece: Piece) -> Deed
     }
 }
 
-/// What a unit does behind a length.
+/// Returns what a unit does after a length.
 fn ending_deed(end: LengthEnd, piece: Piece) -> Deed
     ensures { deed_of result ≡ Scanning.ending_deed (length_end_of end) (piece_of piece.entry) }
 {
@@ -378,7 +379,7 @@ impl Spot {
         }
     }
 
-    /// What the unit does that stands there.
+    /// Returns what a unit at this spot does.
     pub fn deed(self, piece: Piece) -> Deed
         ensures { deed_of result ≡ Scanning.deed (spot_of self) (piece_of piece.entry) }
     {
@@ -401,7 +402,7 @@ impl Spot {
         )
     }
 
-    /// Why the end of the text is refused, unless nothing has to follow.
+    /// Returns why the end of the text is refused, unless nothing has to follow.
     pub fn end(self, place: usize) -> Option<TexError>
         ensures { (at : ℕ) → IsFound result [] (End at) (scan place (End at) (spot_of self)) }
     {
@@ -414,7 +415,7 @@ impl Spot {
         })
     }
 
-    /// Why what is no unit is refused, unless nothing has to follow.
+    /// Returns why what is no unit is refused, unless nothing has to follow.
     pub fn fault(self, fault: Fault, at: usize) -> Option<TexError>
         ensures { (place : ℕ) → IsFound result [] (Stop (refusal_at (kind_of fault) at))
             (scan place (Stop (refusal_at (kind_of fault) at)) (spot_of self)) }
@@ -428,7 +429,7 @@ impl Spot {
         })
     }
 
-    /// Why it is refused that what was to be taken does not stand there.
+    /// Returns the kind of refusal if what was to be taken is missing at this spot.
     pub fn missing(self) -> TexErrorKind
         ensures { kind_of_error result ≡ Some (Scanning.missing (spot_of self)) }
     {

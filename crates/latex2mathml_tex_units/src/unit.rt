@@ -22,40 +22,40 @@ pub struct Unit<'a> {
     pub place: usize,
 }
 
-/// Why no unit stands next.
+/// Why there is no next unit.
 #[derive(Clone, Copy)]
 pub enum Fault {
     /// A backslash ends the text.
     LoneBackslash,
     /// XML forbids this character.
     Forbidden(char),
-    /// An argument of a macro or a part of a definition does not stand there.
+    /// An argument of a macro or a part of a definition is missing.
     MissingArgument,
-    /// A brace that does not end.
+    /// A brace that is not closed.
     UnclosedBrace,
-    /// More macros are used than can be, or they put more units than can be.
+    /// More macros are used than allowed, or they put more units than allowed.
     TooManyExpansions,
-    /// What a definition is to define is no name.
+    /// What a definition should define is not a name.
     MissingMacroName,
-    /// What stands before the body of a definition does not say how many arguments there are.
+    /// What precedes the body of a definition does not say how many arguments there are.
     WrongParameters,
-    /// An argument that may be left out.
+    /// An optional argument.
     OptionalArgument,
-    /// An argument that ends before some sign.
+    /// An argument that is delimited by a sign.
     DelimitedArgument,
-    /// A body asks for an argument that is not there.
+    /// A body refers to an argument that does not exist.
     UnknownParameter,
-    /// What stands among definitions is none.
+    /// Something among definitions that is not a definition.
     NoDefinition,
 }
 
-/// What stands next in a text.
+/// What is next in a text.
 #[derive(Clone, Copy)]
 pub enum Next<'a> {
     /// A unit.
     Unit(Unit<'a>),
     /// The end of the text, at this byte.
     End(usize),
-    /// No unit, why, and the byte where what is refused stands.
+    /// No unit: why, and the byte where what is refused begins.
     Fault(Fault, usize),
 }

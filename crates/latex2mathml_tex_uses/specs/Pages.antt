@@ -1,4 +1,4 @@
--- Formulas of pages whose preamble may define macros. A text is its bytes here.
+-- Formulas of pages whose preamble may define macros. Here a text is its bytes.
 use Rattle.std.specs.Prelude.{◌≡◌, ℕ, List, Option, Some, None, IfSome}
 use Rattle.std.specs.{Borrow.Bor, Str.chars}
 use Rattle.latex2mathml_tex_units.specs.Errors.{refusal_of}

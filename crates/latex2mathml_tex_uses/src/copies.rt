@@ -8,7 +8,7 @@ ghost use Rattle.latex2mathml_tex_grammar.specs.UsualMacros.{usual_macros};
 use latex2mathml_tex::{DisplayStyle, Macros, TexError, tex_to_mathml_with_source};
 use std::alloc::Global;
 
-/// Returns the markup of a formula, which can stand in XML. A reader who copies it gets its LaTeX too. The usual macros hold.
+/// Returns the markup of a formula, which can be used in XML. A reader who copies it gets its LaTeX too. The usual macros hold.
 /// An error is the refusal of the formula, or out of memory.
 pub fn formula(alloc: Global, tex: &str, display: DisplayStyle) -> Result<String, TexError>
     ensures markup { IfOk result (λ markup.

@@ -18,8 +18,8 @@ pub enum PageError {
     Formula(TexError),
 }
 
-/// Returns the markup of a formula of a page, which can stand in XML. The macros hold that the page's preamble defines, or the
-/// usual ones if it has none. An error is the refusal of the preamble or of the formula, or out of memory.
+/// Returns the markup of a formula of a page, which can be used in XML. The macros that the page's preamble defines hold, or
+/// the usual ones if the page has no preamble. An error is the refusal of the preamble or of the formula, or out of memory.
 pub fn formula<'a>(
     alloc: Global,
     preamble: Option<&'a str>,

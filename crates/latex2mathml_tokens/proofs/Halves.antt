@@ -47,20 +47,20 @@ whole first last e f = rw (e, f) (take-append-drop up_to_k command_entries)
 in_order : (first last : List Entry) → IsFirst first → IsLast last → InOrder (map entry_of first ++ map entry_of last)
 in_order first last e f = subst InOrder (sym (whole first last e f)) (InOrder-ascending command_entries ascending-command_entries)
 
--- a name that is less than the first one of the last half stands in the first half
+-- a name that is less than the first one of the last half is in the first half
 pub in_first : (first last : List Entry) (name : List ℕ) (d : Entry) (o : Ordering) → IsFirst first → IsLast last → o ≡ slice_cmp nat_cmp name (get_or last 0 d).name.now → o ≡ Less → entry_token (map entry_of first) name ≡ entry_token command_entries name
 in_first first [] name d o e f cmp is = absurd (omega (arith, last_has_some [] f))
 in_first first (x ∷ last) name d o e f cmp is =
     sym (stands_left name (map entry_of first) (entry_of x) (map entry_of last) (in_order first (x ∷ last) e f) (sym cmp ∙ is))
     ∙ ap (λ entries. entry_token entries name) (whole first (x ∷ last) e f)
 
--- where a name is not less than another, all names that are less than that are less than it
+-- if a name is not less than another, all names that are less than the other are less than the name
 not_less : (name other : List ℕ) (o : Ordering) → o ≡ slice_cmp nat_cmp name other → o ≢ Less → (a : List ℕ) → slice_cmp nat_cmp a other ≡ Less → slice_cmp nat_cmp a name ≡ Less
 not_less name other Less cmp is a less = absurd (is refl)
 not_less name other Equal cmp is a less = subst (λ n. slice_cmp nat_cmp a n ≡ Less) (equal_names name other (sym cmp)) less
 not_less name other Greater cmp is a less = after_greater a other name (nat_list_cmp_total.antisymm other name ∙ ap ordering_reverse (sym cmp)) less
 
--- any other name stands in the last half
+-- any other name is in the last half
 pub in_last : (first last : List Entry) (name : List ℕ) (d : Entry) (o : Ordering) → IsFirst first → IsLast last → o ≡ slice_cmp nat_cmp name (get_or last 0 d).name.now → o ≢ Less → entry_token (map entry_of last) name ≡ entry_token command_entries name
 in_last first [] name d o e f cmp is = absurd (omega (arith, last_has_some [] f))
 in_last first (x ∷ last) name d o e f cmp is =

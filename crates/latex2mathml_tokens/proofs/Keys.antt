@@ -1,4 +1,4 @@
--- Keys are ordered as the names are, and short names with the same key as their lengths.
+-- Keys are ordered as the names are, and short names with the same key are ordered as their lengths are.
 use Rattle.std.proofs.Common.{◌≡◌, ℕ, zero, suc, ◌+◌, ◌*◌, ◌^◌, ◌<◌, ◌≤◌, Bool, true, false, ◌==◌, cond, nat_eq, nat_lt, List, [], ◌∷◌, get_or, length, refl, sym, ap, ◌∙◌, add-one, arith}
 use Rattle.std.proofs.{Math.Nat.pow-suc, Math.Nat.mul-le-mul_right, lemmas.Bool.and_parts, lemmas.Bool.eqb-true}
 use Rattle.std.proofs.{lemmas.Bool.Decides.nat_tests, lemmas.Cmp.nat_list_cmp_total}
@@ -41,7 +41,7 @@ number-small (suc n) name h =
     let last : get_or name n 0 < 256 = below _ parts.1 in
     rw (pow-suc 256 n) (omega arith)
 
--- the first byte decides, where it differs
+-- the first byte decides if it differs
 
 cmp_says : (x y : ℕ) → MatchOrdering (nat_cmp x y) (x < y) (x ≡ y) (y < x)
 cmp_says x y = by (nat_lt x y) refl (x == y) refl
@@ -101,7 +101,7 @@ tied (suc n) (x ∷ a) (y ∷ b) s t p q e =
     by Equal m rest = rest m
     by Greater m rest = absurd (omega (arith, e, first_less n y x b a m (bytes-front n y b t).1))
 
--- the same of keys
+-- the same for keys
 
 key_is : (k : ℕ) (a : List ℕ) → is_key k a ≡ true → (k ≡ number 8 a) × (are_bytes 8 a ≡ true)
 key_is k a h = let parts = and_parts (nat_eq k (number 8 a)) (are_bytes 8 a) h in (eqb-true k (number 8 a) parts.0, parts.1)

@@ -89,12 +89,12 @@ IsBefore-middle : (a : List ℕ) (xs : Entries) (x : List ℕ × Tok) (ys : Entr
 IsBefore-middle a [] x ys h = h.0
 IsBefore-middle a (z ∷ xs) x ys h = IsBefore-middle a xs x ys h.1
 
--- the entry of a lesser name stands left of x
+-- the entry of a lesser name is to the left of x
 pub stands_left : (name : List ℕ) (xs : Entries) (x : List ℕ × Tok) (ys : Entries) → InOrder (xs ++ x ∷ ys) → slice_cmp nat_cmp name x.0 ≡ Less → entry_token (xs ++ x ∷ ys) name ≡ entry_token xs name
 stands_left name [] x ys a h = none_after name (x ∷ ys) (h, IsBefore-less name x.0 ys h a.0)
 stands_left name (z ∷ xs) x ys a h = rw (stands_left name xs x ys a.1 h)
 
--- no entry left of x counts where each name that is less than that of x is less than this one
+-- no entry to the left of x counts if each name that is less than that of x is less than this name
 pub not_left : (name : List ℕ) (xs : Entries) (x : List ℕ × Tok) (ys : Entries) → InOrder (xs ++ x ∷ ys) → ((a : List ℕ) → slice_cmp nat_cmp a x.0 ≡ Less → slice_cmp nat_cmp a name ≡ Less) → entry_token (xs ++ x ∷ ys) name ≡ entry_token (x ∷ ys) name
 not_left name [] x ys a less = refl
 not_left name (z ∷ xs) x ys a less = rw (less_apart z.0 name (less z.0 (IsBefore-middle z.0 xs x ys a.0))) (not_left name xs x ys a.1 less)
@@ -102,11 +102,11 @@ not_left name (z ∷ xs) x ys a less = rw (less_apart z.0 name (less z.0 (IsBefo
 pub after_greater : (a b name : List ℕ) → slice_cmp nat_cmp b name ≡ Less → slice_cmp nat_cmp a b ≡ Less → slice_cmp nat_cmp a name ≡ Less
 after_greater a b name h k = nat_list_cmp_total.trans a b name k h
 
--- the entry of a greater name stands right of x
+-- the entry of a greater name is to the right of x
 stands_right : (name : List ℕ) (xs : Entries) (x : List ℕ × Tok) (ys : Entries) → InOrder (xs ++ x ∷ ys) → slice_cmp nat_cmp x.0 name ≡ Less → entry_token (xs ++ x ∷ ys) name ≡ entry_token ys name
 stands_right name xs x ys a h = not_left name xs x ys a (λ z. after_greater z x.0 name h) ∙ rw (less_apart x.0 name h) refl
 
--- and that of the same name is x
+-- the entry of the same name is x
 stands_here : (name : List ℕ) (xs : Entries) (x : List ℕ × Tok) (ys : Entries) → InOrder (xs ++ x ∷ ys) → x.0 ≡ name → entry_token (xs ++ x ∷ ys) name ≡ Some x.1
 stands_here name xs x ys a e = not_left name xs x ys a (λ z l. subst (λ n. slice_cmp nat_cmp z n ≡ Less) e l) ∙ rw ((bytes_eq-Decides x.0 name).1 e) refl
 
@@ -176,7 +176,7 @@ half_left entries name n d inv h less =
       keyed = All-take (λ e. has_key e ≡ true) m entries inv.keyed;
     }
 
--- and the right half if it is greater
+-- the right half remains if the name is greater than the middle entry's
 half_right : (entries : List Entry) (name : List ℕ) (n : ℕ) (d : Entry) → Narrowed entries name n → 0 < length entries → slice_cmp nat_cmp name (get_or entries (length entries / 2) d).name.now ≡ Greater → Narrowed (drop (length entries / 2 + 1) entries) name (n + 1)
 half_right entries name n d inv h greater =
     let m : ℕ = length entries / 2 in

@@ -1,4 +1,4 @@
--- The command table is sorted, each half has fewer than 256 entries, none of them has the empty name, and none of their tokens owns
+-- The command table is sorted, each half has fewer than 256 entries, no entry has the empty name, and no entry's token owns
 -- a text. All of this is computed.
 use Rattle.std.proofs.Common.{◌≡◌, ℕ, Bool, true, false, not, cond, List, [], ◌∷◌, Option, Some, unwrap_or, refl, length, nat_lt}
 use Rattle.std.specs.{List.list_all, Prelude.IsSome, Str.bytes_eq}
@@ -10,7 +10,7 @@ pub ascending-command_entries : ascending command_entries ≡ true
 unfolding ascending command_entries
 ascending-command_entries = refl
 
--- each half has fewer entries than 8 comparisons can halve to none, and the second one has some
+-- each half has fewer entries than 8 comparisons can halve to none, and the second half is not empty
 pub few-up_to_k : nat_lt (length entries_up_to_k) 256 ≡ true
 unfolding command_entries
 few-up_to_k = refl

@@ -1,5 +1,5 @@
--- The command table: which token the name of a command stands for. A name is its bytes, without the backslash; a
--- character is its code point, and stands after its line as well.
+-- The command table: which token the name of a command represents. A name is its bytes, without the backslash. A character
+-- is its code point, and is repeated in a comment on its line.
 use Rattle.std.specs.Prelude.{ℕ, pos, negsuc, List, [], ◌∷◌, Option, Some, None, unwrap_or, cond, codes}
 use Rattle.std.specs.{Char.encode_utf8, Str.bytes_eq}
 use Rattle.latex2mathml_tokens.specs.Tok.{Tok, Begin, End, NewLine, Left, Right, Middle, Paren, Frac, Binom, Overset, Underset, Overbrace, Underbrace, Sqrt, Integral, Lim, Space, Style, Big, Over, Under, Operator, BigOp, Letter, Function, OperatorName, Slashed, Text, Command}
@@ -491,6 +491,6 @@ abbrev pub entry_token : List (List ℕ × Tok) → List ℕ → Option Tok
 entry_token [] name = None
 entry_token (entry ∷ entries) name = cond (bytes_eq entry.0 name) (Some entry.1) (entry_token entries name)
 
--- the token of a command; a name that has no entry is a command of its own
+-- the token of a command; a name without an entry is a command of its own
 unfoldable pub command_token : List ℕ → Tok
 command_token name = unwrap_or (entry_token command_entries name) (Command name)

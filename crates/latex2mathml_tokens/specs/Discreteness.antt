@@ -1,4 +1,4 @@
--- Equality of attributes, tokens and refusals is decidable. The numbers of the attributes serve that proof alone, and say
+-- Equality of attributes, tokens and refusals is decidable. The numbers of the attributes serve only that proof, and say
 -- nothing about the language.
 use Rattle.std.specs.Prelude.{◌≡◌, ℕ, zero, suc, ◌==◌, Bool, Option, refl, if◌then◌else◌}
 use mathlib.Core.HLevel.{Discrete}
@@ -15,7 +15,7 @@ use Rattle.latex2mathml_tokens.specs.{declared.attribute.LineThickness.LineThick
 use Rattle.latex2mathml_tokens.specs.declared.attribute.LineThickness.TheVariants.{Thin, Medium, Thick, Length}
 use Rattle.latex2mathml_tokens.specs.declared.attribute.ColumnAlign.TheVariants as align
 
--- An attribute without fields has a number, and a number has its attribute.
+-- An attribute without fields has a number, from which the attribute can be recovered.
 variant_number : Variant → ℕ
 variant_number Normal = 0
 variant_number Italic = 1

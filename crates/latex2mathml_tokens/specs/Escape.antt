@@ -1,9 +1,9 @@
--- How a text stands in markup, and how it stands in quotes. All that is escaped is ASCII, and no byte of another
--- character is, so what holds of bytes holds of characters.
+-- How a text is written in markup, and in quotes. Only ASCII characters are escaped, and no byte of another character is
+-- ASCII, so what holds of bytes holds of characters.
 use Rattle.std.specs.Prelude.{ℕ, Bool, ◌||◌, List, [], ◌∷◌, ◌++◌, if◌then◌else◌, ◌==◌, codes}
 use Rattle.std.specs.{List.flat_map, Char.encode_utf8, Str.byte}
 
--- what contents do not hold as it is
+-- a byte or character that contents do not hold as it is
 abbrev pub is_escaped : ℕ → Bool
 is_escaped c = c == byte "&" || c == byte "<" || c == byte ">" || c == byte "$"
 
@@ -28,7 +28,7 @@ value = flat_map value_byte
 abbrev pub content_char : ℕ → List ℕ
 content_char c = content (encode_utf8 c)
 
--- a byte of a text in quotes: a backslash stands before each quotation mark and each backslash
+-- a byte of a text in quotes: a backslash precedes each quotation mark and each backslash
 abbrev pub quoted_byte : ℕ → List ℕ
 quoted_byte b = if b == byte "\"" then codes "\\\"" else (if b == byte "\\" then codes "\\\\" else b ∷ [])
 

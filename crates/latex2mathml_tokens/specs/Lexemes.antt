@@ -1,4 +1,4 @@
--- The token that a lexeme is: a text is its bytes, and a name its text.
+-- The token that a lexeme represents: a text is its bytes, and a name its text.
 use Rattle.std.specs.Prelude.{Bool, true, false}
 use Rattle.latex2mathml_tokens.specs.Names.{function_text, limit_text, paren_text, size_text}
 use Rattle.latex2mathml_tokens.specs.Tok.{Tok, Illegal, EOF, Begin, End, Ampersand, NewLine, Left, Right, Middle, Paren, LBrace, RBrace, Frac, Underscore, Circumflex, Binom, Overset, Underset, Overbrace, Underbrace, Sqrt, Integral, Lim, Space, Style, Big, Over, Under, Operator, BigOp, Letter, Number, Function, OperatorName, Slashed, Text, Command}

@@ -1,4 +1,4 @@
--- The texts that tokens may hold, by their names.
+-- The texts that tokens may hold, and their names.
 use Rattle.std.specs.{Prelude.ℕ, Prelude.List, Prelude.codes, Char.encode_utf8}
 use Rattle.latex2mathml_tokens.specs.{declared.names.FunctionName.FunctionName, declared.names.LimitName.LimitName}
 use Rattle.latex2mathml_tokens.specs.declared.names.FunctionName.TheVariants as function

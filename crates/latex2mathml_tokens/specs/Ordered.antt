@@ -1,4 +1,4 @@
--- Entries that are sorted by their names' bytes.
+-- Entries that are sorted by the bytes of their names.
 use Rattle.std.specs.Prelude.{ℕ, List, [], ◌∷◌, Bool, true, ◌&&◌}
 use Rattle.std.specs.{Cmp.Lexicographic.slice_cmp, Ordering.nat_cmp, Ordering.is_lt}
 use Rattle.latex2mathml_tokens.specs.Tok.{Tok}

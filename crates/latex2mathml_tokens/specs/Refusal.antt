@@ -13,7 +13,7 @@ pub data Refusal : Type 0 where
   InvalidNumberOfDollarSigns : Refusal
   deriving Discrete as Refusal-discrete
 
--- the refusal that an error reports; running out of memory is no refusal
+-- the refusal that an error reports; running out of memory is not a refusal
 abbrev pub refusal_of : LatexError → Option Refusal
 refusal_of (error.UnexpectedToken expected got) = Some (UnexpectedToken (tok expected) (tok got))
 refusal_of (error.MissingParensethis location got) = Some (MissingParensethis (tok location) (tok got))
@@ -21,7 +21,7 @@ refusal_of (error.UnknownEnvironment name) = Some (UnknownEnvironment (string_by
 refusal_of error.InvalidNumberOfDollarSigns = Some InvalidNumberOfDollarSigns
 refusal_of error.OutOfMemory = None
 
--- the fact about the refusal, where the result is an error that reports one
+-- the fact holds of the refusal if the result is an error that reports one
 abbrev pub IfRefused : {T : Type 0} → Result T LatexError → (Refusal → Type 0) → Type 0
 IfRefused answer P = IfErr answer (λ e. IfSome (refusal_of e) P)
 

@@ -25,7 +25,7 @@ one_answer true b d e f g = sym (e.1 (f (d.0 refl)))
 one_answer false true d e f g = d.1 (g (e.0 refl))
 one_answer false false d e f g = refl
 
--- the test on what f sees of two values is symmetric and transitive
+-- the test of the images of two values under f is symmetric and transitive
 pub same_laws : {A K : Type 0} (decide : Discrete A) (f : K → A) → IsPartialEquivalence (λ a b. same decide (f a) (f b))
 same_laws decide f = record {
   symm = λ x y. one_answer _ _ (same-Decides decide (f x) (f y)) (same-Decides decide (f y) (f x)) (λ e. sym e) (λ e. sym e);
@@ -44,7 +44,7 @@ abbrev IsMissing : {A : Type 0} → Option A → Type 0
 IsMissing None = Unit {0}
 IsMissing (Some x) = ⊥
 
--- and so is that of values that may be missing
+-- equality is decidable for values that may be missing
 pub optional : {A : Type 0} → Discrete A → Discrete (Option A)
 optional decide None None = yes refl
 optional decide None (Some y) = no (λ e. subst IsMissing e tt)

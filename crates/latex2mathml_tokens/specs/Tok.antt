@@ -1,4 +1,4 @@
--- Tokens as values: a text is its bytes, a character its code point, and no value knows where it lies in memory.
+-- Tokens as values: a text is its bytes, a character its code point, and no value depends on its place in memory.
 use Rattle.std.specs.Prelude.{ℕ, ℤ, List, Option, string_bytes}
 use Rattle.latex2mathml_tokens.specs.{declared.DisplayStyle.DisplayStyle, declared.attribute.Variant.Variant}
 use Rattle.latex2mathml_tokens.specs.{declared.attribute.Accent.Accent, declared.token.Token.Token}
@@ -44,7 +44,7 @@ pub data Tok : Type 0 where
   Command : List ℕ → Tok
   deriving Discrete as Tok-discrete
 
--- what a token of the code is
+-- the value of a token of the code
 abbrev pub tok : Token → Tok
 tok (token.Illegal c) = Illegal c
 tok token.EOF = EOF

@@ -1,4 +1,4 @@
-//! The values of the attributes that markup carries.
+//! The values of the attributes in markup.
 ghost use Rattle.std.specs.Prelude.{Some};
 ghost use Rattle.latex2mathml_tokens.specs.Attributes.{accent_text, align_text, thickness_text, variant_text};
 

@@ -10,7 +10,8 @@ use std::alloc::{AllocError, AllocFailed, Global};
 use std::error::Error;
 use std::fmt;
 
-/// Why a formula or a document is refused, or that memory is missing. Names and texts are the crate's, with its slips.
+/// Why a formula or a document is refused, or that memory ran out. The names and texts are those of the original crate,
+/// including its mistakes.
 #[derive(Debug, Drop)]
 pub enum LatexError {
     /// A token is expected and another one is found: a group is open at the end of the formula, or no parenthesis follows a
@@ -27,7 +28,7 @@ pub enum LatexError {
 }
 
 impl LatexError {
-    /// Returns an error with the same contents, or an `Err` when out of memory for the texts of its tokens.
+    /// Returns an error with the same contents, or an `Err` if memory runs out for its texts.
     pub fn clone(&self, alloc: Global) -> Result<LatexError, AllocError>
         ensures { IfOk result (λ copy. refusal_of copy ≡ refusal_of self.now) }
     {

@@ -1,4 +1,4 @@
-//! Tokens that borrow their texts. The reader and the parser pass them by value, and a refusal makes a [`Token`] of one.
+//! Tokens that borrow their texts. The lexer and the parser pass them by value, and a refusal makes a [`Token`] of a lexeme.
 ghost use Rattle.std.specs.Prelude.{◌≡◌, ◌≤◌, IfOk, IsFalse, IsOk};
 ghost use Rattle.latex2mathml_tokens.specs.{Commands.command_token, Lexemes.lexeme_tok, Lexemes.owns_text, Tok.tok};
 
@@ -9,12 +9,12 @@ use crate::token::Token;
 use crate::token::search::look_up;
 use std::alloc::{AllocError, Global};
 
-/// What a slice of a formula stands for, as [`Token`], but without memory of its own.
+/// What a slice of a formula represents, like [`Token`], but without memory of its own.
 #[derive(Clone, Copy)]
 pub enum Lexeme<'a> {
     /// A character without a meaning: the NUL.
     Illegal(char),
-    /// The end of the formula: no slice of a text.
+    /// The end of the formula. No slice of a text is this lexeme.
     EOF,
     /// The beginning of an environment.
     Begin,
@@ -72,7 +72,7 @@ pub enum Lexeme<'a> {
     Operator(char),
     /// An operator that takes limits under and over it.
     BigOp(char),
-    /// A letter, or any other character that stands for itself, and its style.
+    /// A letter, or any other character that represents itself, and its style.
     Letter(char, Variant),
     /// Digits, with at most one period.
     Number(&'a str),
@@ -105,14 +105,14 @@ impl<'a> Lexeme<'a> {
         (lexeme, comparisons)
     }
 
-    /// The token, with texts of its own. An `Err` comes when out of memory for one, and leaves nothing.
+    /// Returns the token, with texts of its own, or an `Err` if memory runs out for a text. An `Err` leaves nothing allocated.
     pub fn token(self, alloc: Global) -> Result<Token, AllocError>
         ensures { IfOk result (λ token. tok token ≡ lexeme_tok self.entry) }
     {
         self.owned(alloc)
     }
 
-    /// The same. This contract says too which tokens need no memory.
+    /// Does the same as `token`. This contract also says which tokens need no memory.
     pub(crate) fn owned(self, alloc: Global) -> Result<Token, AllocError>
         ensures token { IfOk result (λ token. tok token ≡ lexeme_tok self.entry) }
         ensures no_text { IsFalse (owns_text (lexeme_tok self.entry)) → IsOk result }

@@ -1,4 +1,4 @@
-//! Texts that tokens may hold, by names that take no memory.
+//! Names for the texts that tokens may hold. A name takes no memory.
 ghost use Rattle.std.specs.Prelude.{◌≡◌};
 ghost use Rattle.latex2mathml_tokens.specs.Names.{function_text, limit_text, paren_text, size_text};
 

@@ -12,7 +12,7 @@ use crate::attribute::{Accent, Variant};
 use crate::lexeme::Lexeme;
 use std::alloc::{AllocError, Global};
 
-/// What a slice of a formula stands for.
+/// What a slice of a formula represents.
 #[derive(Debug, Drop)]
 pub enum Token {
     /// A character without a meaning: the NUL.
@@ -76,7 +76,7 @@ pub enum Token {
     Operator(char),
     /// An operator that takes limits under and over it.
     BigOp(char),
-    /// A letter, or any other character that stands for itself, and its style.
+    /// A letter, or any other character that represents itself, and its style.
     Letter(char, Variant),
     /// Digits, with at most one period.
     Number(String),
@@ -95,8 +95,8 @@ pub enum Token {
 impl Token {
     /// Returns the token of the command with this name, which is given without its backslash.
     ///
-    /// A name in the command table needs no memory and is always `Ok`. Any other name becomes a
-    /// [`Token::Command`] of itself, or an `Err` when out of memory. An `Err` leaves nothing allocated.
+    /// A name in the command table needs no memory, so the result is always `Ok`. Any other name becomes a
+    /// [`Token::Command`] with that name, or an `Err` if memory runs out. An `Err` leaves nothing allocated.
     pub fn from_command(alloc: Global, command: &str) -> Result<Token, AllocError>
         ensures token { IfOk result (λ token. tok token ≡ command_token command.now) }
         ensures in_table { IsSome (entry_token command_entries command.now) → IsOk result }
@@ -105,7 +105,8 @@ impl Token {
         Token::from_command_counted(alloc, command, &mut compared)
     }
 
-    /// The same, with the number of names of the command table that were compared, also for an `Err`.
+    /// Does the same as [`Token::from_command`], and sets `compared` to the number of names of the command table that were
+    /// compared, even for an `Err`.
     pub fn from_command_counted(
         alloc: Global,
         command: &str,
@@ -121,7 +122,7 @@ impl Token {
         lexeme.owned(alloc)
     }
 
-    /// Returns a token with the same contents, or an `Err` when out of memory for its text.
+    /// Returns a token with the same contents, or an `Err` if memory runs out for its text.
     pub fn clone(&self, alloc: Global) -> Result<Token, AllocError>
         ensures { IfOk result (λ copy. tok copy ≡ tok self.now) }
     {
@@ -167,7 +168,7 @@ impl Token {
     }
 }
 
-/// Two tokens are equal if their contents are. Written out and not derived, so that the contract says so.
+/// Two tokens are equal if their contents are. This is not derived, so that the contract can say so.
 impl PartialEq for Token {
     ghost eq = { λ a b. same_tok (tok a) (tok b) };
 

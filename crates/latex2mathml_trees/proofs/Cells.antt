@@ -1,4 +1,4 @@
--- The cells of a table, which end and begin between the prints of its members.
+-- The cells of a table. They end and begin between the prints of its members.
 use Rattle.std.proofs.Common.{ℕ, Bool, false, IsTrue, List, [], ◌∷◌, ◌++◌, refl, codes, map}
 use Rattle.std.specs.{Str.bytes_eq, List.list_all}
 use Rattle.latex2mathml_tokens.specs.{Attributes.align_text, declared.attribute.ColumnAlign.ColumnAlign}

@@ -1,5 +1,5 @@
--- The print of a tree is elements side by side. Where no function in it has an argument, it is one element that obeys the
--- child table.
+-- The print of a tree is elements one after another. Where no function in it has an argument, it is one element that obeys
+-- the child table.
 use Rattle.std.proofs.Common.{◌≡◌, ℕ, ◌+◌, ◌==◌, Bool, true, false, ◌&&◌, IsTrue, List, [], ◌∷◌, ◌++◌, length, Option, Some, None, refl, sym, ap, ◌∙◌, append_assoc, append-nil, length-append, arith, codes, map}
 use Rattle.std.specs.{Char.encode_utf8, Fmt.decimal, List.flat_map, List.list_all}
 use Rattle.latex2mathml_trees.specs.{Arguments.HasNoArgument, Arguments.HaveNoArgument, MathSchema.IsOneElement, MathSchema.child_table}
@@ -26,7 +26,7 @@ both x y = record {
 }
 
 module _ (strict : Bool) where
-  -- the bytes end an element that holds so many elements and no text
+  -- the bytes end an element that holds `count` elements and no text
   abbrev End : Name → ℕ → List ℕ → Type 0
   End n count bytes = (ks : List Name) (s : OpenElements) → (IsTrue strict → length ks ≡ count) → Runs (schema_of strict) bytes (above n ks false s) s
 
@@ -48,7 +48,7 @@ module _ (strict : Bool) where
   within : (n : Name) (attributes : List Attribute) (k : ℕ) (a : List ℕ) → IsTrue (is_event (open_tag n attributes)) → IsTrue (is_name n) → ((parent : Option Name) (ks : List Name) → IsTrue (child_table parent n ks false)) → AreElements strict k a → AreElements strict 1 (spell_event (open_tag n attributes) ++ (a ++ spell_event (close_tag n)))
   within n attributes k a valid named fit x = tagged strict n attributes valid (λ s. before n 0 k a _ x (closed_after n (0 + k) named (λ parent ks e. fit parent ks)) [] s (λ e. refl))
 
-  -- an element that holds so many
+  -- an element that holds `count` elements
   abbrev Holds : Name → ℕ → Type 0
   Holds n count = IsTrue (is_name n) × ((parent : Option Name) (ks : List Name) → length ks ≡ count → IsTrue (child_table parent n ks false))
 
@@ -89,7 +89,7 @@ module _ (strict : Bool) where
       (λ s. sign_before (codes "mrow") 0 (fence (codes "prefix")) o _ refl
       (before (codes "mrow") 1 1 a _ x (sign_before (codes "mrow") 2 (fence (codes "postfix")) c _ refl (closed_after (codes "mrow") 3 refl (λ parent ks e. refl)))) [] s (λ e. refl))
 
-  -- a parenthesis of a size, which is any text
+  -- a parenthesis with a size, which is any text
   sized : (z p : List ℕ) → AreElements strict 1 (codes "<mrow><mo maxsize=\"" ++ (value z ++ (codes "\" minsize=\"" ++ (value z ++ (codes "\">" ++ (content p ++ codes "</mo></mrow>"))))))
   sized z p =
       let v = escaped z in
@@ -157,7 +157,7 @@ module _ (strict : Bool) where
 pub print_is_balanced : (t : Tree) → IsBalanced (print t)
 print_is_balanced t = let some = elements false t (λ e. cc) in (some.names ++ [], (false, ending_as (more-lowest some.names [] false) (some.leads at_start)))
 
--- one name is that of one element
+-- markup with one name is one element
 one_of : (bytes : List ℕ) (names : List Name) → length names ≡ 1 → Runs child_table bytes at_start (more names at_start) → IsOneElement bytes
 one_of bytes (n ∷ []) e m = (n, m)
 one_of bytes names e m = absurd (omega arith)

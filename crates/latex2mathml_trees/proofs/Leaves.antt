@@ -1,4 +1,4 @@
--- Markup that is elements, wherever it stands; and the elements without a tree in them.
+-- Markup that consists of elements, wherever it is, and the elements without a tree in them.
 use Rattle.std.proofs.Common.{◌≡◌, ℕ, ℤ, Bool, true, false, ◌&&◌, ◌||◌, ◌==◌, IsTrue, List, [], ◌∷◌, ◌++◌, length, Option, Some, None, refl, ap, ◌∙◌, append_assoc, append-nil, codes, map, cond}
 use Rattle.std.specs.{Char.encode_utf8, List.list_all}
 use Rattle.std.proofs.lemmas.Grind.{flat_map-append}
@@ -9,7 +9,7 @@ use Rattle.latex2mathml_trees.specs.{MathSchema.child_table, Print.error_print, 
 use Rattle.latex2mathml_trees.proofs.Runs.{content_leads, joined, more, obeying, single, spelled_as}
 use Rattle.latex2mathml_trees.proofs.ValueTexts.{beside, no_text, plain_before, plain_width}
 
--- Strictly, elements obey the child table; otherwise no element need obey anything.
+-- If strict, elements obey the child table. Otherwise every element is allowed.
 abbrev pub schema_of : Bool → Schema
 schema_of true = child_table
 schema_of false = any_element
@@ -18,7 +18,7 @@ obeys : (strict : Bool) (parent : Option Name) (n : Name) (ks : List Name) (d : 
 obeys true parent n ks d h = h refl
 obeys false parent n ks d h = refl
 
--- the bytes are elements side by side, strictly so many
+-- the bytes are elements one after another, and exactly `count` if strict
 pub record AreElements (strict : Bool) (count : ℕ) (bytes : List ℕ) : Type 0 where
   pub names : List Name
   pub counted : IsTrue strict → length names ≡ count
@@ -98,7 +98,7 @@ module _ (strict : Bool) where
       reach : (u w : List ℕ) → u ≡ w ++ codes "em" → ((u ++ codes "\"") ++ []) ++ codes "/>" ≡ w ++ codes "em\"/>"
       reach u w e = simp (append_assoc, append-nil, e)
 
-  -- an element of text after a function's name stands for its application
+  -- an element of text after a function's name represents its application
   pub application : AreElements strict 1 (codes "<mo>&#x2061;</mo>")
   application = tagged (codes "mo") [] refl (reference_then (codes "mo") (numbered (codes "2061")) _ refl (text_ends (codes "mo") refl (λ parent d. refl)) false)
 

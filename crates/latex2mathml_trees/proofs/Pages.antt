@@ -1,4 +1,4 @@
--- Markup on top of other markup: what runs alone runs wherever it is put, so balanced markup stays balanced.
+-- Markup on top of other markup: what runs alone runs wherever it is placed, so balanced markup stays balanced.
 use Rattle.std.proofs.Common.{◌≡◌, ℕ, Bool, true, false, not, ◌&&◌, ◌||◌, cond, IsTrue, List, [], ◌∷◌, ◌++◌, Option, Some, None, option_and_then, refl, ap, ◌∙◌, arith, codes}
 use Rattle.std.specs.{Str.bytes_eq, List.list_all}
 use Rattle.std.proofs.{lemmas.Grind.common_steps, lemmas.Option.option_and_then_some}
@@ -7,7 +7,7 @@ use Rattle.latex2mathml_trees.specs.MathSchema.{IsMathElement, child_table, hold
 use Rattle.latex2mathml_trees.specs.Pages.{IsPage, JoinsBalanced, JoinsMarkup, JoinsPages, is_in_table, may_stand_in_page, page_schema, takes_math}
 use Rattle.latex2mathml_trees.proofs.Runs.{ending_as, joined, more, more-above, more-lowest, obeying, single, staying}
 
--- the levels on top of others: their lowest is the highest of those
+-- levels on top of others: the lowest level becomes part of the highest of the others
 abbrev onto : OpenElements → OpenElements → OpenElements
 onto base (lowest children met) = mark met (more children base)
 onto base (above own children met below) = above own children met (onto base below)
@@ -79,8 +79,8 @@ within_element schema name attributes markup fits free valid valids (children, (
       ),
     )
 
--- The child table in a page. What the table says of an element, a page says where the table names it: of a row, of a cell,
--- of `math`, and of what it may hold.
+-- The child table in a page. What the table says of an element that it names, a page says too: of a row, of a cell, of
+-- `math`, and of what it may hold.
 in_page : (named fit row cell math r c m r' c' m' : Bool) → (IsTrue r → IsTrue r') → (IsTrue c → IsTrue c') → (IsTrue m → IsTrue m') → IsTrue (cond row r (cond cell c (cond math m true)) && fit) → IsTrue (cond named (cond row r' (cond cell c' (cond math m' true)) && fit) true)
 in_page named fit row cell math r c m r' c' m' i j k h = grind (arith, common_steps)
 
@@ -106,7 +106,7 @@ page_balanced markup (children, (met, m)) =
 page_within : (parent : Name) → IsTrue (not (is_in_table parent)) → Fits page_schema page_schema (Some parent)
 page_within parent free = record { outer = λ name children met h. grind (arith, common_steps); inner = λ above name children met h. h }
 
--- an element that the table does not name holds what it will
+-- an element that the table does not name may hold anything
 holds_any : (named b : Bool) → IsTrue (not named) → IsTrue (cond named b true)
 holds_any named b free = grind (arith, common_steps)
 

@@ -1,12 +1,12 @@
--- Runs through markup: one after the other, of single events and of texts. Each leads from any levels, so
--- that what stands around the bytes does not matter.
+-- Runs through markup: one after the other, of single events and of texts. Each starts from any levels, so what surrounds
+-- the bytes does not matter.
 use Rattle.std.proofs.Common.{◌≡◌, ℕ, Bool, true, false, ◌&&◌, ◌||◌, ◌==◌, IsTrue, List, [], ◌∷◌, ◌++◌, Some, None, option_and_then, refl, ap, ◌∙◌, append-nil, arith, map, codes, cond}
 use Rattle.std.specs.{Cmp.Lexicographic.bytes_decides, List.flat_map}
 use Rattle.std.proofs.{lemmas.Grind.common_steps, lemmas.Grind.flat_map-append, lemmas.List.Folds.list_all-append}
 use Rattle.latex2mathml_tokens.specs.Escape.{content}
 use Rattle.latex2mathml_trees.specs.Markup.{Name, named, numbered, plain, Event, open_tag, close_tag, reference, data_byte, OpenElements, lowest, above, add, mark, name_of, Schema, step, run, Runs, spell_part, spell_event, is_name, is_event}
 
--- the run of events and then of others
+-- the run of some events and then of others
 run-append : (schema : Schema) (ps qs : List Event) (s : OpenElements) → run schema (ps ++ qs) s ≡ option_and_then (run schema qs) (run schema ps s)
 run-append schema [] qs s = refl
 run-append schema (p ∷ ps) qs s = grind (arith, common_steps, run-append schema ps qs)
@@ -26,7 +26,7 @@ spelled_as e m = record { events = m.events; are_events = m.are_events; spelled 
 pub ending_as : {schema : Schema} {a : List ℕ} {s t u : OpenElements} → t ≡ u → Runs schema a s t → Runs schema a s u
 ending_as e m = record { events = m.events; are_events = m.are_events; spelled = m.spelled; runs = m.runs ∙ ap Some e }
 
--- no byte leads nowhere
+-- the empty text leaves the levels as they are
 pub staying : {schema : Schema} {s : OpenElements} → Runs schema [] s s
 staying = record { events = []; are_events = refl; spelled = refl; runs = refl }
 
@@ -46,7 +46,7 @@ opened schema n s valid = single schema (open_tag n []) s (above n [] false (add
 pub closed : (schema : Schema) (n : Name) (ks : List Name) (d : Bool) (s : OpenElements) → IsTrue (is_event (close_tag n)) → step schema (close_tag n) (above n ks d s) ≡ Some s → Runs schema (spell_event (close_tag n)) (above n ks d s) s
 closed schema n ks d s valid fit = single schema (close_tag n) (above n ks d s) s valid fit
 
--- where the element obeys the schema
+-- the close tag of an element that obeys the schema
 pub obeying : (schema : Schema) (n : Name) (ks : List Name) (d : Bool) (s : OpenElements) → IsTrue (is_name n) → IsTrue (schema (name_of s) n ks d) → Runs schema (spell_event (close_tag n)) (above n ks d s) s
 obeying schema n ks d s valid fit =
     closed schema n ks d s valid (ap (λ b. cond (b && schema (name_of s) n ks d) (Some s) None) ((bytes_decides n n).1 refl) ∙ ap (λ b. cond b (Some s) None) fit)
@@ -76,7 +76,7 @@ tested_leads schema false false true d b s h i j = single schema (reference (nam
 tested_leads schema false false false true b s h i j = single schema (reference (numbered (codes "24"))) s _ refl refl
 tested_leads schema false false false false b s h i j = single schema (data_byte b) s _ (rw (← i, ← j, ← h) refl) refl
 
--- a text as contents is data of the element where it stands, or nothing
+-- a text as contents is data of the element that it is in, or nothing
 pub content_leads : (schema : Schema) (n : Name) (ks : List Name) (d : Bool) (s : OpenElements) (bs : List ℕ) → (has_text : Bool) × Runs schema (content bs) (above n ks d s) (above n ks has_text s)
 content_leads schema n ks d s [] = (d, staying)
 content_leads schema n ks d s (b ∷ bs) =

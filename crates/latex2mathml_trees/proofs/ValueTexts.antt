@@ -1,4 +1,4 @@
--- Texts that are values of attributes: any text that is escaped, and the texts of numbers and of widths as they are.
+-- Texts that are values of attributes: any escaped text, and the texts of numbers and of widths as they are.
 use Rattle.std.proofs.Common.{◌≡◌, ℕ, zero, suc, ℤ, pos, negsuc, ◌+◌, ◌/◌, ◌%◌, ◌<◌, Bool, true, false, ◌&&◌, ◌==◌, IsTrue, List, [], ◌∷◌, ◌++◌, refl, ap, ◌∙◌, append-nil, arith, codes, cond, map, nat_eq}
 use Rattle.std.specs.Fmt.{decimal, digits, digits_onto, digit_glyph}
 use Rattle.std.specs.List.{flat_map, list_all}
@@ -8,7 +8,7 @@ use Rattle.latex2mathml_trees.specs.Markup.{named, Part, refers, plain, is_part,
 use Rattle.latex2mathml_trees.proofs.Runs.{plain-spells}
 use Rattle.latex2mathml_trees.specs.Width.{width_text, thousandths_text, after_point, trimmed, keep, three_digits, thousandths}
 
--- the text has parts, as a value has
+-- the text consists of parts, as a value does
 pub record IsValue (text : List ℕ) : Type 0 where
   pub parts : List Part
   pub are_parts : IsTrue (list_all is_part parts)

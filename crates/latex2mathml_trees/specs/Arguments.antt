@@ -1,5 +1,5 @@
--- Trees in which no function has an argument. The name of a function and its argument print side by side, so only such a
--- tree prints as one element.
+-- Trees in which no function has an argument. The name of a function and its argument print one after the other, so only
+-- such a tree prints as one element.
 use Rattle.std.specs.Prelude.{⊤}
 use Rattle.latex2mathml_trees.specs.Tree.{Tree, Trees, number, letter, operator, function, applied, space, subscript, superscript, sub_sup, over_op, under_op, overset, underset, under, under_over, root, sqrt, frac, row, fenced, stretched, other_operator, sized_paren, words, matrix, ampersand, new_line, slashed, style, undefined, no_trees, more_trees}
 

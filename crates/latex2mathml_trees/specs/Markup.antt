@@ -1,5 +1,5 @@
--- Markup: the events that bytes are cut into (tags, references and data), and when their elements are balanced. Nothing here
--- knows of formulas.
+-- Markup: the events that bytes are cut into (tags, references and data), and when their elements are balanced. Nothing
+-- here depends on formulas.
 use Rattle.std.specs.Prelude.{◌≡◌, ℕ, Bool, true, false, not, ◌&&◌, ◌||◌, IsTrue, List, [], ◌∷◌, ◌++◌, Option, Some, None, option_and_then, if◌then◌else◌, codes}
 use Rattle.std.specs.{Str.bytes_eq, Char.is_ascii_alphabetic, Char.is_ascii_hexdigit, Char.is_ascii_lowercase, List.flat_map, List.list_all}
 use Rattle.latex2mathml_tokens.specs.Among.{is_among}
@@ -8,7 +8,7 @@ use Rattle.latex2mathml_tokens.specs.Among.{is_among}
 abbrev pub Name : Type 0
 Name = List ℕ
 
--- what stands for a character: `&`, letters and `;`, or `&#x`, hexadecimal digits and `;`
+-- a reference to a character: `&`, letters and `;`, or `&#x`, hexadecimal digits and `;`
 pub data Reference : Type 0 where
   named : List ℕ → Reference
   numbered : List ℕ → Reference
@@ -43,11 +43,11 @@ abbrev pub is_reference : Reference → Bool
 is_reference (named letters) = is_word is_ascii_alphabetic letters
 is_reference (numbered digits) = is_word is_ascii_hexdigit digits
 
--- a byte of data is none of those that tags and references begin or end with
+-- a byte of data is neither a bracket of tags nor the first byte of references
 abbrev pub is_data : ℕ → Bool
 is_data b = not (is_among b (codes "<>&"))
 
--- and within a value it is not the quotation mark either
+-- within a value it is not the quotation mark either
 abbrev pub is_part : Part → Bool
 is_part (refers r) = is_reference r
 is_part (plain b) = not (is_among b (codes "<>&\""))
@@ -84,8 +84,8 @@ spell_event (data_byte b) = b ∷ []
 abbrev pub spell : List Event → List ℕ
 spell = flat_map spell_event
 
--- The open elements, each above the one that it stands in. Each has its name, the names of its children so far, the
--- last one first, and whether data or a reference was met in it. The lowest level is the markup itself, without a name.
+-- The open elements, each above the one that it is in. Each has its name, the names of its children so far, the last one
+-- first, and whether data or a reference was met in it. The lowest level is the markup itself, without a name.
 pub data OpenElements : Type 0 where
   lowest : List Name → Bool → OpenElements
   above : Name → List Name → Bool → OpenElements → OpenElements
@@ -104,7 +104,7 @@ abbrev pub mark : Bool → OpenElements → OpenElements
 mark met (lowest children has_text) = lowest children (has_text || met)
 mark met (above own children has_text below) = above own children (has_text || met) below
 
--- the name of the highest level, where it has one
+-- the name of the highest level, if it has one
 abbrev pub name_of : OpenElements → Option Name
 name_of (lowest children has_text) = None
 name_of (above own children has_text below) = Some own
@@ -118,8 +118,8 @@ Schema = Option Name → Name → List Name → Bool → Bool
 abbrev pub any_element : Schema
 any_element parent name children has_text = true
 
--- An open tag is a child of the highest level, and becomes the highest one. A close tag needs its own name there, and
--- takes it off. An empty tag is a child that ends at once.
+-- An open tag is a child of the highest level, and becomes the highest level. A close tag needs its own name there, and
+-- removes that level. An empty tag is a child that ends at once.
 abbrev pub step : Schema → Event → OpenElements → Option OpenElements
 step schema (open_tag name attributes) levels = Some (above name [] false (add name levels))
 step schema (close_tag name) (lowest children has_text) = None
@@ -133,7 +133,7 @@ abbrev pub run : Schema → List Event → OpenElements → Option OpenElements
 run schema [] levels = Some levels
 run schema (event ∷ events) levels = option_and_then (run schema events) (step schema event levels)
 
--- the bytes have a cut into events, and under the schema it runs from these open elements to those
+-- the bytes have a cut into events, which under the schema runs from the open elements `start` to `end`
 pub record Runs (schema : Schema) (bytes : List ℕ) (start end : OpenElements) : Type 0 where
   pub events : List Event
   pub are_events : IsTrue (list_all is_event events)
@@ -144,6 +144,6 @@ pub record Runs (schema : Schema) (bytes : List ℕ) (start end : OpenElements) 
 abbrev pub IsBalanced : List ℕ → Type 0
 IsBalanced bytes = (children : List Name) × ((has_text : Bool) × Runs any_element bytes at_start (lowest children has_text))
 
--- one element of this name, with nothing beside it, which obeys the schema with all that stands in it
+-- one element of this name, with nothing around it, which obeys the schema with everything in it
 abbrev pub IsElement : Schema → Name → List ℕ → Type 0
 IsElement schema name bytes = Runs schema bytes at_start (lowest (name ∷ []) false)

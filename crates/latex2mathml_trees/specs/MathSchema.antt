@@ -1,5 +1,5 @@
--- The child table: which elements there are in the markup of a formula, what each may hold, and where it may stand. The
--- counts are those of MathML 3.
+-- The child table: which elements there are in the markup of a formula, what each may hold, and where it may be. The counts
+-- are those of MathML 3.
 use Rattle.std.specs.Prelude.{ℕ, Bool, true, false, not, ◌&&◌, ◌==◌, List, [], ◌∷◌, length, Option, Some, None, if◌then◌else◌, codes}
 use Rattle.std.specs.{Str.bytes_eq, List.list_all}
 use Rattle.latex2mathml_trees.specs.Markup.{Name, Schema, IsElement}
@@ -52,7 +52,7 @@ abbrev pub has_some : List Name → Bool
 has_some [] = false
 has_some (name ∷ names) = true
 
--- these children, and text or none, are what an element may hold
+-- an element may hold these children, and text if there is any
 abbrev pub holds : Option Holding → List Name → Bool → Bool
 holds None children has_text = false
 holds (Some text) children has_text = not (has_some children)
@@ -69,7 +69,7 @@ abbrev pub is_outermost : Option Name → Bool
 is_outermost None = true
 is_outermost (Some parent) = false
 
--- `mtr` stands in `mtable` alone, `mtd` in `mtr` alone, and `math` in no element
+-- `mtr` may be only in `mtable`, `mtd` only in `mtr`, and `math` in no element
 abbrev pub may_stand_in : Option Name → Name → Bool
 may_stand_in parent name =
     if bytes_eq (codes "mtr") name then is_parent (codes "mtable") parent

@@ -17,7 +17,7 @@ letter_print c variant = codes "<mi mathvariant=\"" ++ (variant_text variant ++ 
 abbrev pub partial_derivative : ℕ
 partial_derivative = 0x2202  -- ∂
 
--- an operator; the sign of the partial derivative alone is italic
+-- an operator; only the sign of the partial derivative is italic
 abbrev pub operator_print : ℕ → List ℕ
 operator_print c =
     if c == partial_derivative then codes "<mo mathvariant=\"italic\">" ++ (content_char partial_derivative ++ codes "</mo>") else codes "<mo>" ++ (content_char c ++ codes "</mo>")
@@ -26,13 +26,13 @@ operator_print c =
 abbrev pub error_print : List ℕ → List ℕ
 error_print text = codes "<mtext>[PARSE ERROR: " ++ (content text ++ codes "]</mtext>")
 
--- a tree with a slash, given its own print: a letter and an operator take the slash, no other tree does
+-- a tree with a slash, given its own print: a letter and an operator take the slash, and no other tree does
 abbrev pub slashed_print : Tree → List ℕ → List ℕ
 slashed_print (letter c variant) own = codes "<mi mathvariant=\"" ++ (variant_text variant ++ (codes "\">" ++ (content_char c ++ codes "&#x0338;</mi>")))
 slashed_print (operator c) own = codes "<mo>" ++ (content_char c ++ codes "&#x0338;</mo>")
 slashed_print x own = own
 
--- a member of a matrix, given its own print: a new line ends the row, and an ampersand the cell
+-- a member of a matrix, given its own print: a new line ends the row, and an ampersand ends the cell
 abbrev pub member_print : Tree → List ℕ → List ℕ
 member_print new_line own = codes "</mtd></mtr><mtr><mtd>"
 member_print ampersand own = codes "</mtd><mtd>"

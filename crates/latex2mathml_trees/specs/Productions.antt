@@ -1,5 +1,4 @@
--- Trees that a rule of the grammar makes of its parts, if they are more than one node of the parts, and the texts of
--- fences.
+-- Trees that a rule of the grammar makes of its parts, if they are more than one node of the parts, and the texts of fences.
 use Rattle.std.specs.Prelude.{ℕ, ◌==◌, List, [], true, Option, Some, None, if◌then◌else◌, codes, ◌∷◌}
 use Rattle.std.specs.{Char.encode_utf8, Str.byte, Str.bytes_eq}
 use Rattle.latex2mathml_tokens.specs.{Tok.Tok, Tok.Operator, Tok.Paren, declared.DisplayStyle.DisplayStyle}
@@ -21,7 +20,7 @@ prime_mark = operator 0x2032  -- ′
 abbrev pub coefficient : Tree → Tree → Tree
 coefficient upper lower = fenced (codes "(") (codes ")") (frac upper lower (Length 0))
 
--- a binomial coefficient: alone, or in a row that is set as in a block or as in a line of text
+-- a binomial coefficient: alone, or in a row with the style of a block or of a line of text
 abbrev pub binomial_tree : Option DisplayStyle → Tree → Tree → Tree
 binomial_tree None upper lower = coefficient upper lower
 binomial_tree (Some display) upper lower = style (Some display) (row (more_trees (coefficient upper lower) no_trees))
@@ -40,13 +39,13 @@ underbrace_tree c x = underset (operator c) x
 abbrev pub labelled_underbrace_tree : ℕ → Tree → Tree → Tree
 labelled_underbrace_tree c label x = underset (underset label (operator c)) x
 
--- what a token prints as a fence: a parenthesis its text, and a period nothing
+-- what a token prints as a fence: for a parenthesis its text, and for a period nothing
 abbrev pub fence_of : Tok → Option (List ℕ)
 fence_of (Paren text) = Some text
 fence_of (Operator c) = if c == byte "." then Some [] else None
 fence_of t = None
 
--- the operator that grows with what stands around it, if the tree is an operator
+-- the operator that grows with what is around it, if the tree is an operator
 abbrev pub stretched_operator : Tree → Option Tree
 stretched_operator (operator c) = Some (stretched true (encode_utf8 c))
 stretched_operator (other_operator text) = Some (stretched true text)
@@ -64,7 +63,7 @@ matrix_of align group = matrix (matrix_members group) align
 abbrev pub fenced_matrix : List ℕ → List ℕ → Tree → Tree
 fenced_matrix opening close group = fenced opening close (matrix_of Center group)
 
--- an environment of this name around a group, if there is one of this name
+-- the environment of this name around a group, if there is one of this name
 abbrev pub environment_tree : List ℕ → Tree → Option Tree
 environment_tree name group =
     if bytes_eq name (codes "matrix") then Some (matrix_of Center group) else

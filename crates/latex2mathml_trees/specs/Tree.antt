@@ -1,4 +1,4 @@
--- Trees of formulas: what nodes are, as values. A text is its bytes, and a character its code point.
+-- Trees of formulas: the values that nodes represent. A text is its bytes, and a character its code point.
 use Rattle.std.specs.Prelude.{ℕ, ℤ, Bool, List, [], ◌∷◌, Option, Some, None}
 use Rattle.latex2mathml_tokens.specs.{declared.DisplayStyle.DisplayStyle, declared.attribute.Variant.Variant}
 use Rattle.latex2mathml_tokens.specs.{declared.attribute.Accent.Accent, declared.attribute.LineThickness.LineThickness}
@@ -20,7 +20,7 @@ mutual
     sub_sup : Tree → Tree → Tree → Tree
     over_op : ℕ → Accent → Tree → Tree
     under_op : ℕ → Accent → Tree → Tree
-    -- what stands over or under, and then the base
+    -- what is over or under the base, and then the base
     overset : Tree → Tree → Tree
     underset : Tree → Tree → Tree
     -- the base, then the limit under it, then the limit over it
@@ -31,7 +31,7 @@ mutual
     sqrt : Tree → Tree
     frac : Tree → Tree → LineThickness → Tree
     row : Trees → Tree
-    -- the opening fence, the closing fence, and what stands between them
+    -- the opening fence, the closing fence, and what is between them
     fenced : List ℕ → List ℕ → Tree → Tree
     stretched : Bool → List ℕ → Tree
     other_operator : List ℕ → Tree
@@ -50,17 +50,17 @@ mutual
     no_trees : Trees
     more_trees : Tree → Trees → Trees
 
--- a list of trees as the members of one
+-- a list of trees as the members of one tree
 abbrev pub trees_of : List Tree → Trees
 trees_of [] = no_trees
 trees_of (x ∷ xs) = more_trees x (trees_of xs)
 
--- a function, where its argument may be missing
+-- a function, whose argument may be missing
 abbrev pub function_tree : List ℕ → Option Tree → Tree
 function_tree name None = function name
 function_tree name (Some x) = applied name x
 
--- a root, where its degree may be missing
+-- a root, whose degree may be missing
 abbrev pub root_tree : Option Tree → Tree → Tree
 root_tree None x = sqrt x
 root_tree (Some degree) x = root degree x

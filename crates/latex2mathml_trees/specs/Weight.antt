@@ -3,8 +3,8 @@ use Rattle.std.specs.Prelude.{ℕ, ◌+◌}
 use Rattle.latex2mathml_trees.specs.Tree.{Tree, Trees, applied, subscript, superscript, sub_sup, over_op, under_op, overset, underset, under, under_over, root, sqrt, frac, row, fenced, matrix, slashed, style, no_trees, more_trees}
 
 abbrev mutual
-  -- How many nodes and lists are in a tree, the tree itself not counted. The first of several nodes, and an empty list,
-  -- count as much as is given, and so in the first node in turn.
+  -- The number of nodes and lists in a tree, without the tree itself. The first of several nodes counts as `first`, and so
+  -- does an empty list. The same holds within the first node.
   pub count : ℕ → Tree → ℕ
   count first (applied name x) = count first x + 1
   count first (subscript x y) = count first x + count 1 y + (first + 1)
@@ -26,12 +26,12 @@ abbrev mutual
   count first (style display x) = count first x + 1
   count first leaf = 0
 
-  -- how many nodes the trees of a list are, with what is in them
+  -- how many nodes the trees of a list are, including what is in them
   pub counts : ℕ → Trees → ℕ
   counts first no_trees = 0
   counts first (more_trees x rest) = count first x + counts 1 rest + 1
 
--- where each counts
+-- the weight: each node and each list counts as one
 abbrev pub weight : Tree → ℕ
 weight = count 1
 

@@ -10,7 +10,7 @@ thousandths n = (n * 1000 + 9) / 18
 abbrev pub IsNearest : ℕ → ℕ → Type 0
 IsNearest n t = (18 * t < 1000 * n + 9) × (1000 * n < 18 * t + 9)
 
--- the thousandths are so near to every number of eighteenths, and no other number is: no tie can arise
+-- for every number of eighteenths the thousandths are nearest, and no other number is as near: no tie can arise
 abbrev pub WidthsAreNearest : Type 0
 WidthsAreNearest = (n : ℕ) → IsNearest n (thousandths n) × ((t : ℕ) → IsNearest n t → t ≡ thousandths n)
 
@@ -18,7 +18,7 @@ WidthsAreNearest = (n : ℕ) → IsNearest n (thousandths n) × ((t : ℕ) → I
 abbrev pub digit : ℕ → ℕ
 digit n = byte "0" + n
 
--- the three last digits of a number
+-- the last three digits of a number
 abbrev pub three_digits : ℕ → List ℕ
 three_digits n = digit (n / 100 % 10) ∷ digit (n / 10 % 10) ∷ digit (n % 10) ∷ []
 

@@ -1,4 +1,4 @@
-//! Markup that is appended to a text.
+//! Appends markup to a text.
 ghost use Rattle.std.specs.Prelude.{Some};
 ghost use Rattle.latex2mathml_tokens.specs.Escape.{content, content_char};
 ghost use Rattle.latex2mathml_trees.specs.{Print.print, Texts.Appends, Tree.space, Tree.undefined};
@@ -54,7 +54,7 @@ pub fn append_content(text: &str, out: &mut String) -> Result<(), AllocError>
     }
 }
 
-/// Appends the text of a token that has no meaning where it stands, marked as an error.
+/// Appends the text of a token that has no meaning where it is, marked as an error.
 pub fn append_undefined(text: &str, out: &mut String) -> Result<(), AllocError>
     ensures { Appends out.old out.new (print (undefined text.now)) result }
 {

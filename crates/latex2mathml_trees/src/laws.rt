@@ -7,8 +7,8 @@ pub fn widths_are_nearest()
     ensures { WidthsAreNearest }
 {}
 
-/// Balanced markup stays balanced, one after the other and within an element, and so do pages: markup in which each
-/// element that the child table names obeys it. A `math` element may stand in either.
+/// Balanced markup stays balanced when it is joined or put into an element. So do pages: markup in which each element that
+/// the child table names obeys it. A `math` element may be in either.
 #[tactic(auto, using(crate::proofs::Pages::joins_markup))]
 pub fn joined_markup()
     ensures { JoinsMarkup }

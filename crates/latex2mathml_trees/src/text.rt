@@ -1,4 +1,4 @@
-//! Texts in markup: as contents, as values of attributes, and marked as errors.
+//! Writes texts in markup: as contents, as values of attributes, and marked as errors.
 ghost use Rattle.std.specs.Prelude.{◌≡◌, ◌++◌, codes};
 ghost use Rattle.std.specs.{Char.encode_utf8, Fmt.WritesOnOk, List.flat_map};
 ghost use Rattle.latex2mathml_tokens.specs.Escape.{content, content_char, is_escaped, quoted, quoted_byte, value};
@@ -6,7 +6,7 @@ ghost use Rattle.latex2mathml_trees.specs.Print.{error_print};
 
 use std::fmt;
 
-/// Writes the text of a token that has no meaning where it stands, marked as an error.
+/// Writes the text of a token that has no meaning where it is, marked as an error.
 pub fn write_undefined<W: fmt::Write>(text: &str, f: &mut fmt::Formatter<W>) -> fmt::Result
     ensures { WritesOnOk W.write_str_gives f.old result
         (error_print (codes "Undefined(" ++ (quoted text.now ++ codes ")"))) f.new }
@@ -16,7 +16,7 @@ pub fn write_undefined<W: fmt::Write>(text: &str, f: &mut fmt::Formatter<W>) -> 
     f.write_str("\")]</mtext>")
 }
 
-/// Writes what stands between the quotation marks of a text in quotes, as contents.
+/// Writes what is between the quotation marks of a text in quotes, as contents.
 fn write_quoted<W: fmt::Write>(text: &str, f: &mut fmt::Formatter<W>) -> fmt::Result
     ensures { WritesOnOk W.write_str_gives f.old result
         (content (flat_map quoted_byte text.now)) f.new }

@@ -18,7 +18,7 @@ pub fn write_space<W: fmt::Write>(width: i32, f: &mut fmt::Formatter<W>) -> fmt:
     f.write_str("em\"/>")
 }
 
-/// The thousandths that are nearest to a number of eighteenths, without its sign.
+/// Returns the number of thousandths that is nearest to a number of eighteenths, without its sign.
 fn thousandths_of(width: i32) -> u64
     ensures { result ≡ thousandths (unsigned_abs width) }
 {

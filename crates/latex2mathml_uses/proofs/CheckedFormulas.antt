@@ -16,7 +16,7 @@ module _ (text : List ℕ) (display : DisplayStyle) (one : HasOneRendering text 
   only_markup (Ok markup) is = only_rendering text display (string_bytes markup) one is
   only_markup (Err error) is = tt
 
-  -- and what has markup is not refused
+  -- what has markup is not refused
   pub not_refused : HasRendering text display → (result : Result (String Global) LatexError) → IfRefused result (IsFormulaRefusal text) → IfRefused result (λ refusal. ⊥)
   not_refused has (Ok markup) is = tt
   not_refused has (Err error) is = by (refusal_of error) is

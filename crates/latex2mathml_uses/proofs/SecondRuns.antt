@@ -1,4 +1,4 @@
--- What a second run of a build reads is a page without a dollar sign, so it changes nothing and refuses nothing.
+-- A second run of a build reads a page without a dollar sign, so it changes nothing and refuses nothing.
 use Rattle.std.proofs.Common.{◌≡◌, ℕ, List, ◌++◌, Option, Some, None, Ok, Err, IsTrue, sym, ap, ◌∙◌, subst, append-nil}
 use Rattle.std.specs.{Io.KnownBytes.Consumes, Io.KnownBytes.IsAtEnd, Prelude.IfSome, Prelude.IsUtf8}
 use Rattle.latex2mathml.specs.{Documents.IsRefusal, Dollars.IsDollarFree, Inputs.IsReadingOf, Inputs.IsWholeText, Streams.StreamState}

@@ -2,7 +2,7 @@
 use Rattle.std.specs.Prelude.{ℕ, ◌*◌, ◌≤◌}
 use Rattle.latex2mathml.specs.declared.Steps.{Steps}
 
--- the reading took so many tokens, frames at once, and nine times as many comparisons, or fewer
+-- the reading took at most `most` tokens, `most` frames at once, and nine times as many comparisons
 pub record IsWithin (most : ℕ) (steps : Steps) : Type 0 where
   pub tokens : steps.tokens ≤ most
   pub frames : steps.frames ≤ most

@@ -6,7 +6,7 @@ use Rattle.latex2mathml.specs.declared.input.Reading.{Reading}
 use Rattle.latex2mathml.specs.declared.input.Reading.TheVariants.{Changed, Unchanged}
 use Rattle.latex2mathml.specs.Formulas.{refusal_of}
 
--- why a build leaves nothing; where the fault tells a refusal, it is the document's
+-- why a build leaves nothing; if the fault reports a refusal, it is that of the document
 abbrev pub IsFaultOf : List ℕ → FileFault → Type 0
 IsFaultOf document Read = ⊤
 IsFaultOf document NotText = ¬ IsUtf8 document

@@ -3,6 +3,6 @@ use Rattle.std.specs.Prelude.{ℕ, List}
 use Rattle.std.specs.Str.{chars}
 use Rattle.latex2mathml.specs.Places.{IsBetweenTokens, IsDigitPlace}
 
--- a line may end between the two texts: the place lies between two tokens, and is no digit place
+-- a line may end between the two texts: the place is between two tokens, and is not a digit place
 abbrev pub IsBreak : List ℕ → List ℕ → Type 0
 IsBreak first second = (place : IsBetweenTokens (chars first) (chars second)) × ¬ (IsDigitPlace place)

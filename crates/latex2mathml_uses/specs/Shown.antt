@@ -3,7 +3,7 @@ use Rattle.std.specs.Prelude.{◌≡◌, ◌⊎◌, ℕ, List, ◌++◌, codes}
 use Rattle.latex2mathml.specs.{Print.print, Tree.undefined}
 use Rattle.latex2mathml.specs.Formulas.{Refusal, refusal_text, IsFormulaRefusal, IsRendering, Inline}
 
--- a text that is no formula, marked as an error
+-- a text that is not a formula, marked as an error
 abbrev pub reason_print : List ℕ → List ℕ
 reason_print text = codes "<math>" ++ (print (undefined text) ++ codes "</math>")
 

@@ -1,4 +1,4 @@
-//! A bound on what it costs to read a formula, known before it is read.
+//! A bound on the cost of reading a formula, known before it is read.
 ghost use Rattle.std.specs.Prelude.{◌<◌, ◌≤◌, IfOk, IfSome, MatchOption, length, string_bytes};
 ghost use Rattle.latex2mathml.specs.Formulas.{IsRendering};
 ghost use Rattle.latex2mathml_uses.specs.Budgets.{IsWithin};
@@ -7,7 +7,7 @@ use latex2mathml::{DisplayStyle, LatexError, Steps, latex_to_mathml_counted};
 use std::alloc::Global;
 
 /// Converts a formula of at most `most` bytes, and returns the result and the steps that it took, or `None` if the formula is
-/// longer. At most `most` tokens are taken, with at most `most` frames at once, and nine times as many names are compared.
+/// longer. It takes at most `most` tokens, has at most `most` frames at once, and compares at most nine times as many names.
 pub fn convert(
     alloc: Global,
     formula: &str,

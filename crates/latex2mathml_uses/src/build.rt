@@ -27,8 +27,8 @@ pub fn rewrite<S: Source>(alloc: Global, source: &mut S) -> Result<Option<String
     }
 }
 
-/// Returns the page that a run leaves, for a template engine in which a dollar sign begins a name. The page contains none. An
-/// error is the one that reading the document reports.
+/// Returns the page that a run leaves, for a template engine in which a dollar sign begins a name. The page contains no dollar
+/// sign. An error is the one that reading the document reports.
 pub fn template<S: Source>(alloc: Global, source: &mut S) -> Result<String, FileFault>
     requires { CanGoOn (S.state source.old) }
     ensures page { IfOk result (λ page. (document : List ℕ)

@@ -1,4 +1,4 @@
-//! Renderings that are kept, so that a repeated formula is not converted again.
+//! Renderings that are cached, so that a repeated formula is not converted again.
 ghost use Rattle.std.specs.Prelude.{◌≡◌, Some, IfOk, IfSome, IsSome, option_map, string_bytes};
 ghost use Rattle.latex2mathml.specs.Formulas.{IfRefused, IsFormulaRefusal};
 ghost use Rattle.latex2mathml_uses.specs.{Cached.HoldsRenderings, Cached.IsOnlyRendering, Cached.text_at, Caches.IsSound, Caches.held_text};
@@ -39,7 +39,7 @@ impl Cache {
         }
     }
 
-    /// Returns the markup of the formula, and keeps it in the cache. If it is there already, the cache stays as it is. On an
+    /// Returns the markup of the formula, and keeps it in the cache. If it is already there, the cache does not change. On an
     /// error, which is the refusal of the formula or out of memory, the cache still has only renderings.
     pub fn markup(
         &mut self,
@@ -63,7 +63,7 @@ impl Cache {
     }
 }
 
-/// Returns the markup of the formula: from the map if it is there, and otherwise converted and put into the map.
+/// Returns the markup of the formula: from the map if it is there, and otherwise converted and inserted into the map.
 fn look_up(
     alloc: Global,
     map: &mut HashMap<String, String>,
@@ -86,7 +86,7 @@ fn look_up(
     convert_and_keep(alloc, map, formula, display)
 }
 
-/// Converts the formula, and puts its markup into the map.
+/// Converts the formula, and inserts its markup into the map.
 fn convert_and_keep(
     alloc: Global,
     map: &mut HashMap<String, String>,

@@ -1,4 +1,4 @@
-//! Example callers of the library, each proved from the library's public contracts alone. `docs/CALLING.md` says which
+//! Example callers of the library. Each is proved from the library's public contracts alone. `docs/CALLING.md` says which
 //! contracts each one uses.
 #![tactic(auto)]
 

@@ -17,7 +17,7 @@ pub fn convert(
     ensures rendering { IfOk result (λ taken. IfSome taken (λ markup.
         IsRendering formula.now display (string_bytes markup))) }
 
-    // There is markup exactly if the formula has at most so many tokens.
+    // There is markup exactly if the formula has at most `most` tokens.
     ensures limit { IfOk result (λ taken. (count : ℕ) × HasTokenCount formula.now count
         × MatchOption taken (most < count) (λ _. count ≤ most)) }
     ensures refusal { IfRefused result (IsFormulaRefusal formula.now) }

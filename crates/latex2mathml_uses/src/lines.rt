@@ -6,8 +6,8 @@ ghost use Rattle.latex2mathml_uses.specs.Lines.{IsBreak};
 use latex2mathml::{DisplayStyle, LatexError, latex_to_mathml, laws};
 use std::alloc::Global;
 
-/// Returns the markup of a formula whose two halves stand on two lines. Where the line may end between them, the result is that
-/// of the formula on one line.
+/// Returns the markup of a formula whose two halves are on two lines. If the line may end between them, the result is that of
+/// the formula on one line.
 pub fn convert(
     alloc: Global,
     first: &str,

@@ -6,7 +6,7 @@ ghost use Rattle.latex2mathml.specs.declared.files.Unconverted.{Unconverted};
 use latex2mathml::{Site, convert_site};
 use std::alloc::{AllocError, Global};
 
-/// Converts the documents under a path of a site, and returns whether there is nothing that could not be converted.
+/// Converts the documents under a path of a site, and returns whether everything could be converted.
 pub fn publish<S: Site>(site: &mut S, alloc: Global, path: &str) -> Result<bool, AllocError>
     ensures { IfOk result (λ all. (unconverted : List Unconverted)
         × IsWalked levels_read path.now (S.answers site.old) (S.answers site.new) [] unconverted

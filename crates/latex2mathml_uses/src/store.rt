@@ -1,4 +1,4 @@
-//! Markup that is stored without the formulas that it was made of.
+//! Markup that is stored without the formulas that it was made from.
 ghost use Rattle.std.specs.Prelude.{◌≡◌, ◌++◌, IfOk, string_bytes};
 ghost use Rattle.latex2mathml.specs.{Dollars.IsDollarFree, Elements.IsPage};
 ghost use Rattle.latex2mathml_uses.specs.Stored.{IsStored};
@@ -6,7 +6,8 @@ ghost use Rattle.latex2mathml_uses.specs.Stored.{IsStored};
 use latex2mathml::laws;
 use std::alloc::{AllocError, Global};
 
-/// Returns two stored formulas side by side. The result is a page and contains no dollar sign, whatever the formulas were.
+/// Returns two stored formulas next to each other. The result is a page and contains no dollar sign, whatever the formulas
+/// were.
 pub fn beside(alloc: Global, first: &str, second: &str) -> Result<String, AllocError>
     requires first { IsStored first.now }
     requires second { IsStored second.now }

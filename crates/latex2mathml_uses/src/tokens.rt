@@ -7,8 +7,8 @@ ghost use Rattle.latex2mathml_uses.specs.Read.{IsRead};
 use latex2mathml::{DisplayStyle, LatexError, latex_to_mathml_counted, laws};
 use std::alloc::Global;
 
-/// Returns how many tokens a formula has that can be read. A formula has one list of tokens, so the number and the reading are
-/// those of each such list, and so is the refusal.
+/// Returns how many tokens a readable formula has. A formula has only one list of tokens, so the number, the reading and the
+/// refusal are those of every such list.
 pub fn count(alloc: Global, formula: &str) -> Result<u128, LatexError>
     ensures read { IfOk result (λ count. (ts : List Tok) → HasTokens None (chars formula.now) ts
         → IsRead ts × (count ≡ length ts)) }

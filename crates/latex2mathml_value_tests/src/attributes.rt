@@ -1,4 +1,4 @@
-//! The texts of attributes.
+//! Tests of the texts of attributes.
 
 use latex2mathml_tokens::DisplayStyle;
 use latex2mathml_tokens::attribute::{Accent, ColumnAlign, LineThickness, Variant};

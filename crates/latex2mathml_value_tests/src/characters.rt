@@ -1,4 +1,4 @@
-//! Each ASCII character, and others of each length, through each text that is printed.
+//! Tests of each ASCII character, and of others of each length, in each text that is printed.
 
 use latex2mathml_nodes::ast::Node;
 use latex2mathml_samples::samples::Words;
@@ -22,7 +22,7 @@ const WIDE: [char; 10] = [
     '\u{10FFFF}',
 ];
 
-/// Whether the text is the middle with these around it.
+/// Whether the text is the middle with these texts around it.
 fn is_around(text: &str, before: &str, middle: &str, after: &str) -> bool {
     match text.strip_prefix(before) {
         Some(rest) => rest.strip_suffix(after) == Some(middle),
@@ -30,7 +30,7 @@ fn is_around(text: &str, before: &str, middle: &str, after: &str) -> bool {
     }
 }
 
-/// The character as contents.
+/// Returns the character as contents.
 fn content(c: char, room: &mut [u8; 4]) -> &str {
     match c {
         '&' => "&amp;",
@@ -41,7 +41,7 @@ fn content(c: char, room: &mut [u8; 4]) -> &str {
     }
 }
 
-/// The character in quotation marks, as contents.
+/// Returns the character in quotation marks, as contents.
 fn quoted_content(c: char, room: &mut [u8; 4]) -> &str {
     match c {
         '"' => "\\\"",
@@ -50,7 +50,7 @@ fn quoted_content(c: char, room: &mut [u8; 4]) -> &str {
     }
 }
 
-/// The character in quotation marks.
+/// Returns the character in quotation marks.
 fn quote(c: char, room: &mut [u8; 4]) -> &str {
     match c {
         '"' => "\\\"",
@@ -59,7 +59,7 @@ fn quote(c: char, room: &mut [u8; 4]) -> &str {
     }
 }
 
-/// The character in apostrophes.
+/// Returns the character in apostrophes.
 fn in_apostrophes(c: char, room: &mut [u8; 4]) -> &str {
     match c {
         '\'' => "\\'",
@@ -68,7 +68,7 @@ fn in_apostrophes(c: char, room: &mut [u8; 4]) -> &str {
     }
 }
 
-/// Whether the node prints as the contents with these around them.
+/// Whether the node prints as the contents with these texts around them.
 fn prints(
     alloc: Global,
     node: &Node,
@@ -107,12 +107,16 @@ fn stands_in_texts(alloc: Global, c: char) -> Result<bool, AllocError> {
     let mut room = [0; 4];
     let contents = content(c, &mut room);
     let text = format!(in alloc; "1{c}2")?;
-    let number = Words::Number.of(alloc, text.as_str())?;
-    let function = Words::Function.of(alloc, text.as_str())?;
-    Ok(
-        prints(alloc, &number, "<mn>1", contents, "2</mn>")?
-            && prints(alloc, &function, "<mi>1", contents, "2</mi>")?,
-    )
+    for (kind, before, after) in [
+        (Words::Number, "<mn>1", "2</mn>"),
+        (Words::Function, "<mi>1", "2</mi>"),
+    ] {
+        let node = kind.of(alloc, text.as_str())?;
+        if !prints(alloc, &node, before, contents, after)? {
+            return Ok(false);
+        }
+    }
+    Ok(true)
 }
 
 /// Whether a marked error shows the character.

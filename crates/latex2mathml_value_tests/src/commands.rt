@@ -1,4 +1,4 @@
-//! The tokens of names that no formula spells.
+//! Tests of the tokens of names that no formula spells.
 
 use latex2mathml_tokens::token::Token;
 use std::alloc::{AllocError, Global};

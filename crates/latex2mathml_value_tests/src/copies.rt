@@ -1,4 +1,4 @@
-//! Copies and equality of nodes of each kind.
+//! Tests of copies and equality of nodes of each kind.
 
 use latex2mathml_nodes::ast::Node;
 use latex2mathml_samples::samples::{Frame, Pair, Sample, Triple, Words};
@@ -40,7 +40,7 @@ static LEAVES: [Sample; 29] = [
     Sample::Applied("cos", 'x'),
 ];
 
-/// The same of each kind that holds one node.
+/// Each kind that holds one node, and for each others that differ only in their contents.
 static FRAMES: [Sample; 20] = [
     Sample::Frame(Frame::Over('^', Accent::True), 'a'),
     Sample::Frame(Frame::Over('~', Accent::True), 'a'),
@@ -64,7 +64,7 @@ static FRAMES: [Sample; 20] = [
     Sample::Frame(Frame::Style(None), 'b'),
 ];
 
-/// The same of each kind that holds two nodes.
+/// Each kind that holds two nodes, and for each others that differ only in their contents.
 static PAIRS: [Sample; 21] = [
     Sample::Pair(Pair::Subscript, '+', '-'),
     Sample::Pair(Pair::Subscript, '-', '+'),
@@ -89,7 +89,7 @@ static PAIRS: [Sample; 21] = [
     Sample::Pair(Pair::Fraction(LineThickness::Length(1)), 'a', 'b'),
 ];
 
-/// The same of each kind that holds three nodes, or any number of them.
+/// Each kind that holds three nodes or any number of them, and for each others that differ only in their contents.
 static MORE: [Sample; 15] = [
     Sample::Triple(Triple::SubSup, 'a', 'b', 'c'),
     Sample::Triple(Triple::SubSup, 'x', 'b', 'c'),
@@ -108,7 +108,7 @@ static MORE: [Sample; 15] = [
     Sample::Matrix("b", ColumnAlign::Left),
 ];
 
-/// All of them.
+/// Returns all of these nodes.
 fn nodes(alloc: Global) -> Result<Vec<Node>, AllocError> {
     let mut nodes = Vec::new(alloc);
     for samples in [&LEAVES[..], &FRAMES[..], &PAIRS[..], &MORE[..]] {

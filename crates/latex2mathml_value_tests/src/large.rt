@@ -1,5 +1,5 @@
-//! Large values: deeply nested nodes, nodes with many members, and each call that allocates, at small and at large sizes. Each call
-//! succeeds if there is memory.
+//! Tests of large values: deeply nested nodes, nodes with many members, and each call that allocates, at small and at large
+//! sizes. Each call succeeds if there is memory.
 
 use latex2mathml_nodes::ast::Node;
 use latex2mathml_samples::places::{PLACES, Place, nested};
@@ -10,7 +10,7 @@ use latex2mathml_tokens::token::Token;
 use std::alloc::{AllocError, Global};
 use std::test::Fail;
 
-/// This many copies of the character.
+/// Returns the given number of copies of the character.
 fn repeat(alloc: Global, c: char, count: usize) -> Result<String, AllocError> {
     let mut text = String::new(alloc);
     for _ in 0..count {
@@ -19,18 +19,24 @@ fn repeat(alloc: Global, c: char, count: usize) -> Result<String, AllocError> {
     Ok(text)
 }
 
-/// How deep a node is inside others of its kind, where each kind is copied and compared.
+/// How deeply a node is nested in others of its kind, where each kind is copied and compared.
 const NESTED: usize = 60;
 
-/// Whether nodes nested in this place equal their copy, differ from those around another letter, and print as their copy does. Each
-/// looks at an inner node once: twice would double the time with each level, and not end.
+fn print_alike(alloc: Global, one: &Node, other: &Node) -> Result<bool, AllocError> {
+    Ok(one.to_string(alloc)? == other.to_string(alloc)?)
+}
+
+/// Whether the node equals its copy, and prints as its copy does.
+fn equals_its_copy(alloc: Global, node: &Node) -> Result<bool, AllocError> {
+    let copy = node.clone(alloc)?;
+    Ok(copy == *node && print_alike(alloc, node, &copy)?)
+}
+
+/// Whether nodes nested in this place equal their copy, differ from those around another letter, and print as their copy does.
+/// Each operation looks at an inner node once. Looking twice would double the time with each level, and would not end.
 fn is_whole(alloc: Global, place: Place) -> Result<bool, AllocError> {
     let node = nested(alloc, place, NESTED, 'x')?;
-    let other = nested(alloc, place, NESTED, 'y')?;
-    let copy = node.clone(alloc)?;
-    let markup = node.to_string(alloc)?;
-    let markup_of_copy = copy.to_string(alloc)?;
-    Ok(copy == node && node != other && markup == markup_of_copy)
+    Ok(node != nested(alloc, place, NESTED, 'y')? && equals_its_copy(alloc, &node)?)
 }
 
 #[test]
@@ -41,7 +47,7 @@ fn each_kind_in_itself(rt: HostRuntime) -> Result<(), Fail> {
     Ok(())
 }
 
-/// A row of this many letters, followed by `last`.
+/// Returns a row of this many letters, followed by `last`.
 fn wide_row(alloc: Global, count: usize, last: Node) -> Result<Node, AllocError> {
     let mut members = Vec::new(alloc);
     for _ in 0..count {
@@ -53,7 +59,7 @@ fn wide_row(alloc: Global, count: usize, last: Node) -> Result<Node, AllocError>
 
 const BOLD_LETTER: &str = "<mi mathvariant=\"bold\">x</mi>";
 
-/// Whether a text is these parts, one of them many times over.
+/// Whether a text consists of these parts, with `part` repeated `count` times.
 fn is_repeated(text: &str, before: &str, part: &str, count: usize, after: &str) -> bool {
     let Some(mut rest) = text.strip_prefix(before) else {
         return false;
@@ -67,38 +73,37 @@ fn is_repeated(text: &str, before: &str, part: &str, count: usize, after: &str) 
     rest == after
 }
 
-/// Whether a row of so many members and one more equals its copy, differs from a row that differs in the last, and
-/// prints; all are dropped then.
-fn row_is_whole(alloc: Global, count: usize) -> Result<bool, AllocError> {
-    let row = wide_row(alloc, count, leaf('<'))?;
-    let other = wide_row(alloc, count, leaf('>'))?;
-    let copy = row.clone(alloc)?;
-    let markup = copy.to_string(alloc)?;
-    let is_printed = is_repeated(
+/// Whether a row of letters prints, where each letter prints as `letter`.
+fn row_prints(alloc: Global, row: &Node, letter: &str, count: usize) -> Result<bool, AllocError> {
+    let markup = row.to_string(alloc)?;
+    Ok(is_repeated(
         markup.as_str(),
         "<mrow>",
-        "<mi>x</mi>",
+        letter,
         count,
         "<mo>&lt;</mo></mrow>",
-    );
-    Ok(copy == row && row != other && is_printed)
+    ))
+}
+
+/// Whether a row of `count` members and one more equals its copy, differs from a row that differs in the last member, and
+/// prints. All of them are then dropped.
+fn row_is_whole(alloc: Global, count: usize) -> Result<bool, AllocError> {
+    let row = wide_row(alloc, count, leaf('<'))?;
+    Ok(
+        row != wide_row(alloc, count, leaf('>'))?
+            && equals_its_copy(alloc, &row)?
+            && row_prints(alloc, &row, "<mi>x</mi>", count)?,
+    )
 }
 
 /// Whether such a row prints in bold once it has that style.
 fn row_is_styled(alloc: Global, count: usize) -> Result<bool, AllocError> {
     let mut row = wide_row(alloc, count, leaf('<'))?;
     row.set_variant(Variant::Bold);
-    let markup = row.to_string(alloc)?;
-    Ok(is_repeated(
-        markup.as_str(),
-        "<mrow>",
-        BOLD_LETTER,
-        count,
-        "<mo>&lt;</mo></mrow>",
-    ))
+    row_prints(alloc, &row, BOLD_LETTER, count)
 }
 
-/// Whether a matrix of one row prints, which has so many letters in one cell.
+/// Whether a matrix of one row that has the given number of letters in one cell prints.
 fn matrix_is_printed(alloc: Global, count: usize) -> Result<bool, AllocError> {
     let mut members = Vec::new(alloc);
     for _ in 0..count {
@@ -126,8 +131,8 @@ fn wide_rows(rt: HostRuntime) -> Result<(), Fail> {
 
 const ROWS: usize = 64;
 
-/// Whether a nested row equals its copy, and prints with its letter in bold once it has that style. Each looks at a member
-/// once: twice would double the time with each level, and not end.
+/// Whether a nested row equals its copy, and prints with its letter in bold once it has that style. Each operation looks at a
+/// member once. Looking twice would double the time with each level, and would not end.
 fn nested_row_is_whole(alloc: Global) -> Result<bool, AllocError> {
     let row = nested(alloc, Place::Row(None, None), ROWS, 'x')?;
     let mut copy = row.clone(alloc)?;
@@ -144,14 +149,14 @@ fn nested_rows(rt: HostRuntime) -> Result<(), Fail> {
     Ok(())
 }
 
-/// Around a page of memory, and past what a buffer or a limit would hold.
+/// Sizes around a page of memory, and beyond what a buffer or a limit would hold.
 const SIZES: [usize; 4] = [1, 4096, 4097, 8 << 20];
 
 fn is_copied(alloc: Global, token: &Token) -> Result<bool, AllocError> {
     Ok(token.clone(alloc)? == *token)
 }
 
-/// `\z` is no command of the table.
+/// Whether a command with a name of this length is itself. `\z` is not a command of the table.
 fn command_is_itself(alloc: Global, size: usize) -> Result<bool, AllocError> {
     let name = repeat(alloc, 'z', size)?;
     let token = Token::from_command(alloc, name.as_str())?;
@@ -182,9 +187,8 @@ fn node_is_whole(
 ) -> Result<bool, AllocError> {
     let text = repeat(alloc, 'z', size)?;
     let node = kind.of(alloc, text.as_str())?;
-    let copy = node.clone(alloc)?;
-    let printed = copy.to_string(alloc)?;
-    Ok(copy == node && is_repeated(printed.as_str(), before, "z", size, after))
+    let printed = node.to_string(alloc)?;
+    Ok(is_repeated(printed.as_str(), before, "z", size, after) && equals_its_copy(alloc, &node)?)
 }
 
 #[test]
@@ -208,7 +212,7 @@ fn nodes(rt: HostRuntime) -> Result<(), Fail> {
     Ok(())
 }
 
-/// A refusal with a text of this length.
+/// Returns a refusal with a text of this length.
 fn refusal(alloc: Global, size: usize) -> Result<LatexError, AllocError> {
     Ok(LatexError::UnexpectedToken {
         expected: Token::EOF,
@@ -222,7 +226,7 @@ fn refusal_is_copied(alloc: Global, size: usize) -> Result<bool, AllocError> {
     Ok(copy == refusal)
 }
 
-/// Whether it prints.
+/// Whether a refusal with a text of this length prints.
 fn refusal_is_told(alloc: Global, size: usize) -> Result<bool, AllocError> {
     let said = refusal(alloc, size)?.to_string(alloc)?;
     let before = "The token \"EOF\" is expected, but the token \"Command(\"";

@@ -1,4 +1,4 @@
-//! Each law of nodes, called. A law returns nothing, and its statement is proved, so the call only has to return.
+//! Calls each law of nodes. A law returns nothing, and its statement is proved, so the call only has to return.
 
 use latex2mathml_nodes::ast::Node;
 use latex2mathml_nodes::laws;

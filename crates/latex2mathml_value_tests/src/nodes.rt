@@ -1,4 +1,4 @@
-//! Nodes made by hand, of each kind: their markup.
+//! Tests of nodes of each kind made by hand: their markup.
 
 use latex2mathml_nodes::ast::Node;
 use latex2mathml_samples::samples::{
@@ -14,7 +14,7 @@ fn prints(alloc: Global, node: &Node, markup: &str) -> Result<bool, AllocError> 
     Ok(printed.as_str() == markup)
 }
 
-/// The first of these nodes that does not print as expected.
+/// Returns the first of these nodes that does not print as expected.
 fn wrong(
     alloc: Global,
     rows: &[(Sample, &'static str)],
@@ -310,7 +310,7 @@ fn function_in_a_fraction(alloc: Global) -> Result<Node, AllocError> {
     Pair::Fraction(LineThickness::Medium).of(alloc, sine, two)
 }
 
-/// A matrix whose only cell contains ends of cells and of rows, which are not its direct members.
+/// Returns a matrix whose only cell contains ends of cells and of rows, which are not its direct members.
 fn ends_below(alloc: Global) -> Result<Node, AllocError> {
     let mut members = Vec::new(alloc);
     members.push(Node::Row(leaves_of(alloc, "&\n")?))?;

@@ -1,4 +1,4 @@
-//! Refusals made by hand: their texts, copies and equality.
+//! Tests of refusals made by hand: their texts, copies and equality.
 
 use latex2mathml_tokens::LatexError;
 use latex2mathml_tokens::token::Token;
@@ -35,14 +35,14 @@ impl Named {
     }
 }
 
-/// A refusal by plain values.
+/// A refusal as plain values.
 #[derive(Clone, Copy)]
 enum Sample {
-    /// What is expected, and what is got.
+    /// What is expected, and what is found.
     Unexpected(Named, Named),
-    /// A parenthesis without text is expected, and a number is got.
+    /// A parenthesis without text is expected, and a number is found.
     UnexpectedNumber(&'static str),
-    /// Where a parenthesis is missing, and what is got.
+    /// Where a parenthesis is missing, and what is found.
     Missing(Named, Named),
     Environment(&'static str),
     Dollars,

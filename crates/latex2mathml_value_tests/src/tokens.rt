@@ -1,4 +1,4 @@
-//! Tokens made by hand: their texts, as refusals name them, their copies and their equality.
+//! Tests of tokens made by hand: their texts, as refusals name them, their copies and their equality.
 
 use latex2mathml_tokens::attribute::{Accent, Variant};
 use latex2mathml_tokens::lexeme::Lexeme;
@@ -22,7 +22,7 @@ fn has_text(alloc: Global, token: Token, text: &str) -> Result<bool, AllocError>
     })
 }
 
-/// A token by plain values, which can stand in a table.
+/// A token as plain values, which can be in a table.
 #[derive(Clone, Copy)]
 enum Sample {
     Of(Lexeme<'static>),
@@ -206,7 +206,7 @@ static OF_VARIANTS: [(Sample, &str); 14] = [
 
 type Samples = Vec<(Token, &'static str)>;
 
-/// Tokens of each kind, all of them different, and the text of each.
+/// Returns tokens of each kind, all of them different, and the text of each.
 fn samples(alloc: Global) -> Result<Samples, AllocError> {
     let mut samples = Vec::new(alloc);
     for table in [

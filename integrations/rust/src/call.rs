@@ -1,7 +1,7 @@
 //! The calls of `latex2mathml.h`.
 //!
-//! Its conditions hold for every `&str`: its pointer is not null also where it is empty, its length is at most
-//! `isize::MAX`, and nobody changes it during the call. The room is this module's own.
+//! Every `&str` meets the conditions of the header: its pointer is not null even if it is empty, its length is at most
+//! `isize::MAX`, and nobody changes it during the call. The room belongs to this module.
 
 use crate::{LatexError, Refusal, TexError};
 use std::os::raw::c_char;
@@ -60,7 +60,7 @@ pub fn document(document: &str) -> Result<String, LatexError> {
     })
 }
 
-/// A call that tells no place.
+/// Makes a call that reports no place.
 fn plain(length: usize, call: impl FnMut(*mut c_char, usize, *mut usize) -> u32) -> Result<String, LatexError> {
     let (code, text) = convert(length, call).ok_or(LatexError::OutOfMemory)?;
     match code {
@@ -104,11 +104,11 @@ fn tex_with(flags: u32, tex: &str, block: bool, definitions: &str) -> Result<Str
     }
 }
 
-/// Makes the call with room for what it comes to, and returns its code with the text, unless memory ran out. A second time, where
-/// the first room is too small, is the last: the call then has what it asked for.
+/// Makes the call with room for its text, and returns its code and the text, unless memory ran out. If the first room is too small,
+/// the second call is the last: it has the room that the first one asked for.
 fn convert(length: usize, mut call: impl FnMut(*mut c_char, usize, *mut usize) -> u32) -> Option<(u32, String)> {
     let mut text: Vec<u8> = Vec::new();
-    // Where so much is not found, the call with no room tells how much it takes.
+    // If that much is not available, the call has no room and reports how much it needs.
     let _ = text.try_reserve_exact(likely_room(length));
     loop {
         let mut needed = 0;
@@ -117,8 +117,8 @@ fn convert(length: usize, mut call: impl FnMut(*mut c_char, usize, *mut usize) -
             text.try_reserve_exact(needed).ok()?;
             continue;
         }
-        // SAFETY: after a code with a text the first `needed` bytes of the room hold it, in UTF-8, and after any other `needed`
-        // is 0.
+        // SAFETY: after a code with a text, the first `needed` bytes of the room contain it, in UTF-8. After any other code,
+        // `needed` is 0.
         let mut text = unsafe {
             text.set_len(needed);
             String::from_utf8_unchecked(text)
@@ -128,7 +128,7 @@ fn convert(length: usize, mut call: impl FnMut(*mut c_char, usize, *mut usize) -
     }
 }
 
-/// More than nearly every text of so many bytes comes to.
+/// More room than nearly every text of `length` bytes needs.
 fn likely_room(length: usize) -> usize {
     length.saturating_mul(64).saturating_add(256)
 }
@@ -137,12 +137,12 @@ fn likely_room(length: usize) -> usize {
 mod tests {
     use super::*;
 
-    /// A call that comes to a text, and tells the rooms that it was given.
+    /// The answer of a call that gives this text and code, and the rooms that it was given.
     fn answer_of(text: &str, code: u32) -> (Option<(u32, String)>, Vec<usize>) {
         let mut rooms = Vec::new();
         let answer = convert(1, |room, length, needed| {
             rooms.push(length);
-            // SAFETY: `needed` is that of `convert`, and the text is put into a room that has room for it.
+            // SAFETY: `needed` is that of `convert`, and the text is copied only if the room is large enough for it.
             unsafe {
                 *needed = text.len();
                 if length < text.len() {

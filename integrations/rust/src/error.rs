@@ -1,7 +1,7 @@
 use std::error::Error;
 use std::fmt;
 
-/// Why there is no markup of a formula or a document, as the crate reads it.
+/// Why there is no markup for a formula or a document that is read as the crate reads it.
 #[derive(Debug, Clone, PartialEq, Eq)]
 #[non_exhaustive]
 pub enum LatexError {
@@ -11,7 +11,7 @@ pub enum LatexError {
     OutOfMemory,
 }
 
-/// Why there is no markup of a formula in LaTeX as authors write it.
+/// Why there is no markup for a formula in LaTeX as authors write it.
 #[derive(Debug, Clone, PartialEq, Eq)]
 #[non_exhaustive]
 pub enum TexError {
@@ -27,18 +27,18 @@ pub enum TexError {
 #[derive(Debug, Clone, PartialEq, Eq)]
 #[non_exhaustive]
 pub struct Refusal {
-    /// Why, with the place behind it, as in `unknown command \foo at 4`. It may quote the text, so escape it in HTML.
+    /// The reason, followed by the place, as in `unknown command \foo at 4`. It may quote the text, so escape it in HTML.
     pub message: String,
-    /// The byte of the text where what is refused begins.
+    /// The byte of the text where the refused part begins.
     pub place: usize,
     /// The line of that byte, counted from 1.
     pub line: usize,
-    /// Its column in characters, counted from 1.
+    /// The column of that byte in characters, counted from 1.
     pub column: usize,
 }
 
 impl Refusal {
-    /// The refusal of a text at a place, which is the beginning of a character or the end.
+    /// Returns the refusal of a text at a place, which is the beginning of a character or the end of the text.
     pub(crate) fn new(message: String, text: &str, place: usize) -> Self {
         let before = text.get(..place).unwrap_or(text);
         let (above, line) = before

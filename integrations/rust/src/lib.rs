@@ -12,7 +12,7 @@
 //! # Ok::<(), latex2mathml::LatexError>(())
 //! ```
 //!
-//! Any text may be passed, also from untrusted authors. However deeply it is nested, a call returns and needs at most
+//! Any text may be passed, even from untrusted authors. However deeply it is nested, a call returns and needs at most
 //! 128 KiB of the stack. Any number of threads may call at once.
 
 use std::fmt;
@@ -64,12 +64,12 @@ pub fn latex_to_mathml(latex: &str, display: DisplayStyle) -> Result<String, Lat
     call::formula(latex, display == DisplayStyle::Block)
 }
 
-/// The same, without marked errors: a formula with an unknown command is refused.
+/// Like [`latex_to_mathml`], but without marked errors: a formula with an unknown command is refused.
 ///
 /// # Errors
 ///
-/// As those of [`latex_to_mathml`], and [`LatexError::Refused`] for what it would mark as an error. The reason then names all
-/// that is marked.
+/// The errors of [`latex_to_mathml`], and [`LatexError::Refused`] for what it would mark as an error. The reason then names all
+/// marked errors.
 ///
 /// # Examples
 ///
@@ -90,9 +90,9 @@ pub fn latex_to_mathml_strict(latex: &str, display: DisplayStyle) -> Result<Stri
 ///
 /// # Errors
 ///
-/// [`TexError::Refused`] if the formula cannot be read, for example because a command is unknown. It says where in the formula what
-/// is refused begins.
-/// [`TexError::RefusedDefinitions`] if the definitions cannot be read. The place is then one of the definitions.
+/// [`TexError::Refused`] if the formula cannot be read, for example because a command is unknown. It says where in the formula the
+/// refused part begins.
+/// [`TexError::RefusedDefinitions`] if the definitions cannot be read. The place is then a place in the definitions.
 /// [`TexError::OutOfMemory`] if memory runs out.
 ///
 /// # Examples
@@ -118,11 +118,11 @@ pub fn tex_to_mathml(tex: &str, display: DisplayStyle, definitions: &str) -> Res
     call::tex(tex, display == DisplayStyle::Block, definitions)
 }
 
-/// The same, with the formula itself as an annotation in its `math` element, so that a copy of it takes the LaTeX along.
+/// Like [`tex_to_mathml`], with the formula itself as an annotation in its `math` element, so that a copy of it includes the LaTeX.
 ///
 /// # Errors
 ///
-/// As those of [`tex_to_mathml`].
+/// The errors of [`tex_to_mathml`].
 ///
 /// # Examples
 ///
@@ -158,12 +158,12 @@ pub fn replace(document: &str) -> Result<String, LatexError> {
     call::document(document)
 }
 
-/// The same, without marked errors: a document with an unknown command in a formula is refused.
+/// Like [`replace`], but without marked errors: a document with an unknown command in a formula is refused.
 ///
 /// # Errors
 ///
-/// As those of [`replace`], and [`LatexError::Refused`] for what it would mark as errors. The reason then names all that is
-/// marked.
+/// The errors of [`replace`], and [`LatexError::Refused`] for what it would mark as errors. The reason then names all marked
+/// errors.
 ///
 /// # Examples
 ///

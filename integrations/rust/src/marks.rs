@@ -2,11 +2,11 @@
 
 use crate::LatexError;
 
-// What stands around the name of an error. No name has the sign `<`, which is written as a reference.
+// What surrounds the name of an error. No name contains the sign `<`, which is written as a reference.
 const START: &str = "<mtext>[PARSE ERROR: ";
 const END: &str = "]</mtext>";
 
-/// The references that the library writes, behind their `&`, and the character of each.
+/// The references that the library writes, without their `&`, and the character of each.
 const REFERENCES: [(&str, char); 5] = [
     ("amp;", '&'),
     ("lt;", '<'),
@@ -15,7 +15,7 @@ const REFERENCES: [(&str, char); 5] = [
     ("#x24;", '$'),
 ];
 
-/// Returns the markup, unless errors are marked in it. All of them are then the reason.
+/// Returns the markup, unless errors are marked in it. The reason then names all of them.
 pub fn refuse_marks(markup: String) -> Result<String, LatexError> {
     let mut reason = String::new();
     for (mark, _) in markup.split(START).skip(1).filter_map(|rest| rest.split_once(END)) {

@@ -1,4 +1,4 @@
-//! How calls bear sizes, nesting and threads, and what a caller can do with their types.
+//! How calls cope with sizes, nesting and threads, and what a caller can do with their types.
 
 use latex2mathml::{latex_to_mathml, replace, DisplayStyle, LatexError};
 use std::error::Error;

@@ -1,4 +1,4 @@
-//! What documents come to.
+//! What documents are converted to.
 
 use latex2mathml::{latex_to_mathml, replace, DisplayStyle, LatexError};
 

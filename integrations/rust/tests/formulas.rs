@@ -1,8 +1,8 @@
-//! What formulas come to, a few for each rule of docs/LANGUAGE.md.
+//! What formulas are converted to: a few formulas for each rule of docs/LANGUAGE.md.
 
 use latex2mathml::{latex_to_mathml, DisplayStyle, LatexError};
 
-/// What stands in the `math` element of the formula, which is the same in a line of text and in a block but for `display`.
+/// The content of the formula's `math` element, which is the same in a line of text and in a block except for `display`.
 fn content(latex: &str) -> String {
     let parts = [DisplayStyle::Inline, DisplayStyle::Block].map(|display| {
         let markup = latex_to_mathml(latex, display).unwrap_or_else(|reason| panic!("{}: {}", latex, reason));

@@ -1,4 +1,4 @@
-//! What is marked as an error, where no mark may be.
+//! Marked errors, where none are allowed.
 
 use latex2mathml::{latex_to_mathml, latex_to_mathml_strict, replace, replace_strict, DisplayStyle, LatexError};
 

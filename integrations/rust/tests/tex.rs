@@ -1,4 +1,4 @@
-//! What formulas in LaTeX as authors write it come to. The cases of the library itself are in cases/tex.
+//! What formulas in LaTeX as authors write it are converted to. The cases of the library itself are in cases/tex.
 
 use latex2mathml::{tex_to_mathml, tex_to_mathml_with_source, DisplayStyle, Refusal, TexError};
 
@@ -12,7 +12,7 @@ fn math(display: DisplayStyle, content: &str) -> String {
     )
 }
 
-/// The `math` element that shows some content, with a source that is escaped.
+/// The `math` element that shows some content, with its source, which is already escaped.
 fn annotated(display: DisplayStyle, shown: &str, source: &str) -> String {
     let annotation = format!(r#"<annotation encoding="application/x-tex">{}</annotation>"#, source);
     math(display, &format!("<semantics>{}{}</semantics>", shown, annotation)).replacen(

@@ -1,4 +1,4 @@
-//! Documents, piece by piece, to their answers.
+//! Converts documents to their answers, piece by piece.
 ghost use Rattle.std.specs.Prelude.{◌≡◌, ◌⊎◌, ℕ, ◌++◌, List, IfOk, OnOk, Some, string_bytes};
 ghost use Rattle.latex2mathml.specs.Pieces.{piece_of};
 ghost use Rattle.latex2mathml.specs.Documents.{HasCut, HasNoCut, IsAnswer, IsPiece, IsPlain};
@@ -22,7 +22,7 @@ impl From<NoCut> for LatexError {
     }
 }
 
-/// The answer of the document.
+/// Returns the answer of the document.
 pub(crate) fn convert(alloc: Global, document: &str) -> Result<String, LatexError>
     ensures answer { IfOk result (λ answer. IsAnswer document.now (string_bytes answer)) }
     ensures refusal { IfRefused result (IsRefusal document.now) }
@@ -38,8 +38,8 @@ pub(crate) fn convert(alloc: Global, document: &str) -> Result<String, LatexErro
     Ok(answer)
 }
 
-/// The error of a document whose first error is this one, of a formula. Dollar signs come first, and those after the formula
-/// were not looked at yet: only a document that is refused is cut twice.
+/// Returns the error of a document in which a formula caused this first error. Errors of dollar signs take precedence, and the
+/// dollar signs after the formula are not checked yet. Only a document that is refused is cut twice.
 fn refusal(document: &str, error: LatexError) -> LatexError
     ensures { (HasNoCut document.now × (refusal_of result ≡ Some InvalidNumberOfDollarSigns))
         ⊎ (HasCut document.now × (refusal_of result ≡ refusal_of error)) }
@@ -50,7 +50,7 @@ fn refusal(document: &str, error: LatexError) -> LatexError
     }
 }
 
-/// Puts what becomes of a piece after the text.
+/// Appends the answer of a piece to the text.
 fn append_piece<'a>(
     formulas: &mut Converter<'a>,
     text: &mut String,
@@ -69,7 +69,7 @@ fn append_piece<'a>(
     Ok(())
 }
 
-/// Puts prose after the text, with a reference for each dollar sign that a backslash takes.
+/// Appends prose to the text, with a character reference for each dollar sign that a backslash takes.
 fn append_prose(text: &mut String, prose: Plain<'_>) -> Result<(), AllocError>
     requires { IsPlain prose.text.now }
     ensures { Appends text.old text.new (prose_answer prose.entry.text.now) result }
@@ -80,7 +80,7 @@ fn append_prose(text: &mut String, prose: Plain<'_>) -> Result<(), AllocError>
     text.push_str(prose.text)
 }
 
-/// The same of any prose.
+/// Does the same for any prose, even if it holds a dollar sign.
 fn append_escaped(text: &mut String, prose: &str) -> Result<(), AllocError>
     requires { IsPlain prose.now }
     ensures { Appends text.old text.new (prose_answer prose.now) result }

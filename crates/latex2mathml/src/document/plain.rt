@@ -1,4 +1,4 @@
-//! Plain text, as the cutter gives it.
+//! Plain text, as the cutter returns it.
 ghost use Rattle.std.specs.Prelude.{IsFalse};
 ghost use Rattle.latex2mathml_grammar.specs.Dollars.{IsDollarFree};
 
@@ -6,7 +6,7 @@ ghost use Rattle.latex2mathml_grammar.specs.Dollars.{IsDollarFree};
 #[derive(Debug, Clone, Copy)]
 pub(crate) struct Plain<'a> {
     pub(crate) text: &'a str,
-    /// Whether it may hold a dollar sign, after a backslash. Text that holds none need not be searched again.
+    /// Whether the text may hold a dollar sign, after a backslash. Text that holds none need not be searched again.
     pub(crate) may_hold_dollar: bool,
     ghost free: { IsFalse may_hold_dollar → IsDollarFree text.now },
 }

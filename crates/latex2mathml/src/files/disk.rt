@@ -42,7 +42,7 @@ impl<R: Files + Alloc + Clone + Drop> Site for Disk<'_, R> {
     }
 }
 
-/// What stands at a path of which the system tells this. The path itself is not asked.
+/// Returns the kind of what is at a path, from the system's answer for the path. The system is not asked again.
 fn kind_of(found: io::Result<Metadata>) -> PathKind
     ensures { MatchResult found
         (λ metadata. IsKind (file_type metadata) result)
@@ -55,7 +55,7 @@ fn kind_of(found: io::Result<Metadata>) -> PathKind
     }
 }
 
-/// The names of the entries, and how many could not be read.
+/// Collects the names of the entries, and counts those that could not be read.
 fn gather<R: Files + Drop, A: Allocator, I: Iterator<Item = io::Result<DirEntry<R, A>>>>(
     alloc: Global,
     entries: I,
@@ -78,7 +78,7 @@ fn gather<R: Files + Drop, A: Allocator, I: Iterator<Item = io::Result<DirEntry<
     Ok(Listing { names, unread })
 }
 
-/// Reads a document, and makes its answer.
+/// Reads a document and converts it.
 fn read<R: Files>(rt: &R, alloc: Global, path: &str) -> Result<Reading, FileFault>
     ensures fault { IfErr result IsReadingFault }
 {

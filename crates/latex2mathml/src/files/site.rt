@@ -1,16 +1,16 @@
-//! What a walk asks of the place where documents stand.
+//! The interface between a walk and the place that holds the documents.
 ghost use Rattle.std.specs.Prelude.{IfErr, IfOk, List, Option};
 ghost use Rattle.latex2mathml.specs.Files.{Answer, Comes, Holds, IsAsked, IsDocumentFault, Stands};
 
 use crate::error::FileFault;
 use std::alloc::AllocError;
 
-/// What stands at a path, or where its links lead.
+/// The kind of what is at a path. Links are followed.
 #[derive(Debug, Clone, Copy, PartialEq)]
 pub enum PathKind {
     Directory,
     File,
-    /// Neither of both, or nothing.
+    /// Neither a directory nor a file, or nothing.
     Other,
 }
 
@@ -19,20 +19,20 @@ pub enum PathKind {
 pub struct Listing {
     /// The names of its entries, in any order.
     pub names: Vec<String>,
-    /// How many entries could not be read, or have a name that is no text.
+    /// How many entries could not be read, or have a name that is not text.
     pub unread: usize,
 }
 
-/// Files and directories by their paths, which answer what a walk asks.
+/// Files and directories, addressed by their paths. A walk calls these functions.
 pub trait Site {
-    /// All that it was asked so far, with the answers, where that is known.
+    /// All questions that the site was asked so far, with its answers, where that is known.
     ghost answers: { Self → Option (List Answer) };
 
-    /// What stands at a path.
+    /// Returns the kind of what is at a path.
     fn kind_at(&mut self, path: &str) -> PathKind
         ensures asked { IsAsked (answers self.old) (answers self.new) (Stands path.now result) };
 
-    /// What the directory at a path holds, or `None` where it cannot be listed.
+    /// Returns what the directory at a path holds, or `None` if it cannot be listed.
     fn list(&mut self, path: &str) -> Result<Option<Listing>, AllocError>
         ensures asked { IfOk result (λ listing.
             IsAsked (answers self.old) (answers self.new) (Holds path.now listing)) };

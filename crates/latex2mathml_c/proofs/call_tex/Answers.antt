@@ -20,7 +20,7 @@ returns-in_default-from_utf8-clause-outcome c =
     let given : Given = given_by c.args.request in
     put_outcome (IsTexText given 0) (are_tex_texts given 0) NotUtf8 c.put-in_default-from_utf8.result _ (record { old = c.args.out.now; new = c.put-in_default-from_utf8.new.out; needed = c.put-in_default-from_utf8.new.needed }) (refl, c.if-request-gt-ANNOTATION.false, inr (c.in-Ok.ensures.cases.1, c.in_default-from_utf8.ensures.cases.0, refl)) c.put-in_default-from_utf8.ensures
 
--- both are texts, and what is read of them is told
+-- both are texts, and what is read of them is reported
 pub returns-in-Ok-read-clause-outcome : goal.returns-in-Ok-read-clause-outcome
 returns-in-Ok-read-clause-outcome c =
     let given : Given = given_by c.args.request in

@@ -6,8 +6,7 @@ ghost use Rattle.latex2mathml_tokens.specs.Same.{same_laws};
 use crate::ast::Node;
 use crate::ast::layer::Inner;
 
-/// Two nodes are equal if their contents are. Written out and not derived, so that the contract
-/// says so.
+/// Two nodes are equal if their contents are. This is not derived, so that the contract can say so.
 impl PartialEq for Node {
     ghost eq = { λ a b. same_tree (tree a) (tree b) };
 
@@ -21,7 +20,7 @@ impl PartialEq for Node {
     }
 }
 
-/// Two nodes are the same if they are of one kind, with the same values and the same nodes in them. No kind is compared
+/// Whether two nodes are equal: they are of the same kind, with equal values and equal nodes in them. No kind is compared
 /// with each of the others.
 #[cycle(same)]
 #[tactic(auto, using(crate::proofs::Layers::weighs))]

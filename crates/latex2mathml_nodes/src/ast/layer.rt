@@ -1,4 +1,4 @@
-//! The topmost layer of a node: its kind, the values in it, and the nodes in it.
+//! The topmost layer of a node: its kind, its values, and the nodes in it.
 ghost use Rattle.std.specs.Prelude.{◌≡◌, ◌↔◌, IsTrue};
 ghost use Rattle.latex2mathml_nodes.specs.{Layers.layer_of, Layers.own, Layers.within, Nodes.tree};
 
@@ -6,7 +6,7 @@ use crate::ast::Node;
 use latex2mathml_tokens::DisplayStyle;
 use latex2mathml_tokens::attribute::{Accent, ColumnAlign, LineThickness, Variant};
 
-/// What is in a node besides nodes.
+/// What is in a node in addition to nodes.
 #[derive(Clone, Copy)]
 pub(crate) enum Value<'a> {
     None,
@@ -33,9 +33,9 @@ pub(crate) enum Inner<'a> {
 }
 
 impl Node {
-    /// A number for the kind of the node, what is in it besides nodes, and the nodes in it. A function with an argument is
-    /// of a kind of its own, and so is a root with a degree. The kind is no enum, because equality of 30 kinds would be
-    /// proved pair by pair.
+    /// Returns a number for the kind of the node, what is in it in addition to nodes, and the nodes in it. A function with an
+    /// argument is of a kind of its own, and so is a root with a degree. The kind is not an enum, because equality of 30 kinds
+    /// would be proved pair by pair.
     pub(crate) fn layer(&self) -> (u8, Value<'_>, Inner<'_>)
         ensures { layer_of (tree self.now) ≡ (result.0, own result.1, within result.2) }
     {
@@ -83,7 +83,7 @@ impl Node {
 }
 
 impl Value<'_> {
-    /// Whether two values are the same.
+    /// Whether two values are equal.
     pub(crate) fn is(self, other: Value) -> bool
         ensures { IsTrue result ↔ (own self.entry ≡ own other.entry) }
     {

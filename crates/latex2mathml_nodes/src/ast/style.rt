@@ -7,10 +7,11 @@ use crate::ast::Node;
 use latex2mathml_tokens::attribute::Variant;
 
 impl Node {
-    /// Gives the style to a letter, and to each member of a row likewise. Nothing else changes, and nothing is allocated.
+    /// Gives the style to a letter, or to each member of a row in the same way. Nothing else changes, and nothing is
+    /// allocated.
     ///
-    /// It is for callers who make nodes by hand, and does what a command such as `\mathbf` does in a formula. It recurses as
-    /// deep as rows are nested.
+    /// It is for callers who make nodes by hand, and does what a command such as `\mathbf` does in a formula. It recurses to
+    /// the depth to which rows are nested.
     #[cycle(style)]
     pub fn set_variant(&mut self, variant: Variant)
         ensures { tree self.new ≡ styled variant (tree self.old) }

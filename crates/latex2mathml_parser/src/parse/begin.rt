@@ -1,4 +1,4 @@
-//! How the rule of each lexeme is begun.
+//! How the rule of each lexeme begins.
 
 ghost use Rattle.std.specs.Prelude.{◌≡◌, ◌≢◌, IfOk, IfSome, List, MatchOption, None, Some};
 ghost use Rattle.latex2mathml_grammar.specs.Openers.{opens};
@@ -10,9 +10,9 @@ ghost use Rattle.latex2mathml_parts.specs.Parts.{fence_text};
 ghost use Rattle.latex2mathml_tokens.specs.{Lexemes.lexeme_tok, Names.limit_text, Names.size_text};
 ghost use Rattle.latex2mathml_tokens.specs.Tok.{Tok, Begin, Left, Lim, Middle, OperatorName, Slashed, Text};
 
+use crate::lexer::mark::Sign;
 use crate::parse::frames::{Frame, Group, Pair};
 use crate::parse::{Parser, State};
-use crate::reader::mark::Sign;
 use latex2mathml_parts::kind::Kind;
 use latex2mathml_tokens::LatexError;
 use latex2mathml_tokens::lexeme::Lexeme;
@@ -35,8 +35,8 @@ impl<'a> Parser<'a> {
         }
     }
 
-    /// Begins the rule of a lexeme that was taken where a core is due. An operator that is stretched begins with the lexeme
-    /// after `\middle`, which the frame keeps, because a refusal names it.
+    /// Begins the rule of a lexeme that was taken where a core is due. A stretched operator begins with the lexeme after
+    /// `\middle`, which the frame keeps, because a refusal names it.
     fn begin(&mut self, lexeme: Lexeme<'a>) -> Result<State, AllocError>
         requires { HasTrees 0 self.old }
         ensures holds { Proceeds (rule (lexeme_tok lexeme.entry)) 0 self.old self.new result }
@@ -52,7 +52,7 @@ impl<'a> Parser<'a> {
         self.begin_rule(begun)
     }
 
-    /// Opens the frame of an operator that is stretched, and takes the lexeme that it begins with.
+    /// Opens the frame of a stretched operator, and takes the lexeme that it begins with.
     fn stretch(&mut self) -> Result<Lexeme<'a>, AllocError>
         requires { HasTrees 0 self.old }
         ensures holds { (input : List Tok) → GoesOnBy (rule Middle) 0 input self.old
@@ -60,7 +60,7 @@ impl<'a> Parser<'a> {
         ensures counted { Counted 1 self.old self.new }
         ensures taken { IfOk result (IsStretched self.old self.new) }
     {
-        let got = self.reader.take();
+        let got = self.lexer.take();
         self.frames.open(Frame::Stretch(got))?;
         Ok(got)
     }
@@ -121,7 +121,7 @@ impl<'a> Parser<'a> {
         }
     }
 
-    /// Puts a lexeme that has no meaning where it stands. It is marked as an error.
+    /// Puts a lexeme that has no meaning where it appears. It is marked as an error.
     pub(crate) fn error(&mut self, lexeme: Lexeme<'a>) -> Result<State, AllocError>
         requires { HasTrees 0 self.old }
         ensures holds { Proceeds (error_rule (lexeme_tok lexeme.entry)) 0 self.old self.new result }
@@ -131,52 +131,52 @@ impl<'a> Parser<'a> {
         Ok(State::Core)
     }
 
-    /// A root, and its degree, if one stands next in square brackets.
+    /// Begins a root, and its degree, if one comes next in square brackets.
     fn root(&mut self) -> Result<State, AllocError>
         requires { HasTrees 0 self.old }
         ensures holds { Proceeds a_root 0 self.old self.new result }
         ensures step { IsStep 1 13 self.old self.new result }
     {
-        if self.reader.take_bracket() {
+        if self.lexer.take_bracket() {
             return self.open(Frame::Members(Group::Degree, 0));
         }
         self.open(Frame::Operand(Kind::Sqrt))
     }
 
-    /// An operator with the limits whose signs stand next.
+    /// Begins an operator with the limits whose signs come next.
     fn limits(&mut self, c: char, below: Pair, above: Pair) -> Result<State, AllocError>
         requires { HasTrees 0 self.old }
         ensures holds { Proceeds (limited c below above self.old) 0 self.old self.new result }
         ensures step { IsStep 1 13 self.old self.new result }
     {
-        if self.reader.take_if(Sign::Sub) {
+        if self.lexer.take_if(Sign::Sub) {
             return self.open(Frame::Single(below));
         }
-        if self.reader.take_if(Sign::Sup) {
+        if self.lexer.take_if(Sign::Sup) {
             return self.open(Frame::Single(above));
         }
         self.put(Kind::Operator(c))
     }
 
-    /// The name of a function, with a limit under it if the sign stands next.
+    /// Begins the name of a function, with a limit under it if the sign is next.
     fn limit(&mut self, name: LimitName) -> Result<State, AllocError>
         requires { HasTrees 0 self.old }
         ensures holds { Proceeds (rule (Lim (limit_text name))) 0 self.old self.new result }
         ensures step { IsStep 1 13 self.old self.new result }
     {
-        if self.reader.take_if(Sign::Sub) {
+        if self.lexer.take_if(Sign::Sub) {
             return self.open(Frame::Last(Kind::LimitUnder(name)));
         }
         self.put(Kind::Limit(name))
     }
 
-    /// A parenthesis of this size. It must stand next.
+    /// Puts a parenthesis of this size. The parenthesis must come next.
     fn size_paren(&mut self, size: Size) -> Result<State, AllocError>
         requires { HasTrees 0 self.old }
         ensures holds { Proceeds (takes_token (sized (size_text size))) 0 self.old self.new result }
         ensures step { IsStep 0 13 self.old self.new result }
     {
-        match self.reader.take() {
+        match self.lexer.take() {
             Lexeme::Paren(paren) => self.put(Kind::SizedParen(size, paren)),
             got => {
                 let got = got.token(self.alloc)?;
@@ -188,65 +188,65 @@ impl<'a> Parser<'a> {
         }
     }
 
-    /// Words, which stand next as a name.
+    /// Puts words, which come next as a name.
     fn words(&mut self) -> Result<State, AllocError>
         requires { HasTrees 0 self.old }
         ensures holds { Proceeds (rule Text) 0 self.old self.new result }
         ensures step { IsStep 0 13 self.old self.new result }
     {
-        let text = self.reader.name(self.alloc)?;
+        let text = self.lexer.name(self.alloc)?;
         self.parts.put_words(text)?;
         Ok(State::Core)
     }
 
-    /// A function that is spelled out.
+    /// Puts a function whose name is spelled out.
     fn function(&mut self) -> Result<State, AllocError>
         requires { HasTrees 0 self.old }
         ensures holds { Proceeds (rule OperatorName) 0 self.old self.new result }
         ensures step { IsStep 0 13 self.old self.new result }
     {
-        let name = self.reader.name(self.alloc)?;
+        let name = self.lexer.name(self.alloc)?;
         self.parts.put_function(name)?;
         Ok(State::Core)
     }
 
-    /// A slash. The lexeme after it is skipped.
+    /// Begins a slash. The lexeme after it is skipped.
     fn slash(&mut self) -> Result<State, AllocError>
         requires { HasTrees 0 self.old }
         ensures holds { Proceeds (rule Slashed) 0 self.old self.new result }
         ensures step { IsStep 1 13 self.old self.new result }
     {
-        self.reader.skip();
+        self.lexer.skip();
         self.open(Frame::Slashed)
     }
 
-    /// A fence, which must stand next, and the members after it.
+    /// Begins a fence, which must come next, and the members after it.
     #[tactic(auto, using(crate::proofs::Stepping::counted_skipped))]
     fn open_fence(&mut self) -> Result<State, AllocError>
         requires { HasTrees 0 self.old }
         ensures holds { Proceeds (rule Left) 0 self.old self.new result }
         ensures step { IsStep 1 13 self.old self.new result }
     {
-        let got = self.reader.take();
+        let got = self.lexer.take();
         let Some(opening) = fence_of(got) else {
             return self.refuse_fence(Token::Left, got);
         };
         self.open(Frame::Members(Group::Fence(opening), 0))
     }
 
-    /// An environment: its name, and the members after it.
+    /// Begins an environment: its name, and the members after it.
     fn begin_environment(&mut self) -> Result<State, AllocError>
         requires { HasTrees 0 self.old }
         ensures holds { Proceeds (rule Begin) 0 self.old self.new result }
         ensures step { IsStep 1 13 self.old self.new result }
     {
-        let name = self.reader.name(self.alloc)?;
+        let name = self.lexer.name(self.alloc)?;
         self.parts.put_words(name)?;
         self.open(Frame::Members(Group::Environment, 0))
     }
 }
 
-/// The parenthesis of a fence, if the lexeme is one: a period is a fence without a parenthesis.
+/// Returns the parenthesis of a fence, if the lexeme is one: a period is a fence without a parenthesis.
 pub(crate) fn fence_of(lexeme: Lexeme) -> Option<Option<Paren>>
     ensures { MatchOption result (fence_of (lexeme_tok lexeme.entry) ≡ None)
         (λ fence. fence_of (lexeme_tok lexeme.entry) ≡ Some (fence_text fence)) }
@@ -258,7 +258,7 @@ pub(crate) fn fence_of(lexeme: Lexeme) -> Option<Option<Paren>>
     }
 }
 
-/// What a lexeme of the most frequent kinds makes, which are cores by themselves.
+/// Returns what a lexeme of the most frequent kinds makes. These are cores by themselves.
 pub(crate) fn symbol(lexeme: Lexeme<'_>) -> Option<Kind<'_>>
     ensures { IfSome result (IsLeafOf lexeme.entry) }
 {

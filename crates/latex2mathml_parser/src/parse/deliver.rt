@@ -1,4 +1,4 @@
-//! What goes on after a part, and after the end of a group.
+//! How parsing goes on after a part, and after the end of a group.
 
 ghost use Rattle.std.specs.Prelude.{◌≡◌, ◌+◌, ◌<◌, List, vec_len};
 ghost use Rattle.latex2mathml_grammar.specs.Grammar.{under_slash};
@@ -10,10 +10,10 @@ ghost use Rattle.latex2mathml_trees.specs.{Tree.Tree};
 ghost use Rattle.latex2mathml_parts.specs.Parts.{arity, put};
 ghost use Rattle.latex2mathml_parser.specs.{declared.parse.frames.Due.Due, declared.parse.frames.GroupEnd.GroupEnd};
 
+use crate::lexer::mark::Sign;
 use crate::parse::begin::fence_of;
 use crate::parse::frames::{Frame, Group, Pair};
 use crate::parse::{Parser, State};
-use crate::reader::mark::Sign;
 use latex2mathml_parts::kind::Kind;
 use latex2mathml_tokens::LatexError;
 use latex2mathml_tokens::lexeme::Lexeme;
@@ -35,7 +35,7 @@ impl<'a> Parser<'a> {
         self.deliver(frame)
     }
 
-    /// Gives a frame, which was taken off, the part that it waits for.
+    /// Gives a frame, which was taken off the stack, the part that it waits for.
     #[tactic(auto, using(crate::proofs::Combining::member_read, crate::proofs::Combining::first_read))]
     fn deliver(&mut self, frame: Frame<'a>) -> Result<State, AllocError>
         requires fit { unfit frame ≡ 0 }
@@ -46,7 +46,7 @@ impl<'a> Parser<'a> {
     {
         match frame {
             Frame::Members(group, count) => {
-                // All members are among the parts, so their number has room in a `usize`.
+                // All members are among the parts, so their number fits in a `usize`.
                 let _ = self.parts.len();
                 self.put_back(Frame::Members(group, count + 1))
             }
@@ -77,31 +77,31 @@ impl<'a> Parser<'a> {
         Ok(State::Core)
     }
 
-    /// Goes on after the single of a rule that takes a second one if its sign stands next.
+    /// Goes on after the single of a rule that takes a second one if its sign is next.
     fn after_first(&mut self, pair: Pair) -> Result<State, AllocError>
         requires trees { HasTrees 1 self.old }
         requires room { vec_len self.old.frames.stack < self.old.frames.greatest }
         ensures holds { Proceeds (after_single pair self.old) 1 self.old self.new result }
         ensures step { IsStep 0 5 self.old self.new result }
     {
-        if self.reader.take_if(pair.sign()) {
+        if self.lexer.take_if(pair.sign()) {
             return self.put_back(Frame::Last(pair.two()));
         }
         self.put(pair.one())
     }
 
-    /// Strikes the last tree through. The lexeme after it is skipped.
+    /// Strikes through the last tree. The lexeme after it is skipped.
     fn end_slash(&mut self) -> Result<State, AllocError>
         requires { HasTrees 1 self.old }
         ensures holds { Proceeds (under_slash (last_tree self.old)) 1 self.old self.new result }
         ensures step { IsStep 0 5 self.old self.new result }
     {
-        self.reader.skip();
+        self.lexer.skip();
         self.parts.slash()?;
         Ok(State::Core)
     }
 
-    /// Stretches the operator that is the last tree, or refuses the lexeme that stood after `\middle`.
+    /// Stretches the operator that is the last tree, or refuses the lexeme that followed `\middle`.
     fn end_stretch(&mut self, got: Lexeme<'a>) -> Result<State, AllocError>
         requires { HasTrees 1 self.old }
         ensures holds { Proceeds (after_operator got.entry self.old) 1 self.old self.new result }
@@ -143,7 +143,7 @@ impl<'a> Parser<'a> {
         ensures holds { EndsGroup (Group.Fence opening) count self.old self.new result }
         ensures step { IsStep 0 5 self.old self.new result }
     {
-        let got = self.reader.take();
+        let got = self.lexer.take();
         let Some(closing) = fence_of(got) else {
             return self.refuse_fence(Token::Right, got);
         };
@@ -157,7 +157,7 @@ impl<'a> Parser<'a> {
         ensures holds { EndsGroup Group.Environment count self.old self.new result }
         ensures step { IsStep 0 5 self.old self.new result }
     {
-        self.reader.skip_name();
+        self.lexer.skip_name();
         if self.parts.environment(count)? {
             return Ok(State::Core);
         }
@@ -166,7 +166,7 @@ impl<'a> Parser<'a> {
     }
 }
 
-/// The part that a script of this sign makes.
+/// Returns the part that a script of this sign makes.
 fn script(sign: Sign) -> Kind<'static>
     ensures arity { arity result ≡ 2 }
     ensures trees { (ts : List Tree) → put result ts ≡ with_script sign ts }

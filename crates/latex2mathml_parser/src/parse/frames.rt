@@ -1,4 +1,4 @@
-//! The parser's stack of frames: rules that were begun, and how much of each was read.
+//! The parser's stack of frames: unfinished rules, and how much of each was read.
 //!
 //! A frame holds no tree. What was read for it are the last trees of the parser's parts.
 ghost use Rattle.std.specs.Prelude.{◌≡◌, ◌∷◌, ◌+◌, ◌<◌, ◌≤◌, ◌↔◌, [], IsTrue, List, MatchBool};
@@ -8,7 +8,7 @@ ghost use Rattle.latex2mathml_parser.specs.Frames.{one_of_pair, pair_sign, takes
 ghost use Rattle.latex2mathml_parser.specs.{Levels.MayBegin, Levels.end_token, declared.parse.frames.GroupEnd.GroupEnd};
 ghost use Rattle.latex2mathml_tokens.specs.{Lexemes.lexeme_tok, Tok.Tok, Tok.tok};
 
-use crate::reader::mark::Sign;
+use crate::lexer::mark::Sign;
 use latex2mathml_parts::kind::Kind;
 use latex2mathml_tokens::attribute::Variant;
 use latex2mathml_tokens::lexeme::Lexeme;
@@ -82,15 +82,15 @@ impl Due {
     }
 }
 
-/// What is made of members that stand side by side up to an end.
+/// What is made of consecutive members up to an end.
 #[derive(Clone, Copy)]
 pub(crate) enum Group {
     Brace,
     /// The degree of a root.
     Degree,
-    /// What stands between two fences, of which this one opens. A period is none.
+    /// What is between two fences, of which this is the opening one. A period is `None`.
     Fence(Option<Paren>),
-    /// An environment, whose name stands before its members, as words.
+    /// An environment, whose name precedes its members, as words.
     Environment,
 }
 
@@ -107,19 +107,19 @@ impl Group {
     }
 }
 
-/// A rule of a single, and of a second one if a sign stands between them.
+/// A rule of a single, and of a second one if a sign is between them.
 #[derive(Clone, Copy)]
 pub(crate) enum Pair {
     Overbrace(char),
     Underbrace(char),
-    /// The limits of an operator, which stand under and over it. This sign stood before the first.
+    /// The limits of an operator, under and over it. This sign preceded the first.
     BigOp(char, Sign),
-    /// The limits of an integral, which stand after it.
+    /// The limits of an integral, which follow it.
     Integral(char, Sign),
 }
 
 impl Pair {
-    /// The sign that the second single stands after.
+    /// Returns the sign that precedes the second single.
     pub(crate) fn sign(self) -> Sign
         ensures { result ≡ pair_sign self }
     {
@@ -133,7 +133,7 @@ impl Pair {
         }
     }
 
-    /// What is made of one single.
+    /// Returns what is made of one single.
     pub(crate) fn one(self) -> Kind<'static>
         ensures { result ≡ one_of_pair self }
     {
@@ -147,7 +147,7 @@ impl Pair {
         }
     }
 
-    /// What is made of two.
+    /// Returns what is made of two.
     pub(crate) fn two(self) -> Kind<'static>
         ensures { result ≡ two_of_pair self }
     {
@@ -162,10 +162,10 @@ impl Pair {
     }
 }
 
-/// A rule that was begun. What was read of it are the last trees.
+/// An unfinished rule. What was read of it are the last trees.
 #[derive(Clone, Copy)]
 pub(crate) enum Frame<'a> {
-    /// A group, of which so many members were read.
+    /// A group, and the number of its members that were read.
     Members(Group, usize),
     /// A rule that waits for its last operand, and what is made of its operands.
     Operand(Kind<'a>),
@@ -186,7 +186,7 @@ pub(crate) enum Frame<'a> {
 }
 
 impl<'a> Frame<'a> {
-    /// What the rule waits for.
+    /// Returns what the rule waits for.
     fn awaits(&self) -> Due
         ensures { result ≡ awaits self.now }
     {
@@ -219,7 +219,7 @@ impl<'a> Frames<'a> {
         }
     }
 
-    /// Drops all frames, and keeps their room. Counting begins anew.
+    /// Drops all frames, and keeps their room. Counting starts again.
     pub(crate) fn clear(&mut self)
         ensures empty { self.new.stack.items ≡ [] }
         ensures greatest { self.new.greatest ≡ 0 }
@@ -239,7 +239,7 @@ impl<'a> Frames<'a> {
         Ok(())
     }
 
-    /// Puts a frame back that was taken off. This is no opening, so it leaves the greatest number.
+    /// Puts back a frame that was taken off. This opens no frame, so the greatest number stays the same.
     pub(crate) fn put_back(&mut self, frame: Frame<'a>) -> Result<(), AllocError>
         requires room { vec_len self.old.stack < self.old.greatest }
         requires fit { unfit frame ≡ 0 }
@@ -250,7 +250,7 @@ impl<'a> Frames<'a> {
         Ok(())
     }
 
-    /// Takes the innermost frame off.
+    /// Takes off the innermost frame.
     pub(crate) fn pop(&mut self) -> Option<Frame<'a>>
         ensures stack { MatchOption result (AreEmpty self.old.stack.items self.new.stack.items)
             (λ frame. IsOn frame self.new.stack.items self.old.stack.items) }
@@ -260,7 +260,7 @@ impl<'a> Frames<'a> {
         self.stack.pop()
     }
 
-    /// What is due: what the innermost frame waits for, or a node of the formula.
+    /// Returns what is due: what the innermost frame waits for, or a node of the formula.
     #[tactic(auto, using(crate::proofs::Stacks::innermost_push))]
     pub(crate) fn due(&self) -> Due
         ensures { result ≡ innermost self.now.stack.items }

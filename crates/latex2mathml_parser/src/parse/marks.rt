@@ -1,13 +1,13 @@
-//! Primes and scripts, which go on with what stands before them.
+//! Primes and scripts, which continue what precedes them.
 
 ghost use Rattle.std.specs.Prelude.{◌≡◌, Some};
 ghost use Rattle.latex2mathml_grammar.specs.Grammar.{first, prime};
 ghost use Rattle.latex2mathml_parser.specs.{Claims.FollowsSingle, Claims.Keeps, Marks.sign_token};
 ghost use Rattle.latex2mathml_parser.specs.Steps.{HasTrees, IsStep};
 
+use crate::lexer::mark::{Mark, Sign};
 use crate::parse::frames::{Due, Frame};
 use crate::parse::{Parser, State};
-use crate::reader::mark::{Mark, Sign};
 use latex2mathml_parts::kind::Kind;
 use std::alloc::AllocError;
 
@@ -19,7 +19,7 @@ impl<'a> Parser<'a> {
         ensures holds { Keeps State.Core self.old self.new result }
         ensures step { IsStep 0 4 self.old self.new result }
     {
-        let Some(mark) = self.reader.mark() else {
+        let Some(mark) = self.lexer.mark() else {
             return self.after_part();
         };
         match mark {
@@ -28,9 +28,9 @@ impl<'a> Parser<'a> {
         }
     }
 
-    /// Goes on after a core that a prime follows: the prime is taken, unless a core is due.
+    /// Goes on after a core followed by a prime: the prime is taken, unless a core is due.
     fn after_prime(&mut self) -> Result<State, AllocError>
-        requires prime { first self.old.reader.list ≡ Some prime }
+        requires prime { first self.old.lexer.list ≡ Some prime }
         requires trees { HasTrees 1 self.old }
         ensures holds { Keeps State.Core self.old self.new result }
         ensures step { IsStep 0 4 self.old self.new result }
@@ -38,7 +38,7 @@ impl<'a> Parser<'a> {
         if let Due::Core = self.frames.due() {
             return Ok(State::Part);
         }
-        self.reader.skip();
+        self.lexer.skip();
         self.parts.put(Kind::Primed)?;
         self.after_single()
     }
@@ -50,7 +50,7 @@ impl<'a> Parser<'a> {
         ensures holds { FollowsSingle self.old self.new result }
         ensures step { IsStep 0 4 self.old self.new result }
     {
-        let Some(mark) = self.reader.mark() else {
+        let Some(mark) = self.lexer.mark() else {
             return Ok(State::Part);
         };
         match mark {
@@ -59,9 +59,9 @@ impl<'a> Parser<'a> {
         }
     }
 
-    /// Goes on after a single that a sign follows: the sign is taken if a node is due.
+    /// Goes on after a single followed by a sign: the sign is taken if a node is due.
     fn after_sign(&mut self, sign: Sign) -> Result<State, AllocError>
-        requires sign { first self.old.reader.list ≡ Some (sign_token sign) }
+        requires sign { first self.old.lexer.list ≡ Some (sign_token sign) }
         requires trees { HasTrees 1 self.old }
         ensures holds { FollowsSingle self.old self.new result }
         ensures step { IsStep 0 4 self.old self.new result }
@@ -69,7 +69,7 @@ impl<'a> Parser<'a> {
         if !self.frames.due().takes_script() {
             return Ok(State::Part);
         }
-        self.reader.skip();
+        self.lexer.skip();
         self.open(Frame::Script(sign))
     }
 }

@@ -12,9 +12,9 @@ pub(crate) struct Elements {
     pub(crate) plain: &'static str,
     /// One that grows.
     pub(crate) stretched: &'static str,
-    /// An opening fence, and what stands before it.
+    /// An opening fence, and what precedes it.
     pub(crate) opening: &'static str,
-    /// A closing fence, and what stands after it.
+    /// A closing fence, and what follows it.
     pub(crate) closing: &'static str,
 }
 
@@ -33,7 +33,7 @@ macro_rules! elements {
 }
 
 impl Elements {
-    /// The elements of this parenthesis. It is inlined, so that only the one that is used is looked up.
+    /// Returns the elements of this parenthesis. It is inlined, so that only the element that is used is looked up.
     #[inline(always)]
     #[tactic(auto, unfolding(crate::proofs::Encoding::encode_utf8))]
     pub(crate) fn of(paren: Paren) -> Elements
@@ -51,7 +51,7 @@ impl Elements {
     }
 }
 
-/// An opening fence, which may be missing, and what stands before it.
+/// Returns an opening fence, which may be missing, and what precedes it.
 pub(crate) fn opening_markup(fence: Option<Paren>) -> &'static str
     ensures { result.now ≡ fence_open (fence_text fence) }
 {
@@ -61,7 +61,7 @@ pub(crate) fn opening_markup(fence: Option<Paren>) -> &'static str
     }
 }
 
-/// A closing fence, which may be missing, and what stands after it.
+/// Returns a closing fence, which may be missing, and what follows it.
 pub(crate) fn closing_markup(fence: Option<Paren>) -> &'static str
     ensures { result.now ≡ fence_close (fence_text fence) }
 {

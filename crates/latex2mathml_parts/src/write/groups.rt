@@ -22,7 +22,7 @@ pub(crate) enum Group {
 }
 
 impl Group {
-    /// What stands before the members.
+    /// Returns what precedes the members.
     fn open(self) -> &'static str
         ensures { result.now ≡ group_open self }
     {
@@ -34,7 +34,7 @@ impl Group {
         }
     }
 
-    /// What stands after them.
+    /// Returns what follows them.
     fn close(self) -> &'static str
         ensures { result.now ≡ group_close self }
     {
@@ -46,7 +46,7 @@ impl Group {
 }
 
 impl Parts<'_> {
-    /// Writes what stands before a group of so many trees, and puts them and what stands after them on the list.
+    /// Writes what precedes the members of a group, and pushes the `count` members and what follows them onto the list.
     #[tactic(auto, using(crate::proofs::Groups::group_weight, std::proofs::lemmas::Grind::common_steps))]
     pub(crate) fn write_group(
         &self,
@@ -71,7 +71,7 @@ impl Parts<'_> {
         Ok(())
     }
 
-    /// Puts so many members of a group on the list, the first uppermost.
+    /// Pushes `count` members of a group onto the list, with the first on top.
     fn push_members(
         &self,
         group: Group,
@@ -99,7 +99,7 @@ impl Parts<'_> {
         Ok(())
     }
 
-    /// A member of a group: a tree, or in a matrix the end of a cell or of a row of the matrix.
+    /// Returns a member of a group: a tree, or in a matrix the end of a cell or of a row of the matrix.
     fn member(&self, group: Group, end: usize, style: Option<Variant>) -> Work
         requires place { IsPlace self.now end }
         ensures inside { IsIn self.now result }
@@ -116,7 +116,7 @@ impl Parts<'_> {
         }
     }
 
-    /// Puts a work on the list.
+    /// Pushes a work onto the list.
     #[tactic(auto, unfolding(crate::specs::Works::AreIn))]
     pub(crate) fn push_work(&self, work: Work, works: &mut Vec<Work>) -> Result<(), AllocError>
         requires one { IsIn self.now work }

@@ -20,7 +20,7 @@ use latex2mathml_tokens::names::{Paren, Size};
 use latex2mathml_trees::append::{append_content, append_content_char, append_space};
 use std::alloc::AllocError;
 
-/// Writes a part that has no operands, and that stands in no list.
+/// Writes a part that has no operands and is in no list.
 #[inline(always)]
 pub fn write_leaf(kind: Kind, out: &mut String) -> Result<(), AllocError>
     requires { arity kind ≡ 0 }
@@ -120,7 +120,7 @@ pub(crate) fn write_slashed(form: Form, out: &mut String) -> Result<bool, AllocE
     }
 }
 
-/// Writes the brace over a tree or under it, and what stands after it.
+/// Writes the brace over a tree or under it, and what follows it.
 pub(crate) fn write_brace(c: char, after: &'static str, out: &mut String) -> Result<(), AllocError>
     ensures { Appends out.old out.new (print (operator c) ++ after.now) result }
 {
@@ -128,7 +128,7 @@ pub(crate) fn write_brace(c: char, after: &'static str, out: &mut String) -> Res
     out.push_str(after)
 }
 
-/// Writes the sign over a tree or under it, and what stands after it.
+/// Writes the sign over a tree or under it, and what follows it.
 pub(crate) fn write_sign(
     c: char,
     accent: Accent,
@@ -143,7 +143,7 @@ pub(crate) fn write_sign(
     }
 }
 
-/// Writes a space, in eighteenths of an em.
+/// Writes a space of this width, in eighteenths of an em.
 fn write_space(width: i32, out: &mut String) -> Result<(), AllocError>
     ensures { Appends out.old out.new (print (space width)) result }
 {

@@ -1,4 +1,4 @@
-//! What stands first of a tree with operands. The rest is put on the list.
+//! The beginning of a tree with operands. The rest is pushed onto the list.
 ghost use Rattle.std.specs.Prelude.{◌≡◌, ◌<◌, ◌≤◌, IfOk, OnOk, length, Option};
 ghost use Rattle.latex2mathml_trees.specs.{Print.print, Texts.Appends};
 ghost use Rattle.latex2mathml_tokens.specs.declared.attribute.Variant.{Variant};
@@ -16,8 +16,8 @@ use crate::write::shapes::{Operands, Shape, shape_of};
 use std::alloc::AllocError;
 
 impl Parts<'_> {
-    /// Writes what stands first of the tree of a part with operands, after so many parts. Returns the operand that is
-    /// next.
+    /// Writes the beginning of the tree of a part with operands that follows the first `end` parts. Returns the operand
+    /// that comes next.
     #[inline(always)]
     pub(crate) fn write_operands(
         &self,
@@ -42,7 +42,7 @@ impl Parts<'_> {
         Ok(Some(next))
     }
 
-    /// Puts operands and what stands after them on the list, but for the one that is next.
+    /// Pushes operands and what follows them onto the list, except for the operand that comes next.
     #[inline(always)]
     #[tactic(auto, using(crate::proofs::Styles::plain, std::proofs::lemmas::Grind::common_steps))]
     fn push_operands(
@@ -84,7 +84,7 @@ impl Parts<'_> {
     }
 }
 
-/// Writes what stands before the operands.
+/// Writes what precedes the operands.
 #[inline(always)]
 fn write_opening(
     before: &'static str,

@@ -1,4 +1,4 @@
-//! What stands around the operands of a part, by its kind.
+//! What surrounds the operands of a part, by its kind.
 ghost use Rattle.std.specs.Prelude.{◌≡◌, ◌<◌, List, None, Option, Some};
 ghost use Rattle.latex2mathml_trees.specs.{Print.print, Tree.Tree};
 ghost use Rattle.latex2mathml_tokens.specs.declared.attribute.Variant.{Variant};
@@ -25,7 +25,7 @@ pub(crate) enum Operands {
     Labelled(char),
 }
 
-/// What stands around the operands of a part.
+/// What surrounds the operands of a part.
 #[derive(Clone, Copy)]
 pub(crate) struct Shape {
     pub(crate) before: &'static str,
@@ -35,7 +35,7 @@ pub(crate) struct Shape {
     pub(crate) after: Work,
 }
 
-/// The shape of a part that has operands.
+/// Returns the shape of a part that has operands.
 #[tactic(auto, unfolding(crate::specs::Shapes::sign_print))]
 #[inline(always)]
 pub(crate) fn shape_of(kind: Kind) -> Shape
@@ -96,7 +96,7 @@ pub(crate) fn shape_of(kind: Kind) -> Shape
     }
 }
 
-/// Operands between two texts.
+/// Returns the shape of operands between two texts.
 #[inline(always)]
 fn around(before: &'static str, operands: Operands, after: &'static str) -> Shape
     ensures { result ≡ shape_with before.entry None operands (Work.Markup after.entry) }
@@ -109,7 +109,7 @@ fn around(before: &'static str, operands: Operands, after: &'static str) -> Shap
     }
 }
 
-/// The same, with an operator before the operands.
+/// Returns the shape of operands between two texts, with an operator before the operands.
 #[inline(always)]
 fn signed(before: &'static str, sign: char, operands: Operands, after: &'static str) -> Shape
     ensures { result ≡ shape_with before.entry (Some sign) operands (Work.Markup after.entry) }
@@ -122,7 +122,7 @@ fn signed(before: &'static str, sign: char, operands: Operands, after: &'static 
     }
 }
 
-/// One operand before an operator or a sign.
+/// Returns the shape of one operand before an operator or a sign.
 #[inline(always)]
 fn before_work(before: &'static str, after: Work) -> Shape
     ensures { result ≡ shape_with before.entry None Operands.One after }

@@ -10,7 +10,7 @@ ghost use Rattle.latex2mathml_tokens.specs.declared.attribute.Variant.TheVariant
 use latex2mathml_tokens::attribute::Variant;
 use latex2mathml_tokens::names::{FunctionName, LimitName, Size};
 
-/// The element of a character between two texts, if it is one of these. Some stand there by another text.
+/// The element of a character between two texts, if it is one of these. Some characters are written as another text.
 macro_rules! elements {
     ($c:ident, $before:literal, $after:literal, $($char:literal)* $(; $escaped:literal => $text:literal)*) => {
         match $c {
@@ -30,7 +30,7 @@ macro_rules! texts {
     };
 }
 
-/// An italic letter that is ASCII.
+/// Returns the markup of an italic letter that is ASCII.
 pub(crate) fn letter_markup(c: char) -> Option<&'static str>
     ensures { IfSome result (λ markup. markup.now ≡ print (letter c Italic)) }
 {
@@ -40,7 +40,7 @@ pub(crate) fn letter_markup(c: char) -> Option<&'static str>
     )
 }
 
-/// An italic letter that is Greek.
+/// Returns the markup of an italic letter that is a small Greek one.
 #[tactic(auto, unfolding(crate::proofs::Encoding::encode_utf8))]
 pub(crate) fn greek_markup(c: char) -> Option<&'static str>
     ensures { IfSome result (λ markup. markup.now ≡ print (letter c Italic)) }
@@ -51,7 +51,7 @@ pub(crate) fn greek_markup(c: char) -> Option<&'static str>
     )
 }
 
-/// An operator that is ASCII and has no command.
+/// Returns the markup of an operator that is ASCII and has no command.
 pub(crate) fn operator_markup(c: char) -> Option<&'static str>
     ensures { IfSome result (λ markup. markup.now ≡ print (operator c)) }
 {
@@ -60,7 +60,7 @@ pub(crate) fn operator_markup(c: char) -> Option<&'static str>
     )
 }
 
-/// An operator of a frequent command.
+/// Returns the markup of an operator of a frequent command.
 #[tactic(auto, unfolding(crate::proofs::Encoding::encode_utf8))]
 pub(crate) fn command_operator_markup(c: char) -> Option<&'static str>
     ensures { IfSome result (λ markup. markup.now ≡ upright_print c) }
@@ -68,7 +68,7 @@ pub(crate) fn command_operator_markup(c: char) -> Option<&'static str>
     elements!(c, "<mo>", "</mo>", '±' '·' '×' '→' '∈' '−' '∗' '≠' '≤' '≥')
 }
 
-/// A number of one digit.
+/// Returns the markup of a number of one digit.
 #[inline(always)]
 pub(crate) fn digit_markup(digits: &[u8]) -> Option<&'static str>
     ensures { IfSome result (λ markup. markup.now ≡ print (number digits.now)) }
@@ -88,7 +88,7 @@ pub(crate) fn digit_markup(digits: &[u8]) -> Option<&'static str>
     }
 }
 
-/// A space of a width that a command has.
+/// Returns the markup of a space whose width a command has.
 #[tactic(auto, unfolding(crate::proofs::Encoding::digits))]
 pub(crate) fn space_markup(width: i32) -> Option<&'static str>
     ensures { IfSome result (λ markup. markup.now ≡ print (space width)) }
@@ -98,7 +98,7 @@ pub(crate) fn space_markup(width: i32) -> Option<&'static str>
     )
 }
 
-/// The tag before a letter that has this style.
+/// Returns the tag before a letter that has this style.
 pub(crate) fn letter_open(variant: Variant) -> &'static str
     ensures { result.now ≡ codes "<mi mathvariant=\"" ++ (variant_text variant ++ codes "\">") }
 {
@@ -111,7 +111,7 @@ pub(crate) fn letter_open(variant: Variant) -> &'static str
     )
 }
 
-/// The tag before a parenthesis of this size.
+/// Returns the tag before a parenthesis of this size.
 pub(crate) fn size_open(size: Size) -> &'static str
     ensures { result.now ≡ codes "<mrow><mo maxsize=\"" ++ (value (size_text size)
         ++ (codes "\" minsize=\"" ++ (value (size_text size) ++ codes "\">"))) }
@@ -124,7 +124,7 @@ pub(crate) fn size_open(size: Size) -> &'static str
     }
 }
 
-/// The name of a function.
+/// Returns the markup of the name of a function.
 #[tactic(auto, unfolding(crate::proofs::Encoding::encode_utf8))]
 pub(crate) fn function_markup(name: FunctionName) -> &'static str
     ensures { result.now ≡ print (function (function_text name)) }
@@ -147,14 +147,14 @@ macro_rules! limits {
     };
 }
 
-/// The name of a function that takes a limit.
+/// Returns the markup of the name of a function that takes a limit.
 pub(crate) fn limit_markup(name: LimitName) -> &'static str
     ensures { result.now ≡ print (function (limit_text name)) }
 {
     limits!(name, "<mi>", "</mi>")
 }
 
-/// The same, and what stands before it where it has a limit.
+/// Returns the markup of such a name, and what precedes it where it has a limit.
 pub(crate) fn limited_markup(name: LimitName) -> &'static str
     ensures { result.now ≡ codes "<munder>" ++ print (function (limit_text name)) }
 {

@@ -1,4 +1,4 @@
-//! Arrows that are as long as what stands above and below them.
+//! Arrows that are as long as what is above and below them.
 ghost use Rattle.latex2mathml_tex_grammar.specs.Rules.{an_arrow};
 ghost use Rattle.latex2mathml_tex_atoms.specs.Models.{context_of};
 ghost use Rattle.latex2mathml_tex.specs.Steps.{BeginsIn, CanBegin, Advances, LeadsOn};
@@ -11,7 +11,7 @@ use latex2mathml_tex_commands::meaning::Style;
 use std::alloc::AllocError;
 
 impl<'a> Parser<'a> {
-    /// An arrow: what stands below it, if that stands next in brackets, and what stands above it.
+    /// Begins an arrow: the label below it, if one comes next in brackets, and the label above it.
     pub(crate) fn arrow(
         &mut self,
         sign: char,

@@ -1,4 +1,4 @@
-//! How the rule of each unit is begun.
+//! How the rule of each unit begins.
 ghost use Rattle.std.specs.Prelude.{◌≡◌, ℕ, false, option_map};
 ghost use Rattle.latex2mathml_attributes.specs.Names.{size_of};
 ghost use Rattle.latex2mathml_tex_grammar.specs.Makes;
@@ -88,7 +88,8 @@ impl<'a> Parser<'a> {
         }
     }
 
-    /// Begins the rule of a unit, which was taken. The innermost frame is given an atom that is whole then.
+    /// Begins the rule of a unit, which was taken. If the atom is whole then, gives it to the innermost frame.
+    #[inline(always)]
     pub(crate) fn begin_whole(&mut self, unit: Unit<'a>) -> Result<State, AllocError>
         requires begin { CanBegin 0 self.old }
         ensures holds { LeadsOn (BeginsUnit unit.entry) self.old self.new result }
@@ -154,7 +155,7 @@ impl<'a> Parser<'a> {
         }
     }
 
-    /// Begins the rule of a command for which this was found in the table.
+    /// Begins the rule of a command, for which the table has this meaning or none.
     pub(crate) fn command(
         &mut self,
         found: Option<Meaning>,
@@ -176,7 +177,7 @@ impl<'a> Parser<'a> {
         Ok(self.refuse(TexErrorKind::UnknownCommand(name), place))
     }
 
-    /// Begins the rule of a command that means this.
+    /// Begins the rule of a command with this meaning.
     fn meaning(
         &mut self,
         meaning: Meaning,
@@ -253,7 +254,7 @@ impl<'a> Parser<'a> {
         }
     }
 
-    /// Dots, in the middle of the line where what stands next asks for them.
+    /// Begins dots, in the middle of the line if what comes next asks for that.
     fn dots(&mut self, context: Context) -> Result<State, AllocError>
         requires begin { CanBegin 0 self.old }
         ensures holds { LeadsOn
@@ -269,7 +270,7 @@ impl<'a> Parser<'a> {
         self.symbol(context.alphabet, dots)
     }
 
-    /// A root, and its degree, if one stands next in square brackets.
+    /// Begins a root, with its degree if one comes next in square brackets.
     fn root(&mut self, place: usize, context: Context) -> Result<State, AllocError>
         requires begin { CanBegin 0 self.old }
         ensures holds { LeadsOn
@@ -288,7 +289,7 @@ impl<'a> Parser<'a> {
         self.open(Frame::Last(Last::SquareRoot, place, context))
     }
 
-    /// The name of an operator, in upright letters. With a star it has limits.
+    /// Begins the name of an operator, in upright letters. With a star, it has limits.
     fn operator_name(&mut self, place: usize, context: Context) -> Result<State, AllocError>
         requires begin { CanBegin 0 self.old }
         ensures holds { LeadsOn
@@ -311,7 +312,7 @@ impl<'a> Parser<'a> {
         ))
     }
 
-    /// A relation that is negated: it has a sign of its own, or else a stroke.
+    /// Begins a negated relation, which has a sign of its own, or else a stroke.
     fn negation(&mut self, place: usize, context: Context) -> Result<State, AllocError>
         requires begin { CanBegin 0 self.old }
         ensures holds { LeadsOn
@@ -327,7 +328,7 @@ impl<'a> Parser<'a> {
         self.open(Frame::Negation(place, context))
     }
 
-    /// The words that a command takes. White space before them is nothing.
+    /// Begins the words that a command takes. White space before them is skipped.
     fn text(&mut self, place: usize, alphabet: Option<Alphabet>) -> Result<State, AllocError>
         requires begin { CanBegin 0 self.old }
         ensures holds { LeadsOn
@@ -345,7 +346,7 @@ impl<'a> Parser<'a> {
         Ok(State::Word(words, place, alphabet))
     }
 
-    /// A row between delimiters, of which the opening one must stand next.
+    /// Begins a row between delimiters, of which the opening one must come next.
     fn left(&mut self, place: usize, context: Context) -> Result<State, AllocError>
         requires begin { CanBegin 0 self.old }
         ensures holds { LeadsOn
@@ -359,7 +360,7 @@ impl<'a> Parser<'a> {
         self.open(Frame::Row(Ending::Delimiters(opening), place, context, Row::empty()))
     }
 
-    /// A delimiter of this size, which must stand next.
+    /// Puts a delimiter of this size. The delimiter must come next.
     fn sized(&mut self, size: Size, class: Class) -> Result<State, AllocError>
         requires begin { CanBegin 0 self.old }
         ensures holds { LeadsOn
@@ -376,7 +377,7 @@ impl<'a> Parser<'a> {
     }
 }
 
-/// Whether no operand begins with the unit: it ends atoms, or goes on with one.
+/// Whether no operand begins with the unit, because it ends atoms or continues one.
 fn is_no_operand(piece: Piece) -> bool
     ensures { result ≡ is_no_operand (piece_of piece.entry) }
 {

@@ -16,7 +16,7 @@ use latex2mathml_tex_units::scanning::{LengthEnd, Spot};
 use std::alloc::AllocError;
 
 impl<'a> Parser<'a> {
-    /// A space as wide as the length that is found from this spot on.
+    /// Puts a space as wide as the length that is found from this spot on.
     pub(crate) fn skip(
         &mut self,
         spot: Spot,
@@ -36,7 +36,7 @@ impl<'a> Parser<'a> {
         Ok(State::Core(Core::new(Kind::Blank, false)))
     }
 
-    /// A space as wide as the length that stands next in braces. A star before it is nothing.
+    /// Puts a space as wide as the length that comes next in braces. A star before it is skipped.
     pub(crate) fn skip_in_braces(
         &mut self,
         place: usize,
@@ -52,7 +52,7 @@ impl<'a> Parser<'a> {
         self.skip(Spot::BeforeLengthInBraces, place, context)
     }
 
-    /// A black rectangle, whose width and height stand next in braces. A length in brackets before them raises it.
+    /// Puts a black rectangle, whose width and height come next in braces. A length in brackets before them raises it.
     pub(crate) fn rectangle(&mut self, place: usize, context: Context) -> Result<State, AllocError>
         requires begin { CanBegin 0 self.old }
         ensures holds { LeadsOn (BeginsIn context (a_rectangle place) 0) self.old self.new result }
@@ -68,7 +68,7 @@ impl<'a> Parser<'a> {
         self.bar(None, place, context)
     }
 
-    /// A black rectangle that a length raises, if there is one. Its width and height stand next in braces.
+    /// Puts a black rectangle, which a length raises if there is one. Its width and height come next in braces.
     fn bar(
         &mut self,
         raise: Option<i32>,
@@ -89,7 +89,7 @@ impl<'a> Parser<'a> {
         Ok(State::Core(Core::new(Kind::Plain(Class::Ordinary), true)))
     }
 
-    /// An operand that is raised by the length that stands next in braces.
+    /// Begins an operand that is raised by the length that comes next in braces.
     pub(crate) fn raise(&mut self, place: usize, context: Context) -> Result<State, AllocError>
         requires begin { CanBegin 0 self.old }
         ensures holds { LeadsOn
@@ -103,7 +103,7 @@ impl<'a> Parser<'a> {
         self.open_box(OperandBox::Raised(height), place, context)
     }
 
-    /// An operand in the color that stands next.
+    /// Begins an operand in the color that comes next.
     pub(crate) fn in_color(&mut self, place: usize, context: Context) -> Result<State, AllocError>
         requires begin { CanBegin 0 self.old }
         ensures holds { LeadsOn
@@ -117,7 +117,7 @@ impl<'a> Parser<'a> {
         self.open_box(OperandBox::Colored(color), place, context)
     }
 
-    /// An operand on the color that stands next.
+    /// Begins an operand on a background of the color that comes next.
     pub(crate) fn highlight(&mut self, place: usize, context: Context) -> Result<State, AllocError>
         requires begin { CanBegin 0 self.old }
         ensures holds { LeadsOn
@@ -131,7 +131,7 @@ impl<'a> Parser<'a> {
         self.open_box(OperandBox::OnColor(color), place, context)
     }
 
-    /// An operand in a box without height and depth, or without one of them.
+    /// Begins an operand in a box without height and depth, or without one of them.
     pub(crate) fn smash(&mut self, place: usize, context: Context) -> Result<State, AllocError>
         requires begin { CanBegin 0 self.old }
         ensures holds { LeadsOn
@@ -148,7 +148,7 @@ impl<'a> Parser<'a> {
         self.open_box(OperandBox::Smashed, place, context)
     }
 
-    /// An operand in a box.
+    /// Begins an operand in a box.
     pub(crate) fn open_box(
         &mut self,
         operand_box: OperandBox,

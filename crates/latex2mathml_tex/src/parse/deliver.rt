@@ -1,4 +1,4 @@
-//! What goes on after an atom without scripts, and after an operand.
+//! How parsing goes on after an atom without scripts, and after an operand.
 ghost use Rattle.std.specs.Prelude.{◌≡◌, ◌+◌, IfOk, Ok, drop};
 ghost use Rattle.latex2mathml_tex_grammar.specs.{Makes.struck, Rules.gives, Rules.struck_atom};
 ghost use Rattle.latex2mathml_tex.specs.Frames.{Start, last_count, made_of};
@@ -24,6 +24,7 @@ use std::alloc::AllocError;
 
 impl<'a> Parser<'a> {
     /// Gives the innermost frame an atom without scripts.
+    #[inline(always)]
     pub(crate) fn deliver_core(&mut self, core: Core) -> Result<State, AllocError>
         requires { Ready self.old (State.Core core) }
         ensures holds { LeadsOn (HoldsIn (State.Core core)) self.old self.new result }
@@ -98,7 +99,7 @@ impl<'a> Parser<'a> {
         })
     }
 
-    /// Makes an atom of the operands that are uppermost.
+    /// Makes an atom of the uppermost operands.
     fn make(&mut self, last: Last, operand: Operand) -> Result<State, AllocError>
         requires { CanMake core_made (last_count last + 1) self.old }
         ensures holds { LeadsOn
@@ -181,7 +182,7 @@ impl<'a> Parser<'a> {
     }
 }
 
-/// An atom that is ordinary.
+/// Returns an ordinary atom.
 fn ordinary(high: bool) -> Result<State, AllocError>
     ensures { result ≡ Ok (State.Core
         (record { kind = Kind.Plain Class.Ordinary; high = high; limits = LimitPlace.Beside })) }
@@ -189,7 +190,7 @@ fn ordinary(high: bool) -> Result<State, AllocError>
     Ok(State::Core(Core::new(Kind::Plain(Class::Ordinary), high)))
 }
 
-/// An operand as an atom of this class.
+/// Returns an operand as an atom of this class.
 fn classed(class: Class, operand: Operand) -> Result<State, AllocError>
     ensures { IfOk result (λ st. (c : Core) × (st ≡ State.Core c)
         × ((x : Element)

@@ -21,7 +21,7 @@ use latex2mathml_tex_units::scanning::{Argument, Spot};
 use std::alloc::AllocError;
 
 impl<'a> Parser<'a> {
-    /// Begins the table whose name stands next.
+    /// Begins the table whose name comes next.
     pub(crate) fn begin_table(
         &mut self,
         place: usize,
@@ -43,7 +43,7 @@ impl<'a> Parser<'a> {
         self.begin_placed(environment, place, context)
     }
 
-    /// Begins an environment, behind its name.
+    /// Begins an environment, after its name.
     fn begin_placed(
         &mut self,
         environment: &'static Environment,
@@ -67,7 +67,7 @@ impl<'a> Parser<'a> {
         }
     }
 
-    /// Begins an environment of columns in which a letter in brackets may say where cells stand.
+    /// Begins an environment of columns in which a letter in brackets may say how cells are aligned.
     fn begin_aligned(
         &mut self,
         environment: &'static Environment,
@@ -96,7 +96,7 @@ impl<'a> Parser<'a> {
         self.begin_rows(environment, environment.layout.columns(), place, context)
     }
 
-    /// Begins an environment, behind its name and the letter that says how it stands in its line.
+    /// Begins an environment, after its name and any letter that says how it is placed in its line.
     fn begin_environment(
         &mut self,
         environment: &'static Environment,
@@ -140,7 +140,7 @@ impl<'a> Parser<'a> {
         }
     }
 
-    /// Begins an environment behind whose name a number stands, which means nothing.
+    /// Begins an environment whose name is followed by a number, which means nothing.
     fn begin_numbered(
         &mut self,
         environment: &'static Environment,
@@ -162,7 +162,7 @@ impl<'a> Parser<'a> {
         self.begin_rows(environment, environment.layout.columns(), place, context)
     }
 
-    /// Begins an environment whose columns stand next.
+    /// Begins an environment whose columns come next.
     fn begin_listed(
         &mut self,
         environment: &'static Environment,
@@ -213,7 +213,7 @@ impl<'a> Parser<'a> {
     }
 }
 
-/// The column that a letter says.
+/// Returns the column that a letter specifies.
 fn column(letter: u8) -> Column
     ensures { column_of result ≡ Environments.column_of letter }
 {
@@ -224,7 +224,7 @@ fn column(letter: u8) -> Column
     }
 }
 
-/// The columns that these letters say, unless there are too many.
+/// Returns the columns that these letters specify, unless there are too many.
 fn listed(letters: &str) -> Option<Columns>
     ensures { MatchOption result (nat_le (length letters.now) most_columns ≡ false)
         (λ columns. (nat_le (length letters.now) most_columns ≡ true)

@@ -12,7 +12,7 @@ use latex2mathml_tex_commands::meaning::{FractionRule, Style};
 use std::alloc::AllocError;
 
 impl<'a> Parser<'a> {
-    /// A fraction in the style of a block. The side to which `[l]` or `[r]` pushes its numerator is passed over.
+    /// Begins a fraction in display style. The side to which `[l]` or `[r]` pushes its numerator is ignored.
     pub(crate) fn continued_fraction(
         &mut self,
         place: usize,
@@ -34,7 +34,7 @@ impl<'a> Parser<'a> {
         self.open_fraction(rule, own, place, context)
     }
 
-    /// A fraction, which may have a style of its own. Its parts are smaller.
+    /// Begins a fraction, which may have a style of its own. Its parts are smaller.
     pub(crate) fn open_fraction(
         &mut self,
         rule: FractionRule,

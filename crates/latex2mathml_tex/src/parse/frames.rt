@@ -1,4 +1,4 @@
-//! What was begun, and how much of it was read.
+//! The open frames, and how much of each was read.
 ghost use Rattle.std.specs.Prelude.{◌≡◌, ℕ, ◌∷◌, ◌++◌, [], List, MatchOption, None, OnOk, if◌then◌else◌, option_map};
 ghost use Rattle.latex2mathml_tex_grammar.specs.Starts.{DividerStart, atom_start, change_by, ends, mark_of, start_of_mark};
 ghost use Rattle.latex2mathml_tex_grammar.specs.{Refusal.refusal_at, Starts.unended, Environments.before_cell, Rules.InCell};
@@ -25,10 +25,10 @@ use latex2mathml_tex_units::error::TexErrorKind;
 use latex2mathml_tex_units::unit::Piece;
 use std::alloc::{AllocError, Global};
 
-/// Up to what the atoms of a row stand, and what the row is for.
+/// What ends the atoms of a row, and what the row is for.
 #[derive(Clone, Copy)]
 pub(crate) enum Ending {
-    /// The whole text.
+    /// The end of the text: the row is the whole formula.
     Text,
     /// A brace: the row is a group, which is an atom.
     Group,
@@ -36,36 +36,36 @@ pub(crate) enum Ending {
     Operand,
     /// A bracket: the row is the degree of a root.
     Degree,
-    /// A bracket: the row stands below an arrow, whose element is below its own.
+    /// A bracket: the row is the label below an arrow, whose element is below the row's own.
     BelowArrow,
-    /// `\right`: the row stands between delimiters, of which this is the opening one.
+    /// `\right`: the row is between delimiters, of which this is the opening one.
     Delimiters(Option<char>),
-    /// A dollar sign: the row is a formula behind these words.
+    /// A dollar sign: the row is a formula after these words.
     Formula(Words),
     /// What ends a cell: the row is a cell of this table.
     Cell(Table),
 }
 
-/// What a table is, and so how it ends.
+/// The kind of a table, which determines how it ends.
 #[derive(Clone, Copy)]
 pub(crate) enum TableKind {
     /// An environment, up to its `\end`.
     Environment(&'static Environment),
-    /// Rows in braces, each of one cell, up to their brace.
+    /// Rows in braces, each of one cell, up to the closing brace.
     Braces,
     /// The rows of a whole text.
     Text,
 }
 
-/// A table of which a cell is read. The elements of the cells before it in its row, and below them those of the rows before
-/// it, are below those of the cell.
+/// A table, one of whose cells is being read. Below the elements of that cell are those of the cells before it in its row, and
+/// below them those of the rows before that row.
 #[derive(Clone, Copy)]
 pub(crate) struct Table {
     pub(crate) kind: TableKind,
     pub(crate) columns: Columns,
-    /// How many rows stand before the one that is read.
+    /// How many rows come before the one that is being read.
     pub(crate) rows: usize,
-    /// How many cells of that row stand before the one that is read.
+    /// How many cells of that row come before the one that is being read.
     pub(crate) cells: usize,
 }
 
@@ -74,7 +74,7 @@ pub(crate) struct Table {
 pub(crate) enum Last {
     Group,
     SquareRoot,
-    /// The degree stands below.
+    /// The degree is the element below.
     Root,
     Accent(Side, char, Stretch),
     Brace(Side, char),
@@ -85,17 +85,17 @@ pub(crate) enum Last {
     Classed(Class, Style),
     /// An ordinary atom in a box, in this style.
     Boxed(OperandBox, Style),
-    /// A denominator; the numerator stands below.
+    /// A denominator; the numerator is the element below.
     Fraction(FractionRule, Option<Style>),
-    /// The same, where the author says how the fraction is drawn.
+    /// A denominator, where the author says how the fraction is drawn; the numerator is the element below.
     Outlined(Outline),
-    /// A base, in this style; its mark stands below.
+    /// A base, in this style; its mark is the element below.
     Stack(Side, Style),
-    /// A base, in this style; what stands above it stands below.
+    /// A base, in this style; what is shown above it is the element below.
     StackedRelation(Style),
-    /// What stands above an arrow; the arrow stands below.
+    /// The label above an arrow; the arrow is the element below.
     OverArrow,
-    /// The same; what stands below the arrow stands between the two.
+    /// The label above an arrow; the next elements below are the label below the arrow, and the arrow.
     OverAndUnderArrow,
 }
 
@@ -108,24 +108,24 @@ pub(crate) enum First {
     Outlined(Outline),
     /// A mark.
     Stack(Side),
-    /// What stands above a relation.
+    /// What is shown above a relation.
     StackedRelation,
 }
 
-/// Something that was begun at a place, and what it waits for.
+/// Something open that began at a place, and what it waits for.
 #[derive(Clone, Copy)]
 pub(crate) enum Frame {
     /// The atoms of a row, up to its ending.
     Row(Ending, usize, Context, Row),
     /// The last operand of a command, in this context.
     Last(Last, usize, Context),
-    /// The first of two, in this context.
+    /// The first of two operands, in this context.
     First(First, usize, Context),
     /// An atom that is negated.
     Negation(usize, Context),
     /// The operand of a script of this atom, on this side of it.
     Script(Core, Scripts, Side, usize, Context),
-    /// One part of words, which are all that a command takes.
+    /// One part of words, which is all that a command takes.
     Text,
     /// Words up to a brace, in this alphabet.
     Words(usize, Option<Alphabet>),
@@ -146,7 +146,7 @@ impl Ending {
         }
     }
 
-    /// Whether the unit stands between parts of the row, and is followed by a delimiter.
+    /// Whether the unit comes between parts of the row, and is followed by a delimiter.
     pub(crate) fn is_divided_by(self, piece: Piece) -> bool
         ensures { (place : ℕ) → atom_start (ending_of self place) (piece_of piece.entry)
             ≡ (if result then DividerStart
@@ -174,7 +174,7 @@ impl Table {
         }
     }
 
-    /// Why it is refused where its end does not come, unless the text is its end.
+    /// Returns why the table is refused if its end is missing, or `None` if the end of the text ends it.
     pub(crate) fn unended(self) -> Option<TexErrorKind>
         ensures { (place : ℕ) → MatchOption result (unended (InCell (table_end self) place) ≡ None)
             (λ kind. option_map (λ k. refusal_at k place) (kind_of_error kind)
@@ -187,7 +187,7 @@ impl Table {
         }
     }
 
-    /// The style of its cells.
+    /// Returns the style of its cells.
     pub(crate) fn style(self) -> Style
         ensures { style_of result ≡ style_in self.kind }
     {
@@ -198,7 +198,7 @@ impl Table {
         }
     }
 
-    /// The row of the cell, before its first atom.
+    /// Returns the row of the cell that is being read, before its first atom.
     pub(crate) fn begun_cell(self) -> Row
         ensures row { result ≡ record empty_row { before = result.before } }
         ensures before { before_of result.before
@@ -216,7 +216,7 @@ impl Table {
 }
 
 impl Frame {
-    /// In what the frame's parts are read. Words are read in none.
+    /// Returns the context in which the frame's parts are read. Words are read in none.
     pub(crate) fn context(self) -> Context
         ensures { result ≡ frame_context self }
     {
@@ -233,7 +233,8 @@ impl Frame {
         }
     }
 
-    /// Its row with its context, if it is a row.
+    /// Returns its row with its context, if it is a row.
+    #[inline(always)]
     fn row(&self) -> (Context, Row)
         ensures { result ≡ frame_row self.now }
     {
@@ -244,14 +245,14 @@ impl Frame {
     }
 }
 
-/// What was begun, the innermost last. Where nothing was begun, the row of the whole formula is the innermost.
+/// The open frames, the innermost last. If there are none, the row of the whole formula is the innermost.
 #[derive(Drop)]
 pub(crate) struct Frames {
     stack: Vec<Frame>,
 }
 
 impl Frames {
-    /// Nothing was begun.
+    /// Creates a stack without frames.
     pub(crate) fn new(alloc: Global) -> Frames
         ensures { result.stack.items ≡ [] }
     {
@@ -266,7 +267,7 @@ impl Frames {
         self.stack.clear();
     }
 
-    /// Begins something.
+    /// Pushes a frame.
     pub(crate) fn push(&mut self, frame: Frame) -> Result<(), AllocError>
         ensures { OnOk result (self.new.stack.items ≡ self.old.stack.items ++ frame ∷ []) }
     {
@@ -274,7 +275,7 @@ impl Frames {
         Ok(())
     }
 
-    /// The innermost frame, in a formula of this style.
+    /// Returns the innermost frame, in a formula of this style.
     #[inline(always)]
     pub(crate) fn innermost(&self, style: Style) -> Frame
         ensures { (others : List Frame) × IsInnermost style self.now.stack.items result others }
@@ -285,8 +286,9 @@ impl Frames {
         }
     }
 
-    /// The innermost frame's row with its context, if the frame is a row, in a formula of this style. A frame is long, so no
-    /// more of it is copied.
+    /// Returns the innermost frame's row with its context, if the frame is a row, in a formula of this style. A frame is large,
+    /// so no more of it is copied.
+    #[inline(always)]
     pub(crate) fn row(&self, style: Style) -> (Context, Row)
         ensures { (f : Frame) × ((others : List Frame)
             × (IsInnermost style self.now.stack.items f others × (result ≡ frame_row f))) }
@@ -297,7 +299,8 @@ impl Frames {
         }
     }
 
-    /// Puts this row in place of the innermost frame's, if the frame is a row, in a formula of this style.
+    /// Replaces the innermost frame's row by this one, if the frame is a row, in a formula of this style.
+    #[inline(always)]
     pub(crate) fn set_row(&mut self, style: Style, row: Row) -> Result<(), AllocError>
         ensures { OnOk result
             ((e : Ending) (place : ℕ) (c : Context) (old : Row) (others : List Frame)
@@ -325,14 +328,14 @@ impl Frames {
     }
 }
 
-/// The row of a whole formula of this style, before its first atom.
+/// Returns the row of a whole formula of this style, before its first atom.
 fn text_row(style: Style) -> Frame
     ensures { result ≡ begun_row style }
 {
     Frame::Row(Ending::Text, 0, text_context(style), Row::empty())
 }
 
-/// In what the atoms of a whole formula of this style are read.
+/// Returns the context in which the atoms of a whole formula of this style are read.
 fn text_context(style: Style) -> Context
     ensures { result ≡ record { style = style; alphabet = None } }
 {

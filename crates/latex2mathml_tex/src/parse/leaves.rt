@@ -30,7 +30,8 @@ use latex2mathml_tex_units::input::Input;
 use std::alloc::AllocError;
 
 impl<'a> Parser<'a> {
-    /// A character as it is, or in an alphabet.
+    /// Puts a character as it is, or in an alphabet.
+    #[inline(always)]
     pub(crate) fn symbol(
         &mut self,
         alphabet: Option<Alphabet>,
@@ -46,7 +47,7 @@ impl<'a> Parser<'a> {
         Ok(State::Core(put_symbol(&mut self.builder, alphabet, symbol)?))
     }
 
-    /// A letter that is italic by itself.
+    /// Puts a letter that is italic by default.
     pub(crate) fn letter(
         &mut self,
         alphabet: Option<Alphabet>,
@@ -61,7 +62,7 @@ impl<'a> Parser<'a> {
         Ok(State::Core(put_letter(&mut self.builder, alphabet, c)?))
     }
 
-    /// A letter that is upright by itself.
+    /// Puts a letter that is upright by default.
     pub(crate) fn upright_letter(
         &mut self,
         alphabet: Option<Alphabet>,
@@ -76,7 +77,7 @@ impl<'a> Parser<'a> {
         Ok(State::Core(put_upright_letter(&mut self.builder, alphabet, c)?))
     }
 
-    /// The name of a function.
+    /// Puts the name of a function.
     pub(crate) fn function_name(
         &mut self,
         limits: LimitPlace,
@@ -96,7 +97,7 @@ impl<'a> Parser<'a> {
         }))
     }
 
-    /// A space, in eighteenths of an em.
+    /// Puts a space of this width, in eighteenths of an em.
     pub(crate) fn space(&mut self, width: i8) -> Result<State, AllocError>
         requires { CanBegin 0 self.old }
         ensures holds { LeadsOn
@@ -108,7 +109,7 @@ impl<'a> Parser<'a> {
         Ok(State::Core(Core::new(Kind::Blank, false)))
     }
 
-    /// A number that begins with this digit: digits, and a point between digits.
+    /// Puts the number that begins with this digit: digits, and a point between digits.
     pub(crate) fn number(
         &mut self,
         alphabet: Option<Alphabet>,
@@ -129,7 +130,8 @@ impl<'a> Parser<'a> {
         Ok(State::Core(number()))
     }
 
-    /// A character that is a sign or a letter, or any other, which is a letter.
+    /// Puts a character that is a sign or a letter. Any other character is put as a letter.
+    #[inline(always)]
     pub(crate) fn other_character(
         &mut self,
         alphabet: Option<Alphabet>,
@@ -148,7 +150,7 @@ impl<'a> Parser<'a> {
         }
     }
 
-    /// A point, which was taken: it begins a number if a digit stands next.
+    /// Puts a point, which was taken, or the number that it begins if a digit comes next.
     pub(crate) fn point(&mut self, alphabet: Option<Alphabet>) -> Result<State, AllocError>
         requires { CanBegin 0 self.old }
         ensures holds { LeadsOn (PointBegins alphabet) self.old self.new result }
@@ -164,7 +166,7 @@ impl<'a> Parser<'a> {
     }
 }
 
-/// What a number is to its neighbours.
+/// Returns what a number is to its neighbours.
 pub(crate) fn number() -> Core
     ensures { (x : Element) → core_with result x ≡ core (atom (Plain Ordinary) false x) }
 {
@@ -186,7 +188,7 @@ pub(crate) fn begin_number(
     builder.character(Token::Mn, Attributes::plain(), digit)
 }
 
-/// Appends a digit or a point to the number that was begun.
+/// Appends a digit or a point to the unfinished number.
 fn append_digit(
     builder: &mut Builder,
     alphabet: Option<Alphabet>,
@@ -201,7 +203,7 @@ fn append_digit(
     Ok(())
 }
 
-/// Appends the digits that stand next to the number that was begun.
+/// Appends the digits that come next in the input to the unfinished number.
 fn digits(
     input: &mut Input,
     builder: &mut Builder,
@@ -219,7 +221,7 @@ fn digits(
     Ok(())
 }
 
-/// A digit or a point, as it is or in an alphabet.
+/// Returns a digit or a point, as it is or in an alphabet.
 fn digit_in(alphabet: Option<Alphabet>, digit: char) -> char
     ensures { result ≡ digit_in (option_map alphabet_of alphabet) digit }
 {

@@ -1,4 +1,4 @@
-//! Fractions whose delimiters, line and style stand next.
+//! Fractions whose delimiters, line and style come next.
 ghost use Rattle.std.specs.Prelude.{IfOk, option_map};
 ghost use Rattle.latex2mathml_tex_grammar.specs.Refusal.{MissingArgument, refusal_at};
 ghost use Rattle.latex2mathml_tex_grammar.specs.Rules;
@@ -19,7 +19,7 @@ use latex2mathml_tex_units::scanning::{Argument, Spot};
 use std::alloc::AllocError;
 
 impl<'a> Parser<'a> {
-    /// A fraction as its author says. Its parts are smaller.
+    /// Begins a fraction that is drawn as its author says. Its parts are smaller.
     pub(crate) fn general_fraction(
         &mut self,
         place: usize,
@@ -38,7 +38,7 @@ impl<'a> Parser<'a> {
         self.open(Frame::First(First::Outlined(outline), place, context.styled(style)))
     }
 
-    /// Takes what says how a fraction is drawn. Where it does not stand next, the formula is refused, and nothing is returned.
+    /// Takes what says how a fraction is drawn. If it does not come next, the formula is refused and `None` is returned.
     fn take_outline(&mut self, place: usize) -> Result<Option<Outline>, AllocError>
         ensures { IfOk result (λ outline.
             TookBy (an_outline place) self.old self.new (option_map outline_of outline)) }
@@ -75,7 +75,7 @@ impl<'a> Parser<'a> {
         None
     }
 
-    /// Takes the width of a line, and returns whether there is one.
+    /// Takes the width of a line, and returns whether there is a line.
     fn take_line(&mut self, place: usize) -> Result<Option<bool>, AllocError>
         ensures { IfOk result (λ has_line. TookBy (a_line place) self.old self.new has_line) }
     {

@@ -1,4 +1,4 @@
-//! Rows: how each atom of one begins, how it is put behind the others, and how a row ends.
+//! Rows: how each of their atoms begins, how it is put after the others, and how a row ends.
 ghost use Rattle.std.specs.Prelude.{◌≡◌, ◌≢◌, ◌+◌, ◌≤◌, ℕ, false};
 ghost use Rattle.latex2mathml_tex_grammar.specs.{Makes.no_scripts, Meaning.Beside, Starts.empty_base, Starts.ends};
 ghost use Rattle.latex2mathml_tex_commands.specs.Meanings.{change_of};
@@ -74,7 +74,7 @@ impl<'a> Parser<'a> {
         }
     }
 
-    /// Begins an atom of a row with this unit, which was taken and is no mark; or changes what stands after it.
+    /// Begins an atom of a row with this unit, which was taken and is not a mark, or changes what follows it.
     fn begin_unmarked(&mut self, unit: Unit<'a>) -> Result<State, AllocError>
         requires begin { CanBegin 0 self.old }
         requires row { Awaits atom_made self.old }
@@ -93,7 +93,7 @@ impl<'a> Parser<'a> {
         }
     }
 
-    /// Changes what stands after this place in the innermost row.
+    /// Changes what follows this place in the innermost row.
     fn change(&mut self, change: Change, place: usize) -> Result<State, AllocError>
         requires begin { CanBegin 0 self.old }
         requires row { Awaits atom_made self.old }
@@ -133,7 +133,7 @@ impl<'a> Parser<'a> {
         }
     }
 
-    /// Begins with a mark, which was taken: it stands on a row without atoms.
+    /// Begins with a mark, which was taken. Its base is a row without atoms.
     fn begin_scripts(&mut self, mark: Mark, place: usize) -> Result<State, AllocError>
         requires begin { CanBegin 0 self.old }
         requires row { Awaits atom_made self.old }
@@ -154,7 +154,7 @@ impl<'a> Parser<'a> {
         )
     }
 
-    /// A delimiter within others. It takes no scripts.
+    /// Puts a delimiter within others. It takes no scripts.
     fn divider(&mut self) -> Result<State, AllocError>
         requires begin { CanBegin 0 self.old }
         requires row { Awaits atom_made self.old }
@@ -168,7 +168,8 @@ impl<'a> Parser<'a> {
         self.put(Core::new(Kind::Divider, false))
     }
 
-    /// Puts an atom, whose element is uppermost, behind the others of the innermost row.
+    /// Puts an atom, whose element is uppermost, after the others of the innermost row.
+    #[inline(always)]
     pub(crate) fn put(&mut self, core: Core) -> Result<State, AllocError>
         requires { CanMake atom_made 1 self.old }
         ensures holds { LeadsOn (MadeAtom core) self.old self.new result }
@@ -180,7 +181,7 @@ impl<'a> Parser<'a> {
         Ok(State::Next)
     }
 
-    /// Ends a row that was read in this style, where the text ends, at this place. Its frame was taken off.
+    /// Ends a row that was read in this style, where the text ends, at `at`. Its frame was taken off the stack.
     fn end_of_text(
         &mut self,
         ending: Ending,
@@ -207,7 +208,7 @@ impl<'a> Parser<'a> {
         Ok(self.refuse(kind, place))
     }
 
-    /// Ends the row of the whole formula. Its frame was taken off.
+    /// Ends the row of the whole formula. Its frame was taken off the stack.
     fn end_formula(&mut self, style: Style, row: Row) -> Result<State, AllocError>
         requires elements { HasElements (row_count row) self.old }
         ensures holds { LeadsOn (EndsFormula style row) self.old self.new result }
@@ -217,8 +218,8 @@ impl<'a> Parser<'a> {
         Ok(State::End(row.count))
     }
 
-    /// Ends the rows of the whole text in a cell that was read in this style, where the text ends. The frame of the cell was
-    /// taken off.
+    /// Ends the rows of the whole text where the text ends, in a cell that was read in this style. The frame of the cell was
+    /// taken off the stack.
     fn end_last_cell(
         &mut self,
         table: Table,
@@ -237,7 +238,7 @@ impl<'a> Parser<'a> {
         self.end_cells(table, row.count, at)
     }
 
-    /// Ends a row that was read in this style, with this unit, which was taken. Its frame was taken off.
+    /// Ends a row that was read in this style, with this unit, which was taken. Its frame was taken off the stack.
     fn end_row(
         &mut self,
         ending: Ending,
@@ -256,7 +257,7 @@ impl<'a> Parser<'a> {
         self.close(ending, place, row, unit)
     }
 
-    /// Ends a row that is finished.
+    /// Ends a finished row.
     fn close(
         &mut self,
         ending: Ending,
@@ -297,7 +298,7 @@ impl<'a> Parser<'a> {
             Ending::Delimiters(opening) => self.close_delimiters(opening, row),
             Ending::Formula(words) => {
                 put_row(&mut self.builder, row.count)?;
-                // all elements of words are among those of the builder, so their number has room in a `usize`
+                // all elements of words are among those of the builder, so their number fits in a `usize`
                 let _ = self.builder.len();
                 Ok(State::Words(Words {
                     count: words.count + 1,

@@ -1,4 +1,4 @@
-//! Scripts: what stands after an atom.
+//! Scripts: what follows an atom.
 ghost use Rattle.std.specs.Prelude.{◌≡◌, ◌+◌, ◌≤◌, ◌∷◌, IfOk, None, OnOk, Some, drop, length, option_map};
 ghost use Rattle.latex2mathml_elements.specs.{Attributes.plain, Element.Element, Element.pair, Element.triple};
 ghost use Rattle.latex2mathml_builder.specs.Built.{elements_in};
@@ -24,16 +24,17 @@ use latex2mathml_tex_units::error::TexErrorKind;
 use latex2mathml_tex_units::unit::{Next, Piece};
 use std::alloc::AllocError;
 
-/// What goes on with an atom.
+/// What continues an atom.
 #[derive(Clone, Copy)]
 pub(crate) enum Mark {
     Prime,
     Script(Side),
-    /// Where its limits are to stand.
+    /// Where its limits are to be placed.
     Limits(LimitPlace),
 }
 
-/// The mark that a unit is, if it is one.
+/// Returns the mark that a unit is, if it is one.
+#[inline(always)]
 pub(crate) fn mark_of(piece: Piece) -> Option<Mark>
     ensures { option_map mark_model result ≡ Starts.mark_of (piece_of piece.entry) }
 {
@@ -50,6 +51,7 @@ pub(crate) fn mark_of(piece: Piece) -> Option<Mark>
 
 impl<'a> Parser<'a> {
     /// Goes on after an atom with these scripts: with a mark, or by putting it in its row.
+    #[inline(always)]
     pub(crate) fn go_on(&mut self, core: Core, scripts: Scripts) -> Result<State, AllocError>
         requires { Ready self.old (State.Atom core scripts) }
         ensures holds { LeadsOn (HoldsIn (State.Atom core scripts)) self.old self.new result }
@@ -97,7 +99,7 @@ impl<'a> Parser<'a> {
                 if scripts.above {
                     return Ok(self.refuse(TexErrorKind::SecondSuperscript, place));
                 }
-                // no text is so long that the number has no room
+                // no text is long enough for the number to overflow
                 let Some(primes) = scripts.primes.checked_add(1) else {
                     return Err(AllocError);
                 };
@@ -157,7 +159,7 @@ impl<'a> Parser<'a> {
     }
 }
 
-/// Why a second script on this side is refused.
+/// Returns why a second script on this side is refused.
 fn second_on(side: Side) -> TexErrorKind
     ensures { result ≡ second_on side }
 {
@@ -167,7 +169,8 @@ fn second_on(side: Side) -> TexErrorKind
     }
 }
 
-/// An atom with its scripts, whose elements are uppermost, in this style.
+/// Makes an atom with its scripts, whose elements are uppermost, in this style.
+#[inline(always)]
 fn scripted(
     builder: &mut Builder,
     style: Style,
@@ -196,7 +199,7 @@ fn scripted(
     })
 }
 
-/// The scripts with a mark of the primes as the superscript, if they have no other one.
+/// Returns the scripts with a mark of the primes as the superscript, if they have no other superscript.
 fn with_primes(builder: &mut Builder, scripts: Scripts) -> Result<Scripts, AllocError>
     ensures scripts { IfOk result (λ whole. scripts_with whole (elements_in builder.new)
         ≡ record (scripts_with scripts (elements_in builder.old)) {
@@ -217,7 +220,7 @@ fn with_primes(builder: &mut Builder, scripts: Scripts) -> Result<Scripts, Alloc
     })
 }
 
-/// Keeps the browser from moving the limits of the base of these scripts, where they are to stay.
+/// Keeps the browser from moving the limits of the base of these scripts, if they are to stay.
 fn fix_base(builder: &mut Builder, scripts: Scripts)
     ensures { elements_in builder.new
         ≡ changed_at (Makes.fixed_base (limit_place_of scripts.limits)) (script_count scripts)
@@ -250,7 +253,7 @@ fn put_scripts(builder: &mut Builder, is_stacked: bool, scripts: Scripts) -> Res
     }
 }
 
-/// The element of a base with a subscript.
+/// Returns the element of a base with a subscript.
 fn pair_below(is_stacked: bool) -> Pair
     ensures { (base below : Element) → Makes.with_scripts is_stacked base (Some below) None
         ≡ pair (pair_of result) plain base below }
@@ -258,7 +261,7 @@ fn pair_below(is_stacked: bool) -> Pair
     if is_stacked { Pair::Munder } else { Pair::Msub }
 }
 
-/// The element of a base with a superscript.
+/// Returns the element of a base with a superscript.
 fn pair_above(is_stacked: bool) -> Pair
     ensures { (base above : Element) → Makes.with_scripts is_stacked base None (Some above)
         ≡ pair (pair_of result) plain base above }
@@ -266,7 +269,7 @@ fn pair_above(is_stacked: bool) -> Pair
     if is_stacked { Pair::Mover } else { Pair::Msup }
 }
 
-/// The element of a base with a subscript and a superscript.
+/// Returns the element of a base with a subscript and a superscript.
 fn triple_for(is_stacked: bool) -> Triple
     ensures { (base below above : Element)
         → Makes.with_scripts is_stacked base (Some below) (Some above)

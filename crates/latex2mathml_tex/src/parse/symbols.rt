@@ -1,4 +1,4 @@
-//! What is put for a symbol: one element, which is all of an atom.
+//! What is put for a symbol: one element, which is a whole atom.
 ghost use Rattle.std.specs.Prelude.{◌≡◌, true, IfOk, Some, option_map};
 ghost use Rattle.latex2mathml_attributes.specs.Names.{attributes_of, element_with_text, form_of};
 ghost use Rattle.latex2mathml_elements.specs.{Attributes.plain, Element.Mo, Element.token};
@@ -19,6 +19,7 @@ use latex2mathml_tex_commands::meaning::{Alphabet, Class, LimitPlace, Symbol};
 use std::alloc::AllocError;
 
 /// Puts a character as it is, or in an alphabet.
+#[inline(always)]
 pub(crate) fn put_symbol(
     builder: &mut Builder,
     alphabet: Option<Alphabet>,
@@ -37,7 +38,7 @@ pub(crate) fn put_symbol(
     }
 }
 
-/// Puts a letter that is italic by itself.
+/// Puts a letter that is italic by default.
 pub(crate) fn put_letter(
     builder: &mut Builder,
     alphabet: Option<Alphabet>,
@@ -73,7 +74,7 @@ fn put_letter_in(builder: &mut Builder, alphabet: Alphabet, c: char) -> Result<C
     }
 }
 
-/// Puts a letter that is upright by itself.
+/// Puts a letter that is upright by default.
 pub(crate) fn put_upright_letter(
     builder: &mut Builder,
     alphabet: Option<Alphabet>,
@@ -101,7 +102,7 @@ fn put_sign(builder: &mut Builder, class: Class, c: char) -> Result<Core, AllocE
     put_character(builder, Token::Mo, sign_attributes(class, c), c, sign)
 }
 
-/// Puts an operator that is high.
+/// Puts a high operator.
 fn put_operator(builder: &mut Builder, c: char, limits: LimitPlace) -> Result<Core, AllocError>
     ensures { IfOk result (PutsCore (Makes.operator (limit_place_of limits)
         (atom (Plain Operator) true (token Mo plain (Makes.text c)))) builder.old builder.new) }
@@ -114,7 +115,7 @@ fn put_operator(builder: &mut Builder, c: char, limits: LimitPlace) -> Result<Co
     put_character(builder, Token::Mo, Attributes::plain(), c, operator)
 }
 
-/// Puts an element that holds a character, and is all of an atom.
+/// Puts an element that holds a character and is a whole atom.
 fn put_character(
     builder: &mut Builder,
     tag: Token,
@@ -163,7 +164,7 @@ fn sign_attributes(class: Class, c: char) -> Attributes
     }
 }
 
-/// Of a sign that opens or closes, by its form.
+/// Returns the attributes of a sign that opens or closes, by its form.
 fn delimiter_attributes(form: Form, c: char) -> Attributes
     ensures { attributes_of result ≡ Makes.delimiter_attributes (form_of form) c }
 {
@@ -183,7 +184,7 @@ fn delimiter_attributes(form: Form, c: char) -> Attributes
     }
 }
 
-/// The signs at which browsers leave a space of their own.
+/// Whether browsers leave a space of their own at the sign.
 fn leaves_space(c: char) -> bool
     ensures { result ≡ Makes.leaves_space c }
 {
@@ -202,14 +203,14 @@ fn sign_kind(class: Class, c: char) -> Kind
     }
 }
 
-/// Plus, minus, and both of both.
+/// Whether the sign is plus, minus, plus-minus or minus-plus.
 fn is_plus_or_minus(c: char) -> bool
     ensures { result ≡ Makes.is_plus_or_minus c }
 {
     matches!(c, '+' | '−' | '±' | '∓')
 }
 
-/// The signs that MathML stretches, but TeX does not.
+/// Whether MathML stretches the sign but TeX does not.
 fn stretches(c: char) -> bool
     ensures { result ≡ Makes.stretches c }
 {

@@ -1,4 +1,4 @@
-//! Tables: how each cell begins and ends, and what is made of them.
+//! Tables: how each cell begins and ends, and what is made of the cells.
 ghost use Rattle.std.specs.Prelude.{◌≡◌, ◌+◌, ◌∷◌, ◌<◌, ◌≤◌, IfOk, MatchBool, OnOk, drop, length, option_map, reverse, string_bytes, take};
 ghost use Rattle.latex2mathml_builder.specs.{Built.elements_in, Stacks.table_with};
 ghost use Rattle.latex2mathml_attributes.specs.Columns.{columns_of};
@@ -30,7 +30,7 @@ use latex2mathml_tex_units::scanning::{Argument, Spot};
 use latex2mathml_tex_units::unit::{Piece, Unit};
 use std::alloc::AllocError;
 
-/// What ends a cell.
+/// What the end of a cell does.
 #[derive(Clone, Copy)]
 enum CellEnd {
     PartsCells,
@@ -39,7 +39,7 @@ enum CellEnd {
 }
 
 impl<'a> Parser<'a> {
-    /// Takes the text that is found from this spot on. Where it does not stand here, the formula is refused, and nothing is
+    /// Takes the text that is found from this spot on. If it is not here, the formula is refused and `None` is
     /// returned.
     pub(crate) fn take_text(
         &mut self,
@@ -113,7 +113,7 @@ impl<'a> Parser<'a> {
         self.open(Frame::Row(Ending::Cell(table), place, context, table.begun_cell()))
     }
 
-    /// Ends a cell with this unit, which was taken. The frame of the cell was taken off.
+    /// Ends a cell with this unit, which was taken. The frame of the cell was taken off the stack.
     pub(crate) fn close_cell(
         &mut self,
         table: Table,
@@ -128,7 +128,7 @@ impl<'a> Parser<'a> {
         match cell_end(unit.piece) {
             CellEnd::PartsCells => {
                 put_row(&mut self.builder, row.count)?;
-                // all cells are among the elements of the builder, so their number has room in a `usize`
+                // all cells are among the elements of the builder, so their number fits in a `usize`
                 let _ = self.builder.len();
                 let cells = table.cells + 1;
                 self.begin_cell(Table { cells, ..table }, place)
@@ -151,7 +151,7 @@ impl<'a> Parser<'a> {
         }
     }
 
-    /// Ends a table at this place, behind its last cell, which has so many elements.
+    /// Ends a table at this place, after its last cell, which has `count` elements.
     pub(crate) fn end_cells(
         &mut self,
         table: Table,
@@ -162,7 +162,7 @@ impl<'a> Parser<'a> {
         ensures holds { LeadsOn (EndsCells table count at) self.old self.new result }
         ensures step { Advances 5 self.old self.new result }
     {
-        // an empty last row is none
+        // an empty last row does not count
         if is_no_row(count, table) {
             return self.end_table(table.kind, table.columns, table.rows, at);
         }
@@ -172,7 +172,7 @@ impl<'a> Parser<'a> {
         self.end_table(table.kind, table.columns, rows, at)
     }
 
-    /// Ends a table of so many rows, whose end stands at this place and was taken.
+    /// Ends a table of this many rows, whose end is at this place and was taken.
     fn end_table(
         &mut self,
         kind: TableKind,
@@ -194,7 +194,7 @@ impl<'a> Parser<'a> {
         }
     }
 
-    /// Ends an environment, whose name must stand next.
+    /// Ends an environment, whose name must come next.
     fn end_environment(
         &mut self,
         environment: &'static Environment,
@@ -219,7 +219,7 @@ impl<'a> Parser<'a> {
         Ok(self.refuse(TexErrorKind::OtherName, at))
     }
 
-    /// Makes a table of so many rows, whose cells have this style.
+    /// Makes a table of this many rows, whose cells have this style.
     fn make_table(
         &mut self,
         delimiters: Option<(Option<char>, Option<char>)>,
@@ -240,7 +240,7 @@ impl<'a> Parser<'a> {
     }
 }
 
-/// Makes a table of so many elements, which are its rows, between its delimiters, if it has any.
+/// Makes a table of the `rows` uppermost elements, which are its rows, between its delimiters, if it has any.
 fn put_table(
     builder: &mut Builder,
     delimiters: Option<(Option<char>, Option<char>)>,
@@ -263,7 +263,7 @@ fn put_table(
     Ok(())
 }
 
-/// Whether a last row is none: it is one empty cell, and other rows stand before it.
+/// Whether a last row does not count: it is one empty cell, and other rows come before it.
 fn is_no_row(count: usize, table: Table) -> bool
     ensures { MatchBool result ((count ≡ 0) × (table.cells ≡ 0) × (0 < table.rows))
         (count ≡ 0 → table.cells ≡ 0 → table.rows ≡ 0) }
@@ -271,7 +271,7 @@ fn is_no_row(count: usize, table: Table) -> bool
     count == 0 && table.cells == 0 && table.rows > 0
 }
 
-/// What a unit does that ends a cell.
+/// Returns what a unit that ends a cell does.
 fn cell_end(piece: Piece) -> CellEnd
     ensures { cell_end_of result ≡ cell_end (piece_of piece.entry) }
 {
@@ -282,7 +282,7 @@ fn cell_end(piece: Piece) -> CellEnd
     }
 }
 
-/// Makes a row of the cell of so many elements and so many cells before it.
+/// Makes a row of the cell of `count` elements and the `cells` cells before it.
 fn put_last(builder: &mut Builder, count: usize, cells: usize) -> Result<(), AllocError>
     requires { count + cells ≤ length (elements_in builder.old) }
     ensures { OnOk result (elements_in builder.new
@@ -295,7 +295,7 @@ fn put_last(builder: &mut Builder, count: usize, cells: usize) -> Result<(), All
     builder.container(Container::Mrow, Attributes::plain(), cells + 1)
 }
 
-/// The style that a table says, where its cells have the first one, and the second stands around it.
+/// Returns the style that a table states, where its cells have the first style and the second is the style around it.
 fn said_style(style: Style, around: Style) -> Option<MathStyle>
     ensures { option_map math_style_of result
         ≡ Tables.said_style (style_of style) (style_of around) }

@@ -1,4 +1,4 @@
-//! Lengths and colors that stand next.
+//! Lengths and colors that come next.
 ghost use Rattle.std.specs.Prelude.{IfOk, option_map};
 ghost use Rattle.latex2mathml_attributes.specs.Arounds.{color_of};
 ghost use Rattle.latex2mathml_tex_grammar.specs.Colors;
@@ -17,8 +17,8 @@ use latex2mathml_tex_units::scanning::{Argument, Spot};
 use std::alloc::AllocError;
 
 impl<'a> Parser<'a> {
-    /// Takes the length that is found from this spot on, in thousandths of an em. Where there is none, or where it is too large,
-    /// the formula is refused, and nothing is returned.
+    /// Takes the length that is found from this spot on, in thousandths of an em. If there is none, or if it is too large,
+    /// the formula is refused and `None` is returned.
     pub(crate) fn take_length(
         &mut self,
         place: usize,
@@ -37,7 +37,7 @@ impl<'a> Parser<'a> {
         Ok(Some(width))
     }
 
-    /// Takes the color whose name stands next in braces. Where there is none, the formula is refused, and nothing is returned.
+    /// Takes the color whose name comes next in braces. If there is none, the formula is refused and `None` is returned.
     pub(crate) fn take_color(&mut self, place: usize) -> Result<Option<Color>, AllocError>
         ensures { IfOk result (λ color. TookValue place (BeforeArgument ColorName) Colors.color_of
             (λ name. refusal_at (UnknownColor name) place) self.old self.new

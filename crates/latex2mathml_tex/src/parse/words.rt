@@ -1,4 +1,4 @@
-//! Words: what stands in `\text` and its like.
+//! Words: what is in `\text` and the like.
 ghost use Rattle.std.specs.Prelude.{◌≡◌, ◌≢◌, ◌==◌, ◌||◌, false, true, IfOk, OnOk, MatchOption, Some, None, option_map};
 ghost use Rattle.std.specs.Str.{byte};
 ghost use Rattle.latex2mathml_tex_grammar.specs.Makes;
@@ -29,7 +29,7 @@ use latex2mathml_tex_units::unit::{Next, Piece, Unit};
 use std::alloc::AllocError;
 
 impl<'a> Parser<'a> {
-    /// Reads one part of words behind these.
+    /// Reads one part of words after these.
     pub(crate) fn word(
         &mut self,
         words: Words,
@@ -55,7 +55,7 @@ impl<'a> Parser<'a> {
         }
     }
 
-    /// Begins the part of words that a unit is, which was taken.
+    /// Begins a part of words with this unit, which was taken.
     fn begin_word(
         &mut self,
         words: Words,
@@ -82,7 +82,7 @@ impl<'a> Parser<'a> {
         }
     }
 
-    /// Begins the part of words that a character is.
+    /// Begins a part of words with a character.
     fn character_in_words(
         &mut self,
         words: Words,
@@ -112,7 +112,7 @@ impl<'a> Parser<'a> {
         self.show(words, word_character(alphabet, c))
     }
 
-    /// Begins the part of words that a command is.
+    /// Begins a part of words with a command.
     fn word_command(
         &mut self,
         words: Words,
@@ -151,7 +151,7 @@ impl<'a> Parser<'a> {
         }
     }
 
-    /// Refuses a command that cannot stand in words.
+    /// Refuses a command that cannot appear in words.
     #[cold]
     fn refuse_command(&mut self, name: &str, place: usize) -> Result<State, AllocError>
         ensures state { IfOk result (λ state. state ≡ State.Refused) }
@@ -208,7 +208,7 @@ impl<'a> Parser<'a> {
         }))
     }
 
-    /// Puts a sign or a letter behind words.
+    /// Appends a sign or a letter to words.
     fn show_symbol(&mut self, words: Words, symbol: Symbol) -> Result<State, AllocError>
         requires { CanMake words_made words.count self.old }
         ensures holds { LeadsOn
@@ -227,7 +227,7 @@ impl<'a> Parser<'a> {
         }))
     }
 
-    /// Makes words the atom of their command.
+    /// Makes the words of a command its atom.
     fn end_text(&mut self, words: Words) -> Result<State, AllocError>
         requires { CanMake core_made words.count self.old }
         ensures holds { LeadsOn
@@ -245,14 +245,14 @@ impl<'a> Parser<'a> {
     }
 }
 
-/// Whether the character cannot stand in words.
+/// Whether the character cannot appear in words.
 fn is_no_word(c: char) -> bool
     ensures { result ≡ (c == byte "_" || c == byte "^" || c == byte "&" || c == byte "#") }
 {
     matches!(c, '_' | '^' | '&' | '#')
 }
 
-/// A character of words, in an alphabet if there is one. Quotation marks are those of print.
+/// Returns a character of words, in an alphabet if there is one, or else with quotation marks as in print.
 fn word_character(alphabet: Option<Alphabet>, c: char) -> char
     ensures { result ≡ words.word_character (option_map alphabet_of alphabet) c }
 {

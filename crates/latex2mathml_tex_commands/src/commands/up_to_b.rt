@@ -7,7 +7,7 @@ use crate::meaning::{
 };
 use latex2mathml_attributes::attributes::{Side, Size, Stretch};
 
-/// The entries.
+/// Returns the entries.
 #[tactic(auto, unfolding(crate::specs::Parts::entries_in, latex2mathml_tex_grammar::specs::Commands::command_entries, latex2mathml_tex_grammar::specs::CommandsUpToL::commands_up_to_l, latex2mathml_tex_grammar::specs::CommandsFromM::commands_from_m))]
 pub(crate) fn entries() -> &'static [Entry]
     ensures { map entry_of result.now ≡ entries_in 0 }

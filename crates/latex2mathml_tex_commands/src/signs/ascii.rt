@@ -5,7 +5,7 @@ ghost use Rattle.latex2mathml_tex_commands.specs.Signs.{ascii_symbols};
 
 use crate::meaning::{Class, Symbol};
 
-/// What each ASCII character is, if it is a sign.
+/// Returns what each ASCII character is, if it is a sign.
 pub(crate) fn symbols() -> &'static [Option<Symbol>]
     ensures { map (option_map Meanings.symbol_of) result.now ≡ ascii_symbols }
 {

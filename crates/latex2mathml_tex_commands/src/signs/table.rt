@@ -6,7 +6,7 @@ ghost use Rattle.latex2mathml_tex_commands.specs.Signs.{entry_of};
 use crate::meaning::{Class, Symbol};
 use crate::signs::SignEntry;
 
-/// The entries.
+/// Returns the entries.
 #[tactic(auto, unfolding(latex2mathml_tex_grammar::specs::Signs::sign_entries))]
 pub(crate) fn entries() -> &'static [SignEntry]
     ensures { map entry_of result.now ≡ sign_entries }

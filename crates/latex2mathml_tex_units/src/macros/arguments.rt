@@ -8,7 +8,7 @@ use crate::unit::{Fault, Next, Piece, Unit};
 use std::alloc::Global;
 
 impl<'a> Pending<'a> {
-    /// Takes the units of a group that begins at this place. Its opening brace was taken.
+    /// Takes the units of a group that begins at this place. Its opening brace has been taken.
     fn take_group(&mut self, alloc: Global, place: usize) -> Result<Vec<Unit<'a>>, Halt>
         ensures { Reads result units_in (λ l. group place l 0) self.old self.new }
     {
@@ -35,7 +35,7 @@ impl<'a> Pending<'a> {
         }
     }
 
-    /// Takes an argument of what stands at this place.
+    /// Takes an argument of the macro or definition at this place.
     pub(crate) fn take_argument(
         &mut self,
         alloc: Global,
@@ -59,7 +59,7 @@ impl<'a> Pending<'a> {
         }
     }
 
-    /// Takes so many arguments of what stands at this place.
+    /// Takes `count` arguments of the macro or definition at this place.
     pub(crate) fn take_arguments(
         &mut self,
         alloc: Global,

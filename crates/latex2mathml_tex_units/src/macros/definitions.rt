@@ -9,12 +9,12 @@ use crate::macros::pending::Pending;
 use crate::unit::{Fault, Piece, Unit};
 use std::alloc::Global;
 
-/// The words that define.
+/// The words that begin definitions.
 #[derive(Clone, Copy)]
 pub(crate) enum Word {
     /// `\newcommand` and `\renewcommand`.
     NewCommand,
-    /// `\providecommand`, which leaves a macro that is there.
+    /// `\providecommand`, which keeps a macro that exists.
     ProvideCommand,
     /// `\def`
     Def,
@@ -22,7 +22,7 @@ pub(crate) enum Word {
     DeclareOperator,
 }
 
-/// The word of this name.
+/// Returns the word with this name.
 pub(crate) fn word_named(name: &str) -> Option<Word>
     ensures { option_map word_of result ≡ word_named name.now }
 {
@@ -46,7 +46,7 @@ pub(crate) struct Definition<'a> {
     pub(crate) stands_for: Macro<'a>,
 }
 
-/// Whether the units are white space alone.
+/// Whether the units are only white space.
 fn are_space(units: &[Unit]) -> bool
     ensures { result ≡ are_space (map unit_of units.now) }
 {
@@ -58,7 +58,7 @@ fn are_space(units: &[Unit]) -> bool
     true
 }
 
-/// The one command that these units are, white space aside: its name.
+/// Returns the name of the one command that these units are, ignoring white space.
 fn name_in<'a>(units: &[Unit<'a>]) -> Option<&'a str>
     ensures { option_map (λ name. name.now) result ≡ name_in (map unit_of units.now) }
 {
@@ -90,7 +90,7 @@ impl<'a> Pending<'a> {
         }
     }
 
-    /// Takes how many arguments there are, between brackets.
+    /// Takes the number of arguments, which is in brackets.
     fn take_number(&mut self, place: usize) -> Result<usize, Halt>
         ensures { Reads result (λ n. n) (number_of place) self.old self.new }
     {
@@ -109,7 +109,7 @@ impl<'a> Pending<'a> {
         Ok(number)
     }
 
-    /// Takes `#1`, `#2` and so on: how many there are.
+    /// Takes `#1`, `#2` and so on. Returns how many there are.
     fn take_parameters(&mut self, place: usize) -> Result<usize, Halt>
         ensures { Reads result (λ n. n) (parameters place 9 0) self.old self.new }
     {
@@ -126,7 +126,7 @@ impl<'a> Pending<'a> {
         Ok(9)
     }
 
-    /// Takes the body of a macro with so many arguments.
+    /// Takes the body of a macro with `arity` arguments.
     fn take_body(
         &mut self,
         alloc: Global,
@@ -142,7 +142,7 @@ impl<'a> Pending<'a> {
         }
     }
 
-    /// Whether another sign than a brace stands next.
+    /// Whether a sign other than a brace comes next.
     fn is_delimited(&self) -> bool
         ensures { result ≡ is_delimited (pending_units self.now) }
     {
@@ -152,7 +152,7 @@ impl<'a> Pending<'a> {
         }
     }
 
-    /// Takes such a body, which is between braces.
+    /// Takes the body of a macro with `arity` arguments, which is in braces.
     fn take_body_in_braces(
         &mut self,
         alloc: Global,
@@ -168,7 +168,7 @@ impl<'a> Pending<'a> {
         self.take_body(alloc, place, arity)
     }
 
-    /// Takes what stands behind `\newcommand` and its like.
+    /// Takes what follows `\newcommand` and the like.
     fn take_command_definition(
         &mut self,
         alloc: Global,
@@ -186,7 +186,7 @@ impl<'a> Pending<'a> {
         })
     }
 
-    /// Takes what stands behind `\def`.
+    /// Takes what follows `\def`.
     fn take_plain_definition(&mut self, alloc: Global, place: usize) -> Result<Definition<'a>, Halt>
         ensures { Reads result definition_in (plain_definition place) self.old self.new }
     {
@@ -199,7 +199,7 @@ impl<'a> Pending<'a> {
         })
     }
 
-    /// Takes what stands behind `\DeclareMathOperator`.
+    /// Takes what follows `\DeclareMathOperator`.
     fn take_operator_definition(
         &mut self,
         alloc: Global,
@@ -217,7 +217,7 @@ impl<'a> Pending<'a> {
         })
     }
 
-    /// Takes the definition behind a word at this place.
+    /// Takes the definition that follows a word at this place.
     pub(crate) fn take_definition(
         &mut self,
         alloc: Global,

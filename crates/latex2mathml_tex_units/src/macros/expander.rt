@@ -20,7 +20,7 @@ const MOST_USES: usize = 1000;
 /// How many units can be put in place of them.
 const MOST_UNITS: usize = 100_000;
 
-/// Units, with the macros that hold from here on.
+/// Units that are still to be expanded, with the macros that hold from here on.
 #[derive(Drop)]
 pub struct Expander<'m, 'a> {
     pub(crate) alloc: Global,
@@ -35,7 +35,7 @@ pub struct Expander<'m, 'a> {
 }
 
 impl<'m, 'a> Expander<'m, 'a> {
-    /// All units of a text, where these macros hold.
+    /// Creates an expander of all units of a text, in which these macros hold.
     pub fn new(alloc: Global, macros: &'m Macros<'a>, text: &'a str) -> Expander<'m, 'a>
         ensures { expanded_left result
             ≡ expansion (macros_in macros.now) most_uses most_units
@@ -51,7 +51,7 @@ impl<'m, 'a> Expander<'m, 'a> {
         }
     }
 
-    /// Takes the expanded unit that stands next, if one does.
+    /// Takes the next expanded unit, if there is one.
     pub fn take(&mut self) -> Result<Next<'a>, AllocError>
         ensures { IfOk result (λ next.
             Takes next (expanded_left self.old) (expanded_left self.new)) }
@@ -78,7 +78,7 @@ impl<'m, 'a> Expander<'m, 'a> {
         }
     }
 
-    /// Nothing but this refusal is left.
+    /// Leaves nothing but this refusal.
     fn halted(&mut self, halt: Halt) -> Result<Next<'a>, AllocError>
         ensures { (l : units.Units) → IsHalted halt l
             → IfOk result (λ next. Takes next l (expanded_left self.new)) }
@@ -92,8 +92,8 @@ impl<'m, 'a> Expander<'m, 'a> {
         }
     }
 
-    /// Replaces the macro of this name, which was taken at this place, or takes the definition whose word the name is.
-    /// Returns whether it is one of the two.
+    /// Replaces the macro with this name, which was taken at this place, or takes the definition that begins with this name.
+    /// Returns whether the name is one of the two.
     fn turn(&mut self, name: &'a str, place: usize) -> Result<bool, Halt>
         ensures turned { Turned result (turn_of_name self.old name.now place)
             self.old self.new }

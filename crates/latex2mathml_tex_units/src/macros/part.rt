@@ -9,13 +9,13 @@ use std::alloc::{AllocError, Global};
 /// A part of a body.
 #[derive(Clone, Copy)]
 pub(crate) enum Part<'a> {
-    /// A piece that stands there as it is.
+    /// A piece that stays as it is.
     Fixed(Piece<'a>),
-    /// An argument, by its number, which is counted from 0.
+    /// An argument, by its number, counted from 0.
     Argument(usize),
 }
 
-/// How many arguments a macro takes, and what takes its place.
+/// How many arguments a macro takes, and what replaces it.
 #[derive(Drop)]
 pub(crate) struct Macro<'a> {
     pub(crate) arity: usize,
@@ -32,7 +32,7 @@ pub(crate) fn is_character(wanted: char, piece: Piece) -> bool
     }
 }
 
-/// The number that the piece is, if it is a digit.
+/// Returns the value of the piece, if it is a digit.
 pub(crate) fn digit_of(piece: Piece) -> Option<usize>
     ensures { result ≡ digit_of (piece_of piece.entry) }
 {
@@ -42,7 +42,7 @@ pub(crate) fn digit_of(piece: Piece) -> Option<usize>
     }
 }
 
-/// The part that a piece behind a number sign is, where there are so many arguments.
+/// Returns the part that a piece after a number sign is, in a body with `arity` arguments.
 fn parameter_part<'a>(arity: usize, piece: Piece<'a>) -> Option<Part<'a>>
     ensures { option_map part_of result ≡ parameter_part arity (piece_of piece.entry) }
 {
@@ -56,7 +56,7 @@ fn parameter_part<'a>(arity: usize, piece: Piece<'a>) -> Option<Part<'a>>
     Some(Part::Argument(number - 1))
 }
 
-/// The parts that the units of a body are, where there are so many arguments.
+/// Returns the parts that the units of a body with `arity` arguments are.
 pub(crate) fn parts_of<'a>(
     alloc: Global,
     arity: usize,
@@ -86,7 +86,7 @@ pub(crate) fn parts_of<'a>(
     Ok(Some(parts))
 }
 
-/// The body of an operator's name, which has limits where it has a star.
+/// Returns the body of a macro for an operator's name. The operator has limits if there is a star.
 pub(crate) fn operator_parts<'a>(
     alloc: Global,
     star: bool,

@@ -4,55 +4,55 @@ ghost use Rattle.std.specs.Str.{chars};
 ghost use Rattle.latex2mathml_tex_grammar.specs.{Cutting.units_of, Definitions.digit, Definitions.sign, Next.past_space};
 ghost use Rattle.latex2mathml_tex_units.specs.{Pending.next_piece, Pending.pending_units, Taking.Takes, Taking.piece_of};
 
+use crate::lexer::Lexer;
 use crate::macros::part::{digit_of, is_character};
-use crate::reader::Reader;
 use crate::unit::{Next, Piece, Unit};
 use std::alloc::Global;
 
-/// Units that were put in place of macros, and behind them the rest of a text.
+/// Units that were put in place of macros, followed by the rest of a text.
 #[derive(Drop)]
 pub(crate) struct Pending<'a> {
-    pub(crate) reader: Reader<'a>,
+    pub(crate) lexer: Lexer<'a>,
     /// The units that were put, the next one last.
     pub(crate) put: Vec<Unit<'a>>,
 }
 
 impl<'a> Pending<'a> {
-    /// All units of a text.
+    /// Returns all units of a text, to be expanded.
     pub(crate) fn new(alloc: Global, text: &'a str) -> Pending<'a>
         ensures { pending_units result ≡ units_of 0 (chars text.now) }
     {
         Pending {
-            reader: Reader::new(text),
+            lexer: Lexer::new(text),
             put: Vec::new(alloc),
         }
     }
 
-    /// Takes the unit that stands next, if one does.
+    /// Takes the next unit, if there is one.
     pub(crate) fn take(&mut self) -> Next<'a>
         ensures { Takes result (pending_units self.old) (pending_units self.new) }
     {
         match self.put.pop() {
             Some(unit) => Next::Unit(unit),
-            None => self.reader.take(),
+            None => self.lexer.take(),
         }
     }
 
-    /// The piece that stands next, if one does.
+    /// Returns the next piece, if there is one.
     pub(crate) fn peek(&self) -> Option<Piece<'a>>
         ensures { option_map piece_of result ≡ next_piece (pending_units self.now) }
     {
         if let Some(unit) = self.put.last() {
             return Some(unit.piece);
         }
-        let mut ahead = self.reader;
+        let mut ahead = self.lexer;
         match ahead.take() {
             Next::Unit(unit) => Some(unit.piece),
             _ => None,
         }
     }
 
-    /// Passes over white space.
+    /// Skips white space.
     pub(crate) fn skip_space(&mut self)
         ensures { pending_units self.new ≡ past_space (pending_units self.old) }
     {
@@ -61,7 +61,7 @@ impl<'a> Pending<'a> {
         }
     }
 
-    /// Takes this character, if it stands next behind white space, which is passed over.
+    /// Skips white space, then takes this character, if it comes next.
     pub(crate) fn take_sign(&mut self, wanted: char) -> bool
         ensures { (result, pending_units self.new) ≡ sign wanted (pending_units self.old) }
     {
@@ -75,7 +75,7 @@ impl<'a> Pending<'a> {
         false
     }
 
-    /// Takes the digit that stands next behind white space, which is passed over, if one does: its number.
+    /// Skips white space, then takes a digit, if one comes next. Returns its value.
     pub(crate) fn take_digit(&mut self) -> Option<usize>
         ensures { (result, pending_units self.new) ≡ digit (pending_units self.old) }
     {

@@ -1,4 +1,4 @@
-//! What takes the place of macros.
+//! What replaces macros.
 ghost use Rattle.std.specs.Prelude.{OnOk, map};
 ghost use Rattle.latex2mathml_tex_grammar.specs.{Expansion.used, Macros.Table};
 ghost use Rattle.latex2mathml_tex_grammar.specs.Units as units;
@@ -36,7 +36,7 @@ impl<'a> Pending<'a> {
         Ok(true)
     }
 
-    /// Puts what a part of a body stands for, if there is room.
+    /// Puts what a part of a body represents, if there is room.
     fn put_part(
         &mut self,
         room: &mut usize,
@@ -80,7 +80,7 @@ impl<'a> Pending<'a> {
         Ok(true)
     }
 
-    /// Puts what takes the place of a macro that is used at this place, if so many more can be used.
+    /// Puts what replaces a macro that is used at this place, if `uses`, the number of uses that are left, allows it.
     pub(crate) fn replace(
         &mut self,
         alloc: Global,

@@ -11,7 +11,7 @@ use crate::macros::usual::is_usual;
 use std::alloc::{AllocError, Global};
 use std::collections::BTreeMap;
 
-/// The macros that a text has defined so far, and those that held before it. The usual ones hold beside them.
+/// The macros that a text has defined so far, and those that held before it. The usual ones hold in addition to them.
 #[derive(Drop)]
 pub(crate) struct Scope<'m, 'a> {
     pub(crate) outer: Option<&'m Macros<'a>>,
@@ -19,7 +19,7 @@ pub(crate) struct Scope<'m, 'a> {
 }
 
 impl<'m, 'a> Scope<'m, 'a> {
-    /// The usual macros alone.
+    /// Creates a scope of the usual macros alone.
     pub(crate) fn new(alloc: Global) -> Scope<'m, 'a>
         ensures same { SameMacros (table_of result) usual_macros }
         ensures alone { result.outer ≡ None }
@@ -30,7 +30,7 @@ impl<'m, 'a> Scope<'m, 'a> {
         }
     }
 
-    /// These macros.
+    /// Creates a scope of these macros.
     pub(crate) fn within(alloc: Global, macros: &'m Macros<'a>) -> Scope<'m, 'a>
         ensures { SameMacros (table_of result) (macros_in macros.now) }
     {
@@ -40,7 +40,7 @@ impl<'m, 'a> Scope<'m, 'a> {
         }
     }
 
-    /// The macro of this name that was defined.
+    /// Returns the macro that was defined with this name.
     pub(crate) fn defined(&self, name: &str) -> Option<&Macro<'a>>
         ensures { option_map (λ m. macro_of m.now) result ≡ defined_in self.now name.now }
     {
@@ -50,7 +50,7 @@ impl<'m, 'a> Scope<'m, 'a> {
         }
     }
 
-    /// The macro of this name that was defined before the text.
+    /// Returns the macro that was defined with this name before the text.
     fn defined_before(&self, name: &str) -> Option<&Macro<'a>>
         ensures { option_map (λ m. macro_of m.now) result
             ≡ defined_before (option_map (λ outer. outer.now) self.now.outer) name.now }
@@ -61,14 +61,14 @@ impl<'m, 'a> Scope<'m, 'a> {
         }
     }
 
-    /// Whether the name stands for a macro.
+    /// Whether the name is that of a macro.
     fn is_macro(&self, name: &str) -> bool
         ensures { result ≡ is_some (table_of self.now name.now) }
     {
         self.defined(name).is_some() || is_usual(name)
     }
 
-    /// From here on the name of the definition stands for its macro.
+    /// From here on, the name of the definition means its macro.
     fn insert(&mut self, definition: Definition<'a>) -> Result<(), AllocError>
         ensures same { OnOk result (SameMacros (table_of self.new)
             (with_macro definition.entry.name.now (macro_of definition.entry.stands_for)
@@ -79,7 +79,7 @@ impl<'m, 'a> Scope<'m, 'a> {
         Ok(())
     }
 
-    /// Takes the definition behind a word in.
+    /// Carries out the definition that follows a word.
     pub(crate) fn define(
         &mut self,
         word: Word,

@@ -20,7 +20,7 @@ pub struct Macros<'a> {
 }
 
 impl<'a> Macros<'a> {
-    /// The usual macros alone.
+    /// Returns the usual macros alone.
     pub fn new(alloc: Global) -> Macros<'a>
         ensures usual { SameMacros usual_macros (macros_in result) }
         ensures defined { AreDefined result }
@@ -30,17 +30,19 @@ impl<'a> Macros<'a> {
         }
     }
 
-    /// The usual macros, and those of a text of definitions. A definition takes the place of what its name stood for before.
+    /// Returns the usual macros, and those of a text of definitions. A definition replaces
+    /// what its name meant before, except that `\providecommand` keeps it.
     ///
     /// The text consists of `\newcommand`, `\renewcommand`, `\providecommand`, `\def` and `\DeclareMathOperator`, each with
-    /// what it defines, white space and comments.
+    /// what it defines, and of white space and comments.
+    ///
+    /// `\newcommand{\R}{\mathbb{R}} \def\norm#1{\lVert #1 \rVert}` defines two macros.
     ///
     /// # Errors
     ///
     /// [`TexError::kind`] says why a definition is refused, and [`TexError::place`] the byte of `definitions` where what is
-    /// refused begins. The first one is told. If memory runs out, the kind is [`TexErrorKind::OutOfMemory`] and the place is 0.
-    ///
-    /// `\newcommand{\R}{\mathbb{R}} \def\norm#1{\lVert #1 \rVert}` defines two macros.
+    /// refused begins. The first refusal is reported. If memory runs out, the kind is [`TexErrorKind::OutOfMemory`] and the
+    /// place is 0.
     pub fn read(alloc: Global, definitions: &'a str) -> Result<Macros<'a>, TexError>
         ensures answer { IfOk result (λ macros. (table : Table)
             × Defines (chars definitions.now) table × SameMacros table (macros_in macros)) }
@@ -59,7 +61,7 @@ impl<'a> Macros<'a> {
         }
     }
 
-    /// The macro of this name that was defined.
+    /// Returns the macro that was defined with this name.
     pub(crate) fn defined(&self, name: &str) -> Option<&Macro<'a>>
         ensures { option_map (λ m. macro_of m.now) result ≡ defined_by self.now name.now }
     {

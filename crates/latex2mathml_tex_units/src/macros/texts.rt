@@ -12,7 +12,7 @@ use crate::macros::scope::Scope;
 use crate::unit::{Fault, Next, Piece};
 use std::alloc::Global;
 
-/// The word that the piece is, if it begins a definition.
+/// Returns the word that the piece is, if it begins a definition.
 fn word_of(piece: Piece) -> Option<Word>
     ensures { option_map Defined.word_of result ≡ word_of (piece_of piece.entry) }
 {
@@ -23,7 +23,7 @@ fn word_of(piece: Piece) -> Option<Word>
 }
 
 impl<'m, 'a> Scope<'m, 'a> {
-    /// The macros that hold behind a text of definitions, in which nothing else stands but white space.
+    /// Returns the macros that hold after a text of definitions, which contains nothing else but white space.
     pub(crate) fn read(alloc: Global, text: &'a str) -> Result<Scope<'m, 'a>, Halt>
         ensures { ReadsTo result (units_of 0 (chars text.now)) }
     {

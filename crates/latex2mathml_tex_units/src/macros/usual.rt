@@ -5,8 +5,8 @@ ghost use Rattle.std.specs.Str.{chars};
 ghost use Rattle.latex2mathml_tex_grammar.specs.{Cutting.units_of, Definitions.parts_of, Sorted.ascending, UsualMacros.entry_macro, UsualMacros.listed, UsualMacros.macro_with, UsualMacros.usual_entries, UsualMacros.usual_macros};
 ghost use Rattle.latex2mathml_tex_units.specs.{Bodies.entry_of, Bodies.macro_of, Bodies.named_entry, Bodies.parts_in, Taking.unit_of};
 
+use crate::lexer::Lexer;
 use crate::macros::part::{Macro, Part, parts_of};
-use crate::reader::Reader;
 use crate::unit::{Next, Unit};
 use latex2mathml_tex_commands::commands::order;
 use std::alloc::{AllocError, Global};
@@ -20,7 +20,7 @@ struct Usual {
     body: &'static str,
 }
 
-/// The entries.
+/// Returns the entries.
 #[tactic(auto, unfolding(latex2mathml_tex_grammar::specs::UsualMacros::usual_entries))]
 fn entries() -> &'static [Usual]
     ensures { map entry_of result.now ≡ usual_entries }
@@ -101,7 +101,7 @@ static ENTRIES: [Usual; 68] = [
     Usual { name: "varSigma", arity: 0, body: "\\mathit{\\Sigma}" },
 ];
 
-/// The entry of this name, if there is one among sorted entries. Each comparison halves the entries that are left.
+/// Returns the entry with this name, if the sorted entries have one. Each comparison halves the entries that are left.
 fn find(table: &[Usual], name: &str) -> Option<Usual>
     requires ordered { IsTrue (ascending (map named_entry table.now)) }
     requires few { length table.now < 512 }
@@ -111,9 +111,9 @@ fn find(table: &[Usual], name: &str) -> Option<Usual>
     let mut entries = table;
     while !entries.is_empty() {
         let middle = entries.len() / 2;
-        let entry = entries[middle];
+        let entry = &entries[middle];
         match order(name, entry.name) {
-            Ordering::Equal => return Some(entry),
+            Ordering::Equal => return Some(*entry),
             Ordering::Less => entries = &entries[..middle],
             Ordering::Greater => entries = &entries[middle + 1..],
         }
@@ -128,7 +128,7 @@ pub(crate) fn is_usual(name: &str) -> bool
     find(entries(), name).is_some()
 }
 
-/// The usual macro of this name, if there is one.
+/// Returns the usual macro with this name, if there is one.
 pub(crate) fn usual_macro<'a>(alloc: Global, name: &str) -> Result<Option<Macro<'a>>, AllocError>
     ensures { IfOk result (λ found. option_map macro_of found ≡ usual_macros name.now) }
 {
@@ -142,7 +142,7 @@ pub(crate) fn usual_macro<'a>(alloc: Global, name: &str) -> Result<Option<Macro<
     }))
 }
 
-/// The body that has this text, where there are so many arguments.
+/// Returns the body with this text, of a macro with `arity` arguments.
 fn body_of<'a>(alloc: Global, arity: usize, text: &'a str) -> Result<Vec<Part<'a>>, AllocError>
     ensures { IfOk result (λ parts. parts_in parts
         ≡ unwrap_or (parts_of arity (listed (units_of 0 (chars text.now)))) []) }
@@ -154,15 +154,15 @@ fn body_of<'a>(alloc: Global, arity: usize, text: &'a str) -> Result<Vec<Part<'a
     }
 }
 
-/// The units of a text.
+/// Returns the units of a text.
 fn units_of<'a>(alloc: Global, text: &'a str) -> Result<Vec<Unit<'a>>, AllocError>
     ensures { IfOk result (λ units.
         map unit_of units.items ≡ listed (units_of 0 (chars text.now))) }
 {
-    let mut reader = Reader::new(text);
+    let mut lexer = Lexer::new(text);
     let mut units = Vec::new(alloc);
     'units: loop {
-        match reader.take() {
+        match lexer.take() {
             Next::Unit(unit) => units.push(unit)?,
             Next::End(_) | Next::Fault(_, _) => return Ok(units),
         }

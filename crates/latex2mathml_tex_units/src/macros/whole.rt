@@ -23,7 +23,7 @@ pub struct Whole<'a> {
 }
 
 impl<'m, 'a> Expander<'m, 'a> {
-    /// Takes all expanded units that are left, in a list whose room is used again.
+    /// Takes all expanded units that are left, into the list `room`, whose memory is used again.
     pub fn take_all(&mut self, room: Vec<Unit<'a>>) -> Result<Whole<'a>, AllocError>
         ensures { IfOk result (λ whole. whole_units whole ≡ expanded_left self.old) }
     {

@@ -9,7 +9,7 @@ use crate::lexeme::Lexeme;
 use crate::token::table::{Entry, first, last};
 use std::cmp::Ordering;
 
-/// Returns what the command with this name stands for, if it has an entry, and the number of names that were compared. Each
+/// Returns what the command with this name represents, if it has an entry, and the number of names that were compared. Each
 /// comparison halves the entries that are left, until one is equal or none is left.
 pub(crate) fn look_up(name: &str) -> (Option<Lexeme<'static>>, u64)
     ensures entry { MatchOption result.0 (entry_token command_entries name.now ≡ None)
@@ -32,7 +32,7 @@ pub(crate) fn look_up(name: &str) -> (Option<Lexeme<'static>>, u64)
     (None, comparisons)
 }
 
-/// The half of the table in which an entry with this name stands, if there is one.
+/// Returns the half of the table that has an entry with this name, if there is one.
 fn half(key: u64, name: &str, comparisons: &mut u64) -> &'static [Entry]
     requires room { comparisons.old + 1 < 2 ^ 64 }
     requires key { IsTrue (is_key key name.now) }
@@ -51,7 +51,7 @@ fn half(key: u64, name: &str, comparisons: &mut u64) -> &'static [Entry]
 }
 
 /// Compares the name, which has this key, with the entry's name, and counts the comparison. Most names differ in their
-/// keys, and short names with the same key differ in length alone. Nothing else in the look-up reads an entry's name or key.
+/// keys, and short names with the same key differ only in length. Nothing else in the look-up reads an entry's name or key.
 #[inline(always)]
 fn compare(key: u64, name: &str, entry: &Entry, comparisons: &mut u64) -> Ordering
     requires room { comparisons.old + 1 < 2 ^ 64 }
@@ -73,7 +73,7 @@ fn compare(key: u64, name: &str, entry: &Entry, comparisons: &mut u64) -> Orderi
     name.cmp(entry.name)
 }
 
-/// The key of a name: its first eight bytes as a number, with zeros after its end.
+/// Returns the key of a name: its first eight bytes as a number, with zeros after its end.
 #[inline(always)]
 fn key_of(name: &str) -> u64
     ensures { IsTrue (is_key result name.now) }
@@ -88,7 +88,7 @@ fn key_of(name: &str) -> u64
     key
 }
 
-/// The byte at this place, or zero after the end.
+/// Returns the byte at this place, or zero after the end.
 #[inline(always)]
 fn byte_at(bytes: &[u8], place: usize) -> u64
     ensures value { result ≡ get_or bytes.now place 0 }

@@ -1,11 +1,11 @@
-//! The command table. It stands in two halves: the prover's work for a static grows as the number of its texts times the length of
-//! all of them, and for all entries in one static that is too much.
+//! The command table. It is split into two halves: the prover's work for a static grows as the number of its texts times
+//! the length of all of them, which is too much for all entries in one static.
 pub(crate) mod first;
 pub(crate) mod last;
 
 use crate::lexeme::Lexeme;
 
-/// A command's name without its backslash, its key, and what the command stands for.
+/// A command's name without its backslash, its key, and what the command represents.
 pub(crate) struct Entry {
     pub(crate) name: &'static str,
     /// The name's first eight bytes as a number. Numbers compare faster than texts: without keys, formulas that people write

@@ -1,4 +1,4 @@
-"""The calls of the shared library."""
+"""Calls to the shared library."""
 import ctypes
 import html
 import pathlib
@@ -13,23 +13,23 @@ DONE, REFUSED, NOT_UTF8, TOO_SMALL, OUT_OF_MEMORY, DEFINITION_REFUSED = range(6)
 # The flag that asks for the formula as an annotation.
 ANNOTATION = 1
 
-# Room for nearly every formula, as LATEX2MATHML_ROOM of the header has it.
+# Room for nearly every formula, as in LATEX2MATHML_ROOM of the header.
 ROOM, ROOM_PER_BYTE = 256, 64
 
 
 class Refused(ValueError):
-    """A formula or a document is refused. The message is the reason. It may quote the formula, so escape it in HTML."""
+    """Raised when a formula or a document is refused. The message is the reason. It may quote the formula, so escape it in HTML."""
 
-    # as users write it
+    # the module that users import
     __module__ = "latex2mathml_proved"
 
 
 class TexRefused(Refused):
-    """A formula in LaTeX as authors write it is refused, or the definitions for it are.
+    """Raised when a formula in LaTeX as authors write it is refused, or the definitions for it are.
 
-    `reason` says why. What is refused begins at the character `place` of the definitions if `is_definition` is true, and
-    otherwise of the formula. The message has both, as in `unknown command \\foo at 4`. `line` and `column` are the same place,
-    and count from 1.
+    `reason` says why. `place` is the index of the character where the refused part begins, in the definitions if
+    `is_definition` is true, and otherwise in the formula. The message gives both, as in `unknown command \\foo at 4`. `line`
+    and `column` are the same place, counted from 1.
     """
 
     __module__ = "latex2mathml_proved"
@@ -69,10 +69,10 @@ _library = _load()
 
 
 def _call(function: Callable[..., int], length: int) -> Tuple[int, str]:
-    """The code and the text of a call. `function` takes the room for the text, whose length is guessed from that of the input."""
+    """Returns the code and the text of a call. `function` takes the room for the text, whose size is guessed from the input's."""
     needed = ctypes.c_size_t(ROOM + ROOM_PER_BYTE * length)
     code = TOO_SMALL
-    while code == TOO_SMALL:  # twice at most
+    while code == TOO_SMALL:  # at most twice
         room = ctypes.create_string_buffer(needed.value)
         code = function(room, len(room), ctypes.byref(needed))
     if code == OUT_OF_MEMORY:
@@ -88,12 +88,12 @@ def _answer(function: Callable[..., int], text: str, *more: bool) -> str:
     return answer
 
 
-# What the Rust crate puts in place of what it does not know.
+# What the Rust crate writes in place of what it does not know.
 _MARK = re.compile(r"<mtext>\[PARSE ERROR: (.*?)\]</mtext>", re.DOTALL)
 
 
 def _checked(markup: str, strict: bool) -> str:
-    """The markup, unless parts of it are marked as errors and `strict` forbids that."""
+    """Returns the markup. Raises `Refused` if parts of it are marked as errors and `strict` is true."""
     marks = _MARK.findall(markup) if strict else []
     if marks:
         raise Refused(f"marked as an error: {html.unescape(', '.join(marks))}")
@@ -101,14 +101,14 @@ def _checked(markup: str, strict: bool) -> str:
 
 
 def formula(latex: str, block: bool = False, strict: bool = False) -> str:
-    """Returns the `math` element of a formula, which has no dollar signs around it.
+    """Returns the `math` element of a formula, which is given without dollar signs around it.
 
-    If `block` is true, the element is for a block of its own, and otherwise for a line of text. Any number of threads may call at
-    once.
+    If `block` is true, the element is for a block of its own, and otherwise for a line of text. Any number of threads may call
+    this function at once.
 
     Raises `Refused` if the formula cannot be read, for example because a brace is not closed, `UnicodeEncodeError` if the text
-    contains half of a surrogate pair, and `MemoryError` if memory runs out. What is not known, such as a command, is marked in the
-    markup as an error. If `strict` is true, `Refused` is raised for it.
+    contains half of a surrogate pair, and `MemoryError` if memory runs out. Anything unknown, such as a command, is marked in the
+    markup as an error. If `strict` is true, `Refused` is raised for it instead.
     """
     return _checked(_answer(_library.latex2mathml_formula, latex, block), strict)
 
@@ -117,7 +117,7 @@ def document(text: str, strict: bool = False) -> str:
     r"""Returns the document with each formula replaced by its `math` element.
 
     A formula is between single dollar signs, for a line of text, or between double ones, for a block of its own. `\$` is a
-    dollar sign of the prose, and becomes `&#x24;`. All other prose is unchanged.
+    dollar sign in the prose, and becomes `&#x24;`. All other prose is unchanged.
 
     Raises `Refused` if the dollar signs do not pair or a formula is refused, and the other errors of `formula`. If `strict` is
     true, a formula with a marked error is refused too.
@@ -126,11 +126,11 @@ def document(text: str, strict: bool = False) -> str:
 
 
 def tex(formula: str, block: bool = False, definitions: str = "", annotation: bool = False) -> str:
-    r"""Returns the `math` element of a formula in LaTeX as authors write it, which has no dollar signs around it.
+    r"""Returns the `math` element of a formula in LaTeX as authors write it, which is given without dollar signs around it.
 
-    The formula may use macros of `definitions`, such as `\newcommand{\R}{\mathbb{R}}`, beside the usual ones of LaTeX.
+    The formula may use the macros of `definitions`, such as `\newcommand{\R}{\mathbb{R}}`, in addition to LaTeX's usual ones.
 
-    If `annotation` is true, the element also has the formula itself, as an annotation, so that a copy of it takes the LaTeX along.
+    If `annotation` is true, the element also contains the formula itself as an annotation, so that a copy of it has the LaTeX too.
 
     Raises `TexRefused` if the formula or a definition cannot be read, and the other errors of `formula`.
     """

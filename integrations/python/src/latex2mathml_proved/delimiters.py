@@ -1,28 +1,28 @@
-r"""The signs around formulas in text: one rule for Markdown and for HTML.
+r"""The delimiters of formulas in text: one rule for Markdown and for HTML.
 
-`\(..\)` and `$..$` are formulas in a line, `\[..\]` and `$$..$$` in a block of their own. A backslash takes the next character with
-it, so `\$` opens and closes nothing. Single dollar signs are none where white space stands inside them or a digit directly behind, as
-between two prices.
+`\(..\)` and `$..$` are formulas in a line, `\[..\]` and `$$..$$` in a block of their own. A backslash belongs with the character
+after it, so `\$` opens and closes nothing. Single dollar signs are not delimiters if there is white space directly inside them or
+a digit directly after them, as between two prices.
 
-The functions return patterns for `re`. A `barrier` is a character that no formula holds.
+The functions return patterns for `re`. A `barrier` is a character that no formula contains.
 """
 
 
 def between_dollars(barrier: str) -> str:
-    """What formulas between dollar signs hold, one character at a time."""
+    """Returns the pattern of one character of a formula between dollar signs."""
     return rf"(?:\\[^{barrier}]|[^\\${barrier}])"
 
 
 def between_brackets(bracket: str, barrier: str) -> str:
-    r"""What formulas between `\(` and `\)`, or between `\[` and `\]`, hold, one character at a time.
+    r"""Returns the pattern of one character of a formula between `\(` and `\)`, or between `\[` and `\]`.
 
-    It is no other opening one, so that each is looked at once where nothing closes them.
+    It does not match another opening delimiter, so that each of these is looked at only once if nothing closes them.
     """
     return rf"(?:\\[^\{bracket}{barrier}]|[^\\{barrier}])"
 
 
 def formulas(barrier: str, dollars: bool = True) -> str:
-    """All formulas, each in the group `dollars`, `brackets`, `dollar` or `parentheses`, and in none of them a sign that is escaped."""
+    """Returns the pattern of formulas in the groups `dollars`, `brackets`, `dollar` and `parentheses`, and of escapes in none."""
     brackets = rf"\\\[(?P<brackets>{between_brackets('[', barrier)}+?)\\\]"
     parentheses = rf"\\\((?P<parentheses>{between_brackets('(', barrier)}+?)\\\)"
     if not dollars:

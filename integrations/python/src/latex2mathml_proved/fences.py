@@ -1,15 +1,15 @@
-"""Blocks of code of the language `math`, between fences of backticks or tildes."""
+"""Code blocks between fences of backticks or tildes, with their languages."""
 import bisect
 import re
 from typing import Dict, Iterator, List, NamedTuple
 
-# Both may be indented or quoted, and then alike.
+# Both may be indented or quoted, but then in the same way.
 _OPENING = re.compile(r"(?P<fence>[ >]*(?:`{3,}|~{3,}))[ ]*(?P<language>[^`]*)")
 _CLOSING = re.compile(r"[ >]*(?:`{3,}|~{3,})")
 
 
 class Fence(NamedTuple):
-    """A block of code: the numbers of its first and last lines, which are its fences, and its language."""
+    """A code block: the numbers of its first and last lines, which are its fences, and its language."""
 
     first: int
     last: int
@@ -17,7 +17,7 @@ class Fence(NamedTuple):
 
 
 def fences(lines: List[str]) -> Iterator[Fence]:
-    """The blocks of code, from top to bottom. A fence that nothing closes begins none."""
+    """Yields the code blocks, from top to bottom. A fence that nothing closes begins none."""
     ends: Dict[str, List[int]] = {}
     for number, line in enumerate(lines):
         if _CLOSING.fullmatch(line.rstrip()):

@@ -1,4 +1,4 @@
-r"""The option `macros` of the extensions: macros as MathJax and KaTeX take them, or a file of LaTeX's definitions.
+r"""The option `macros` of the extensions: macros as MathJax and KaTeX take them, or a file of LaTeX definitions.
 
     {"RR": r"\mathbb{R}", "norm": [r"\lVert #1 \rVert", 1]}
 """
@@ -13,19 +13,19 @@ from latex2mathml_proved._library import TexRefused, tex
 Macros = Union[Mapping[str, Any], str, "os.PathLike[str]"]
 
 _COMMAND = re.compile(r"\\(?:[A-Za-z]+|[^A-Za-z])", re.DOTALL)
-# An argument in a body. Two number signs are one that stands for itself.
+# An argument in a body. Two number signs are one literal number sign.
 _ARGUMENT = re.compile(r"##|#([1-9])")
 _MOST_ARGUMENTS = 9
 
 
 class MacroError(ValueError):
-    """The option `macros` has something that is no definition. The message names the macro, or the file and the place in it."""
+    """Raised when something in the option `macros` is not a definition. The message names the macro, or the file and the place."""
 
 
 def definitions_of(macros: Macros, folder: Union[str, "os.PathLike[str]"] = "") -> str:
-    """Returns macros as a text of definitions, as `tex` takes it. The path of a file is seen from `folder`.
+    """Returns macros as a text of definitions, as `tex` takes it. The path of a file is relative to `folder`.
 
-    Raises `MacroError` if something is no definition, and `OSError` if the file cannot be read.
+    Raises `MacroError` if something is not a definition, and `OSError` if the file cannot be read.
     """
     if isinstance(macros, Mapping):
         return "".join(_definition(name, macro) for name, macro in macros.items())
@@ -47,7 +47,7 @@ def _read(file: pathlib.Path) -> str:
 
 
 def _definition(name: str, macro: Any) -> str:
-    """One macro as a line of definitions."""
+    """Returns one macro as a line of definitions."""
     command = name if isinstance(name, str) and name.startswith("\\") else f"\\{name}"
     if not _COMMAND.fullmatch(command):
         raise MacroError(f"macros: {name!r} is no name of a command: letters, or one other character")
@@ -62,7 +62,7 @@ def _definition(name: str, macro: Any) -> str:
 
 
 def _body_and_arguments(command: str, macro: Any) -> Tuple[str, int]:
-    """The body of a macro, and how many arguments it takes: where no number says it, as many as the body has, as in KaTeX."""
+    """Returns the body of a macro and the number of its arguments: for a text alone, as many as the body has, as in KaTeX."""
     if isinstance(macro, str):
         return macro, max((int(found) for found in _ARGUMENT.findall(macro) if found), default=0)
     if not isinstance(macro, Sequence) or not macro or not isinstance(macro[0], str):

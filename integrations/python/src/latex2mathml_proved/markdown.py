@@ -1,9 +1,9 @@
-r"""An extension of Python-Markdown: `$..$` and `\(..\)` are formulas in a line, `$$..$$` and `\[..\]` in a block of their own.
+r"""An extension for Python-Markdown: `$..$` and `\(..\)` are formulas in a line, `$$..$$` and `\[..\]` in a block of their own.
 
     markdown.markdown(text, extensions=["latex2mathml"])
 
-A block of code of the language `math` is a formula too. `\$` is a dollar sign. Nothing is a formula in other code, and single
-dollar signs are none where white space stands inside them or a digit directly behind, as between two prices.
+A code block in the language `math` is a formula too. `\$` is a dollar sign. Nothing in other code is a formula, and single dollar
+signs are not delimiters if there is white space directly inside them or a digit directly after them, as between two prices.
 """
 import logging
 import re
@@ -25,12 +25,12 @@ from latex2mathml_proved.rendering import Fault, FaultyFormula, Renderer
 
 NAME = "latex2mathml"
 
-# What formulas hold. STX marks what Python-Markdown has put aside, as code.
+# What formulas contain. STX marks what Python-Markdown has put aside, such as code.
 _CHARACTER = between_dollars(STX)
 _IN_PARENTHESES = between_brackets("(", STX)
 _IN_BRACKETS = between_brackets("[", STX)
 
-# What stands for a formula until the tree is whole. No text of an author holds STX.
+# What represents a formula until the tree is complete. No author's text contains STX.
 _PLACE = re.compile(rf"{STX}{NAME}:([0-9]+){ETX}")
 _WRITTEN_PLACE = re.compile(rf"(?:<{NAME}>)?{_PLACE.pattern}(?:</{NAME}>)?")
 
@@ -41,7 +41,7 @@ _BLOCK = re.compile(
     re.MULTILINE,
 )
 
-# Each sign at which a formula may begin, with the rest of the formulas that would. Two backslashes are one character.
+# Each sign that may begin a formula, with the rest of the formulas that it would begin. Two backslashes are one character.
 _FORMULAS = re.compile(
     r"\\[\\$]"
     rf"|\\\((?=({_IN_PARENTHESES}+?\\\))?)"
@@ -52,57 +52,57 @@ _FORMULAS = re.compile(
 # The lines of a list are parsed again, item by item.
 _LIST = re.compile(r"[ ]{0,3}(?:[*+-]|[0-9]+\.)[ ]")
 
-# Behind the normalizing of white space, and before other extensions take blocks of code.
+# After white space is normalized, and before other extensions take code blocks.
 _FENCE_PRIORITY = 27
-# Behind code in backticks, and before escapes, links and emphasis.
+# After code in backticks, and before escapes, links and emphasis.
 _INLINE_PRIORITY = 185
-# Behind indented code, and before headings and lists.
+# After indented code, and before headings and lists.
 _BLOCK_PRIORITY = 75
-# Directly behind the inline patterns.
+# Directly after the inline patterns.
 _TREE_PRIORITY = 19
-# Before all else.
+# Before everything else.
 _FIRST = 1000
 
 
 class Formula(NamedTuple):
-    """A formula as it was found. Its element is a paragraph where it stands alone, which has the space that pages give to those."""
+    """A formula as it was found. If it is on its own, its element is a paragraph, with the space that pages give to paragraphs."""
 
     source: str
     latex: str
     block: bool
     tag: str
-    rank: int  # among those that are written alike
+    rank: int  # among those that are written the same way
 
 
 class Page:
-    """The page at hand: its text, and its formulas in the order in which they were found."""
+    """The current page: its text, and its formulas in the order in which they were found."""
 
     def __init__(self) -> None:
         self.formulas: List[Formula] = []
         self._text = ""
-        self._counts: Dict[str, int] = {}  # of the formulas that are written alike
+        self._counts: Dict[str, int] = {}  # of the formulas that are written the same way
         self._lines: Dict[str, List[int]] = {}
 
     def begin(self, lines: List[str]) -> None:
-        """Begins with a page of these lines, which tell the lines of its formulas."""
+        """Begins a page of these lines, in which the lines of its formulas are looked up."""
         self.formulas.clear()
         self._counts.clear()
         self._lines.clear()
         self._text = bare(lines)
 
     def add(self, source: str, latex: str, block: bool, tag: str) -> str:
-        """The text that stands for a formula. `source` has the signs around the formula, and `tag` is that of its element."""
+        """Returns the text that represents a formula. `source` includes the formula's delimiters, and `tag` is its element's."""
         rank = self._counts.get(source, 0)
         self._counts[source] = rank + 1
         self.formulas.append(Formula(source, latex, block, tag, rank))
         return f"{STX}{NAME}:{len(self.formulas) - 1}{ETX}"
 
     def restore(self, text: str) -> str:
-        """The text with each formula as it was written, for where no element can stand."""
+        """Returns the text with each formula as it was written, for places where there can be no element."""
         return _WRITTEN_PLACE.sub(lambda place: self.formulas[int(place[1])].source, text)
 
     def line_of(self, number: int) -> Optional[int]:
-        """The line where a formula begins, or None where the same text also stands elsewhere, as in code."""
+        """Returns the line where a formula begins, or None if the same text also appears elsewhere, as in code."""
         formula = self.formulas[number]
         if not self._lines:
             self._find_lines()
@@ -112,7 +112,7 @@ class Page:
         return lines[formula.rank] + formula.source.partition(formula.latex)[0].count("\n")
 
     def _find_lines(self) -> None:
-        """Finds the lines of all that may be a formula at once, since each may be written otherwise."""
+        """Finds the lines of everything that may be a formula in one pass, since each may be written differently."""
         line, before = 1, 0
         for found in _FORMULAS.finditer(self._text):
             line += self._text.count("\n", before, found.start())
@@ -125,12 +125,12 @@ class Page:
 
 
 def bare(lines: List[str]) -> str:
-    """The lines without the signs of lists and quotations at their beginnings, which Python-Markdown takes away."""
+    """Returns the lines without the indentation and the signs of quotations at their beginnings, which Python-Markdown removes."""
     return "\n".join(line.lstrip(" >").rstrip(" ") for line in lines)
 
 
 def element_of(place: str) -> etree.Element:
-    """The element of the text that stands for a formula."""
+    """Returns the element for the text that represents a formula."""
     element = etree.Element(NAME)
     element.text = AtomicString(place)
     return element
@@ -152,7 +152,7 @@ class PageText(Preprocessor):
 
 
 class FencedFormulas(Preprocessor):
-    """Blocks of code of the language `math`."""
+    """Code blocks in the language `math`."""
 
     def __init__(self, md: Markdown, page: Page):
         super().__init__(md)
@@ -168,14 +168,14 @@ class FencedFormulas(Preprocessor):
         return made + lines[copied:]
 
     def _place(self, lines: List[str]) -> str:
-        """The line that stands for a block, as far from the margin, or as deep in quotations, as its first one."""
+        """Returns the line that represents a block, indented as far, or quoted as deeply, as the first line of the block."""
         margin = lines[0][:len(lines[0]) - len(lines[0].lstrip(" >"))]
         bare_lines = [line.removeprefix(margin) if line.strip(" >") else "" for line in lines]
         return margin + self._page.add("\n".join(bare_lines), "\n".join(bare_lines[1:-1]), block=True, tag="p")
 
 
 class BlockFormulas(BlockProcessor):
-    """Formulas that have lines to themselves, whatever signs of Markdown their lines begin with."""
+    """Formulas on lines of their own, whatever Markdown signs their lines begin with."""
 
     def __init__(self, md: Markdown, page: Page):
         super().__init__(md.parser)
@@ -198,7 +198,7 @@ class BlockFormulas(BlockProcessor):
 
 
 class InlineFormulas(InlineProcessor):
-    """Formulas amid other text, and dollar signs that are none."""
+    """Formulas within other text, and dollar signs that are not formulas."""
 
     def __init__(self, md: Markdown, page: Page):
         super().__init__(_INLINE, md)
@@ -207,14 +207,14 @@ class InlineFormulas(InlineProcessor):
     def handleMatch(self, m: Any, data: str) -> Tuple[Any, Optional[int], Optional[int]]:
         block, inline = m["dollars"] or m["brackets"], m["dollar"] or m["parentheses"]
         if not block and not inline:
-            # two backslashes too: if they were left, they would be found again for each formula behind them
+            # two backslashes too: if they were left, they would be found again for each formula after them
             return m[0][1], m.start(), m.end()
         place = self._page.add(m[0], block or inline, block is not None, tag="span")
         return element_of(place), m.start(), m.end()
 
 
 class IndentedCode(Treeprocessor):
-    """Restores formulas between fences which turn out to be indented code."""
+    """Restores formulas between fences that turn out to be indented code."""
 
     def __init__(self, md: Markdown, page: Page):
         super().__init__(md)
@@ -226,7 +226,7 @@ class IndentedCode(Treeprocessor):
 
 
 class Conversion(Treeprocessor):
-    """Converts the formulas, in the order in which they stand in the page."""
+    """Converts the formulas, in the order in which they appear in the page."""
 
     def __init__(self, md: Markdown, page: Page, extension: "Latex2MathML"):
         super().__init__(md)
@@ -248,7 +248,7 @@ class Conversion(Treeprocessor):
         self._extension.report(faults)
 
     def _restore_address(self, link: etree.Element) -> None:
-        """Gives a link that shows its address the address as it was written."""
+        """Makes a link that shows its own address show it as it was written."""
         if len(link):
             shown = self._page.restore("".join(link.itertext()))
             if shown == self._page.restore(link.get("href", "")):
@@ -256,7 +256,7 @@ class Conversion(Treeprocessor):
                 link.text = AtomicString(shown)
 
     def _convert(self, element: etree.Element, number: int) -> List[str]:
-        """Puts the markup of a formula into its element. Returns a line about what is wrong with the formula, if anything is."""
+        """Writes the markup of a formula into its element. Returns a line about what is wrong with the formula, if anything is."""
         formula = self._page.formulas[number]
         rendering = self._extension.renderer.render(formula.latex, formula.block)
         element.tag = formula.tag
@@ -273,9 +273,9 @@ class Conversion(Treeprocessor):
 
 
 class Latex2MathML(Extension):
-    """The extension. Its options are `macros`, `annotation` and `strict`. It raises `MacroError`, a `ValueError`, for a macro that is none.
+    """The extension. Its options are `macros`, `annotation` and `strict`. An invalid macro raises `MacroError`, a `ValueError`.
 
-    A caller that knows the file of a page sets `file` to its name, and `text` to its text if that is not the text that is
+    A caller that knows the file of a page sets `file` to its name, and `text` to its text if that differs from the text to be
     converted. Warnings go to `logger`.
     """
 
@@ -293,7 +293,7 @@ class Latex2MathML(Extension):
         self.text: Optional[str] = None
 
     def extendMarkdown(self, md: Markdown) -> None:
-        # a page for each converter, since one may be at work within another
+        # a page for each converter, since one may run within another
         page = Page()
         md.preprocessors.register(PageText(md, page, self), NAME, _FIRST)
         md.preprocessors.register(FencedFormulas(md, page), f"{NAME}-fences", _FENCE_PRIORITY)
@@ -303,7 +303,7 @@ class Latex2MathML(Extension):
         md.treeprocessors.register(Conversion(md, page, self), NAME, _TREE_PRIORITY)
 
     def report(self, faults: List[str]) -> None:
-        """Warns of the formulas of a page that are refused, or raises one error for all if the option `strict` is set."""
+        """Warns about the refused formulas of a page, or raises one error for all of them if the option `strict` is set."""
         if faults and self.getConfig("strict"):
             raise FaultyFormula("\n".join(faults))
         for fault in faults:

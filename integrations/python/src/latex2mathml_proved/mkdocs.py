@@ -1,4 +1,4 @@
-"""A plugin of MkDocs: the extension of Python-Markdown, which then knows the file of each page.
+"""A plugin for MkDocs: the extension for Python-Markdown, which then knows the file of each page.
 
     plugins:
       - latex2mathml
@@ -16,7 +16,7 @@ from latex2mathml_proved.markdown import NAME, Latex2MathML
 
 
 class Latex2MathMLPlugin(BasePlugin):
-    """The plugin. Its options are `macros` and `annotation`. With MkDocs' own option `--strict`, a formula that is refused fails the build."""
+    """The plugin. Its options are `macros` and `annotation`. With MkDocs' option `--strict`, a refused formula fails the build."""
 
     config_scheme = (
         ("macros", config_options.Type((dict, str), default={})),
@@ -31,20 +31,20 @@ class Latex2MathMLPlugin(BasePlugin):
             self._extension = Latex2MathML(macros=macros, annotation=self.config["annotation"])
         except (MacroError, OSError) as error:
             raise ConfigurationError(f"{NAME}: {error}") from error
-        # MkDocs counts the warnings of loggers whose names begin so
+        # MkDocs counts the warnings of loggers whose names begin like this
         self._extension.logger = logging.getLogger(f"mkdocs.plugins.{NAME}")
         config["markdown_extensions"].append(self._extension)
         return config
 
     def on_page_markdown(self, markdown: str, page: Any, **more: Any) -> str:
         self._extension.file = page.file.src_path
-        # the lines of a file include those of its metadata, which are no part of `markdown`
+        # the lines of a file include those of its metadata, which are not part of `markdown`
         self._extension.text = text_of(page.file.abs_src_path)
         return markdown
 
 
 def text_of(path: Optional[str]) -> Optional[str]:
-    """The text of a file. None for a page that a plugin made, which has no file."""
+    """Returns the text of a file, or None for a page that a plugin made, which has no file."""
     if path is None or not os.path.exists(path):
         return None
     with open(path, encoding="utf-8-sig") as file:

@@ -3,7 +3,7 @@ from typing import NamedTuple
 
 
 class Place(NamedTuple):
-    """A line and a column, which count from 1."""
+    """A line and a column, counted from 1."""
 
     line: int
     column: int

@@ -1,4 +1,4 @@
-"""A formula as a page has it, whatever comes of it: what the extensions of Sphinx, Python-Markdown and MkDocs stand on."""
+"""Renders a formula for a page, converted or refused. The extensions for Sphinx, Python-Markdown and MkDocs are built on this."""
 import dataclasses
 import html
 import pathlib
@@ -8,7 +8,7 @@ from typing import Any, NamedTuple, Optional, Union
 from latex2mathml_proved._library import TexRefused, tex
 from latex2mathml_proved.places import Place, place_of
 
-# The folder of the style sheet and the script for pages of `formula` and `document`.
+# The folder with the style sheet and the script for pages of `formula` and `document`.
 PAGE = pathlib.Path(__file__).with_name("page")
 STYLE_SHEET, SCRIPT = "latex2mathml.css", "latex2mathml.js"
 
@@ -23,7 +23,7 @@ class Fault:
     reason: str
     place: Place
     source: str
-    index: int  # of the character that the place is of
+    index: int  # of the character at `place`
 
     @property
     def explanation(self) -> str:
@@ -37,26 +37,26 @@ class Fault:
 
 
 class Rendering(NamedTuple):
-    """What stands in a formula's place, and what is wrong with the formula, if it is refused."""
+    """What replaces a formula, and what is wrong with the formula, if it is refused."""
 
     markup: str
     fault: Optional[Fault]
 
 
 class FaultyFormula(ValueError):
-    """A formula was refused, and the option `strict` is set."""
+    """Raised when a formula was refused and the option `strict` is set."""
 
 
 class Renderer:
-    """Converts formulas, with options that hold for each of them: those of `tex`, such as `definitions`."""
+    """Converts formulas with options that apply to all of them: those of `tex`, such as `definitions`."""
 
     def __init__(self, **options: Any):
         self._options = options
 
     def render(self, latex: str, block: bool = False, source: Optional[str] = None) -> Rendering:
-        """Returns the `math` element of a formula, or the formula itself as code where it is refused.
+        """Returns the `math` element of a formula, or the formula itself as code if it is refused.
 
-        `source` is what the author wrote, where that is another text of the same length: code and faults have it.
+        `source` is what the author wrote, if that is a different text of the same length. Code and faults contain it.
         """
         source = latex if source is None else source
         try:
@@ -68,20 +68,20 @@ class Renderer:
 
 
 def shortened(formula: str) -> str:
-    """Returns a formula as a warning shows it: in one line, and cut if it is long."""
+    """Returns a formula as a warning shows it: on one line, and cut if it is long."""
     line = " ".join(formula.split())
     return f"{line[:SHOWN]}..." if len(line) > SHOWN else line
 
 
 def escape(text: str) -> str:
-    """Returns the text as HTML has it, in contents and in quoted values. It holds no dollar sign, as no markup does."""
+    """Returns the text escaped for HTML, in contents and in quoted values. It contains no dollar sign, as no markup does."""
     return html.escape(text, quote=False).replace('"', "&quot;").replace("$", "&#x24;")
 
 
 def copy_page(folder: Union[str, pathlib.Path]) -> None:
-    """Puts the style sheet and the script into a folder, which is made where it is missing."""
+    """Copies the style sheet and the script into a folder, which is created if it is missing."""
     to = pathlib.Path(folder)
     to.mkdir(parents=True, exist_ok=True)
     for name in (STYLE_SHEET, SCRIPT):
-        # without the rights, since those of the package may be only to read, and the next build writes them again
+        # without the permissions, since those of the package may be read-only, and the next build writes the files again
         shutil.copyfile(PAGE / name, to / name)

@@ -1,4 +1,4 @@
-"""An extension of Sphinx, whose math renderer `latex2mathml` writes MathML into the pages.
+"""An extension for Sphinx, whose math renderer `latex2mathml` writes MathML into the pages.
 
     extensions = ["latex2mathml_proved.sphinx"]
     html_math_renderer = "latex2mathml"
@@ -21,13 +21,13 @@ from latex2mathml_proved.rendering import Fault, Renderer
 
 NAME = "latex2mathml"
 
-# The source that Sphinx gives a part of a page which it draws elsewhere.
+# The source that Sphinx gives to a part of a page that it renders elsewhere.
 PARTIAL = "<partial node>"
 
-# What has the macros of a project that uses MathJax, the newer one first.
+# The options with the macros of a project that uses MathJax, the newer one first.
 MATHJAX_OPTIONS = ("mathjax4_config", "mathjax3_config")
 
-# Options of earlier versions, and what takes their place.
+# Options of earlier versions, and what replaces them.
 FORMER_OPTIONS = {
     "latex2mathml_names": "use latex2mathml_macros",
     "latex2mathml_strict": "use Sphinx's option -W",
@@ -36,7 +36,7 @@ FORMER_OPTIONS = {
 
 logger = logging.getLogger(__name__)
 
-# A backslash with its character, or a comment.
+# A backslash with the character after it, or a comment.
 _UNIT = re.compile(r"\\.|%[^\n]*", re.DOTALL)
 
 BLANK_LINE = "\n\n"
@@ -54,7 +54,7 @@ class Visitors:
             definitions = definitions_of(config.latex2mathml_macros, app.confdir)
         except (MacroError, OSError) as error:
             raise ConfigError(f"latex2mathml_macros: {error}") from error
-        # so that the next build writes all pages where a file of definitions has changed
+        # so that the next build writes all pages if a file of definitions has changed
         config.latex2mathml_macros = definitions
         self._renderer = Renderer(definitions=definitions, annotation=config.latex2mathml_annotation)
 
@@ -65,7 +65,7 @@ class Visitors:
 
     def visit_displayed(self, translator: Any, node: nodes.math_block) -> None:
         translator.body.append(translator.starttag(node, "div", CLASS="math notranslate nohighlight"))
-        # a paragraph, as of Sphinx's renderer of images, has the space above and below that the theme gives to paragraphs
+        # a paragraph, as in Sphinx's renderer of images, has the space above and below that the theme gives to paragraphs
         translator.body.append("<p>")
         if node["number"]:
             number = get_node_equation_number(translator, node)
@@ -81,14 +81,14 @@ class Visitors:
         is_whole = node.get("no-wrap", node.get("nowrap", False))
         latex = rows_of(source) if block and not is_whole else source
         rendering = self._renderer.render(latex, block, source)
-        # a title is drawn once more for each table of contents, and its own page has the warning
+        # a title is rendered once more for each table of contents, and its own page has the warning
         if rendering.fault and node.document["source"] != PARTIAL:
             logger.warning("%s", rendering.fault, location=location_of(node, rendering.fault), type=NAME)
         return rendering.markup
 
 
 def rows_of(source: str) -> str:
-    """The text of a directive as one formula of the same length, in which equations with a blank line between are rows."""
+    """Returns the text of a directive as one formula of the same length, in which equations separated by a blank line are rows."""
     parts = _UNIT.sub(without_last_comment, source).split(BLANK_LINE)
     last = max((number for number, part in enumerate(parts) if part.strip()), default=0)
     rows = [with_row_end(part) if part.strip() else part + BLANK_LINE for part in parts[:last]]
@@ -96,23 +96,23 @@ def rows_of(source: str) -> str:
 
 
 def without_last_comment(unit: "re.Match[str]") -> str:
-    """Spaces in place of a comment that ends an equation, since what ends its row comes behind."""
+    """Returns spaces in place of a comment that ends an equation, since the end of its row comes after it."""
     is_last = unit[0].startswith("%") and unit.string.startswith(BLANK_LINE, unit.end())
     return " " * len(unit[0]) if is_last else unit[0]
 
 
 def with_row_end(equation: str) -> str:
-    """An equation, and the end of its row in place of the blank line behind it, unless it has one."""
+    """Returns an equation with the end of its row in place of the blank line after it, unless it already has one."""
     if equation.rstrip().endswith(ROW_END):
         return equation + BLANK_LINE
     if equation.endswith("\\"):
-        # with the end of the line it was the command of a space, which shows nothing here
+        # with the end of the line it was the command for a space, which shows nothing here
         equation = equation[:-1] + " "
     return equation + ROW_END
 
 
 def location_of(node: nodes.Element, fault: Fault) -> str:
-    """The file of a formula and the line of what is refused in it, or that of the formula, as near as can be told."""
+    """Returns the file of a formula and the line of what is refused in it, or that of the formula, as nearly as it can be found."""
     above = node
     while above.line is None and above.parent is not None:
         above = above.parent
@@ -126,7 +126,7 @@ def location_of(node: nodes.Element, fault: Fault) -> str:
 
 
 def lines_before(above: nodes.Element, node: nodes.Element) -> int:
-    """How many lines of a paragraph are before a formula in it: none if it is not written there, as that of a substitution."""
+    """Returns how many lines of a paragraph precede a formula in it: none if it is not written there, such as a substituted one."""
     source, written = above.rawsource, node.rawsource
     places = source.count(written) if written else 0
     if places == 0:
@@ -139,8 +139,8 @@ def lines_before(above: nodes.Element, node: nodes.Element) -> int:
 
 
 def line_in_file(fault: Fault, file: str, line: int, is_whole: bool) -> Optional[int]:
-    """The line of what is refused in a formula that stands at this line of a file or behind it, with whole lines to itself or amid
-    other text. Options and blank lines may stand between its lines. None if they are not found, as those of a docstring."""
+    """Returns the line of what is refused in a formula that is at this line of a file or after it, on lines of its own or within
+    other text. Options and blank lines may come between its lines. Returns None if they are not found, as for a docstring."""
     written = enumerate(linecache.getlines(file)[line - 1:], line)
     found = None
     for part in filter(None, map(str.strip, fault.source.split("\n")[:fault.place.line])):
@@ -149,12 +149,12 @@ def line_in_file(fault: Fault, file: str, line: int, is_whole: bool) -> Optional
 
 
 def formula_of_line(text: str) -> str:
-    """A line of a file without what begins or ends a directive in it."""
+    """Returns a line of a file without what begins or ends a directive in it."""
     return text.strip().removeprefix(".. math::").removeprefix("$$").removesuffix("$$").strip()
 
 
 def mathjax_macros(config: Config) -> Dict[str, Any]:
-    """The macros that a project has for MathJax."""
+    """Returns the macros that a project has for MathJax."""
     for option in MATHJAX_OPTIONS:
         if option in config and config[option]:
             return config[option].get("tex", {}).get("macros", {})

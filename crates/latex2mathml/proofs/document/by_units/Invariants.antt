@@ -1,4 +1,4 @@
--- No unit that was passed is a dollar sign.
+-- No unit that the loop passed is a dollar sign.
 use Rattle.std.proofs.Common.{length, ◌-◌}
 use Rattle.latex2mathml.proofs.PlainTexts.{Passed}
 use Rattle.latex2mathml.proofs.document.by_units.Given as goal

@@ -5,7 +5,7 @@ use Rattle.latex2mathml.proofs.files.+walk.Given as goal
 abbrev pub decreases-walk : goal.decreases-walk
 decreases-walk g l = l.levels
 
--- the entries so far were walked, and what is due for their answers is listed
+-- the entries so far were walked, and the list has what is due for their answers
 abbrev pub invariant-loop-name : goal.invariant-loop-name
 invariant-loop-name g l =
     (answers : List Answer)

@@ -1,4 +1,4 @@
--- so many entries were added
+-- one member was added for each round so far
 use Rattle.std.proofs.Common.{◌≡◌, ◌++◌, List, All, length}
 use Rattle.latex2mathml.specs.{Files.IsListed, declared.error.FileFault.TheVariants.Entry, declared.files.Unconverted.Unconverted}
 use Rattle.latex2mathml.proofs.files.add_unread.Given as goal

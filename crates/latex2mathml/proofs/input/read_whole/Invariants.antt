@@ -1,4 +1,4 @@
--- The vector holds what was taken in so far, and the source can go on.
+-- The vector holds what was read so far, and the source can go on.
 use Rattle.std.proofs.Common.{◌-◌, ◌^◌, vec_len}
 use Rattle.latex2mathml.specs.Streams.{CanGoOn, Gives}
 use Rattle.latex2mathml.proofs.input.read_whole.Given as goal

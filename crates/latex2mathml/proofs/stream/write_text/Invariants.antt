@@ -1,4 +1,4 @@
--- What was put out so far is the front of the text, and the sink can go on.
+-- What was written so far is the front of the text, and the sink can go on.
 use Rattle.std.proofs.Common.{◌-◌, ◌≤◌, length, take}
 use Rattle.latex2mathml.specs.Streams.{CanGoOn, Takes}
 use Rattle.latex2mathml.proofs.stream.write_text.Given as goal

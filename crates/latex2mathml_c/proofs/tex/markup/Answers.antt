@@ -1,7 +1,7 @@
 use Rattle.std.proofs.Common.{Result, Ok, Err, IfOk}
 use Rattle.latex2mathml_c.proofs.tex.markup.Goals as goal
 
--- what each clause says of a result, at once
+-- what all clauses say of a result, at once
 together : {A E : Type 0} (P Q R S : A → Type 0) (result : Result A E) → IfOk result P → IfOk result Q → IfOk result R → IfOk result S → IfOk result (λ x. (P x × Q x) × R x × S x)
 together P Q R S (Ok x) p q r s = ((p, q), r, s)
 together P Q R S (Err error) p q r s = p

@@ -1,4 +1,4 @@
--- The members before the index have the style, and those from it on are as they were.
+-- The members before the index have the style, and those from it on are unchanged.
 use Rattle.std.proofs.Common.{◌≡◌, take}
 use Rattle.latex2mathml_trees.specs.Style.{all_styled}
 use Rattle.latex2mathml_nodes.specs.Nodes.{trees}

@@ -14,7 +14,7 @@ nodes-init c = record {
 
 pub nodes-preserved : goal.nodes-preserved
 nodes-preserved c =
-    let found = stood c.take-lexeme.result c.nodes.parser.reader.list c.take-lexeme.new.self.list c.in_default.not-EOF c.take-lexeme.ensures.token c.take-lexeme.ensures.list in
+    let found = stood c.take-lexeme.result c.nodes.parser.lexer.list c.take-lexeme.new.self.list c.in_default.not-EOF c.take-lexeme.ensures.token c.take-lexeme.ensures.list in
     let read = rw c.if-not-is_read.false at (c.in_ok-is_read.ensures.node _ found) in
     record {
       closed = read.0;
@@ -37,14 +37,14 @@ returns-in_err-is_read-clause-stack c =
 
 pub returns-then-not-is_read : goal.returns-then-not-is_read
 returns-then-not-is_read c =
-    let found = stood c.take-lexeme.result c.nodes.parser.reader.list c.take-lexeme.new.self.list c.in_default.not-EOF c.take-lexeme.ensures.token c.take-lexeme.ensures.list in
+    let found = stood c.take-lexeme.result c.nodes.parser.lexer.list c.take-lexeme.new.self.list c.in_default.not-EOF c.take-lexeme.ensures.token c.take-lexeme.ensures.list in
     let refused = rw c.if-not-is_read.true at (c.in_ok-is_read.ensures.node _ found) in
     let counted = counted_taken _ c.nodes.parser _ _ found c.take-lexeme.ensures.counts refl c.in_ok-is_read.ensures.counted in
     let all_counted = counted_on 0 0 _ _ _ (counted_on 0 0 _ _ _ c.nodes.invariant.counted counted) c.refusal.ensures.counted in
     record {
       rendering = tt;
       refused = formula_refused c.refusal.ensures.refusal found refused c.nodes.invariant.nodes;
-      within = within_node c.args.parser.now.reader c.refusal.new.self.reader c.refusal.ensures.refusal refused c.nodes.invariant.nodes (grind (arith, found));
+      within = within_node c.args.parser.now.lexer c.refusal.new.self.lexer c.refusal.ensures.refusal refused c.nodes.invariant.nodes (grind (arith, found));
       all = tt;
       counted = all_counted;
       stack = stacks_within _ _ all_counted;

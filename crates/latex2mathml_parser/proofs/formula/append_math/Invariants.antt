@@ -8,9 +8,9 @@ use Rattle.latex2mathml_parser.proofs.formula.append_math.Given as goal
 abbrev pub invariant-nodes : goal.invariant-nodes
 invariant-nodes l = record {
   closed : l.parser.frames.stack.items ≡ [];
-  nodes : Appends l.initial.parser.reader.list l.parser.reader.list (string_bytes l.initial.markup) (string_bytes l.markup);
+  nodes : Appends l.initial.parser.lexer.list l.parser.lexer.list (string_bytes l.initial.markup) (string_bytes l.markup);
   counted : Counted 0 l.initial.parser l.parser;
 }
 
 abbrev pub decreases-nodes : goal.decreases-nodes
-decreases-nodes l = length l.parser.reader.list
+decreases-nodes l = length l.parser.lexer.list

@@ -7,7 +7,7 @@ use Rattle.latex2mathml_parser.proofs.formula.append_node.Goals as goal
 pub returns-in-Some-clause-node : goal.returns-in-Some-clause-node
 returns-in-Some-clause-node c = λ input e.
     let leaf = c.in-Some.ensures.leaf in
-    (c.requires, (_, leaf_read input c.args.parser.now.reader.list c.lone_leaf.new.reader.list (lexeme_tok c.args.lexeme) _ e c.lone_leaf.ensures.list (leaf.0.1 []) leaf.1, c.in_ok-write_leaf.ensures))
+    (c.requires, (_, leaf_read input c.args.parser.now.lexer.list c.lone_leaf.new.lexer.list (lexeme_tok c.args.lexeme) _ e c.lone_leaf.ensures.list (leaf.0.1 []) leaf.1, c.in_ok-write_leaf.ensures))
 
 pub returns-clause-node : goal.returns-clause-node
 returns-clause-node c = λ input e.

@@ -1,4 +1,4 @@
--- so much of the lines was put, and the stream can take more
+-- the lines so far were written, some left out, and the stream can take more
 use Rattle.std.proofs.Common.{ℕ, List, map, take}
 use Rattle.latex2mathml.specs.Streams.{CanGoOn, Takes}
 use Rattle.latex2mathml_program.specs.Serving.{JoinsSomeOf, unconverted_line}

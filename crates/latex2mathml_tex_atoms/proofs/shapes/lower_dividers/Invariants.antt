@@ -1,4 +1,4 @@
--- So many elements are changed.
+-- The first `depth` elements are changed.
 use Rattle.std.proofs.Common.{◌≡◌}
 use Rattle.latex2mathml_builder.specs.Built.{elements_in}
 use Rattle.latex2mathml_tex_grammar.specs.Makes

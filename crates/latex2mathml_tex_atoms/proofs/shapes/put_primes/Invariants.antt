@@ -1,4 +1,4 @@
--- So many primes are put.
+-- `counter` primes are put.
 use Rattle.std.proofs.Common.{◌≡◌, ◌∷◌, Some}
 use Rattle.latex2mathml_builder.specs.Built.{elements_in}
 use Rattle.latex2mathml_elements.specs.Attributes.{NoSpace, plain}

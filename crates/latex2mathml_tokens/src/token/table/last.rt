@@ -9,7 +9,7 @@ use crate::lexeme::Lexeme;
 use crate::names::{FunctionName, LimitName, Paren};
 use crate::token::table::Entry;
 
-/// These entries of the table.
+/// Returns these entries of the table.
 #[tactic(auto, unfolding(crate::specs::Commands::command_entries))]
 pub(crate) fn entries() -> &'static [Entry]
     ensures part { map entry_of result.now ≡ entries_from_l }

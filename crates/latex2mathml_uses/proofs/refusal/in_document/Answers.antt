@@ -5,7 +5,7 @@ pub returns-in-Ok-clause-dollars : goal.returns-in-Ok-clause-dollars
 returns-in-Ok-clause-dollars c =
     (λ e cut. cc, λ none. absurd (none ((c.answers.ensures.for_dollars c.args.document.now).answered _ c.in-Ok.ensures.answer)))
 
--- a refusal of another kind comes only where there is a cut
+-- a refusal of another kind comes only if there is a cut
 pub returns-in-Err-UnexpectedToken-clause-dollars :
     goal.returns-in-Err-UnexpectedToken-clause-dollars
 returns-in-Err-UnexpectedToken-clause-dollars c =

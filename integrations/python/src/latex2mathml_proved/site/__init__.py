@@ -14,5 +14,5 @@ r"""Converts the formulas in the pages of a built site: the command `latex2mathm
 | `processes` | does work in several processes |
 | `building` | converts a site |
 | `watching` | converts it again after each change |
-| `command` | reads the words of the command line |
+| `command` | reads the command line |
 """

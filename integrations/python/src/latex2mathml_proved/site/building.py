@@ -1,4 +1,4 @@
-"""Converts a site, with several processes for many pages."""
+"""Converts a site, in several processes if it has many pages."""
 import contextlib
 import functools
 import itertools
@@ -17,7 +17,7 @@ FEW = 32
 
 
 class Plan(NamedTuple):
-    """What a run does: the options of the command line with these names."""
+    """What a run does: the command-line options of these names."""
 
     source: str
     target: Optional[str] = None
@@ -29,7 +29,7 @@ class Plan(NamedTuple):
 
 
 class Outcome(NamedTuple):
-    """What became of a page. `beside` is the file that is to take its place, if that is still to be done."""
+    """The outcome for a page. `beside` is the file that is to replace it, if that is still to be done."""
 
     is_changed: bool = False
     formulas: int = 0
@@ -49,17 +49,17 @@ class Summary(NamedTuple):
     errors: int
 
 
-# Shows a line about something that is refused or failed.
+# Shows a line about something that was refused or that failed.
 Report = Callable[[str], None]
-# Shows how many pages of how many are done.
+# Shows how many pages are done, and of how many.
 Progress = Callable[[int, int], None]
 
 
 def build(plan: Plan, report: Report, progress: Progress) -> Summary:
-    """Converts a site. What is refused and what fails is reported, and the rest of the site converted.
+    """Converts a site. What is refused and what fails is reported, and the rest of the site is converted.
 
-    If `plan.strict` is set and anything is refused or fails, nothing is changed. Whatever ends a run, each file is the old one or the
-    new one, and no other stays in the site unless the process was killed. The next run removes those.
+    If `plan.strict` is set and anything is refused or fails, nothing is changed. However a run ends, each file is the old one or
+    the new one, and no other file is left in the site unless the process was killed. The next run removes such files.
     """
     site = find(plan.source, plan.target)
     made = _make_folders(site.folders) if plan.target and not plan.check else []
@@ -78,7 +78,7 @@ def build(plan: Plan, report: Report, progress: Progress) -> Summary:
 
 
 def _make_folders(folders: Iterable[str]) -> List[str]:
-    """Makes the folders that are missing, and returns those that it made."""
+    """Creates the missing folders, and returns those that it created."""
     made: List[str] = []
     for folder in folders:
         missing = itertools.takewhile(lambda it: not os.path.exists(it), _upwards(folder))
@@ -116,7 +116,7 @@ class _Run:
         self._refused = 0
 
     def convert_pages(self) -> Summary:
-        """Converts the pages. If nothing may be changed before all are converted, each waits beside its place."""
+        """Converts the pages. If nothing may be changed before all of them are converted, each waits next to its place."""
         plan, pages = self._plan, self._site.pages
         if not plan.check:
             for folder in self._site.folders:
@@ -137,7 +137,8 @@ class _Run:
         return self._summary()
 
     def finish(self, summary: Summary) -> Summary:
-        """Puts the pages that wait in their places, and what is no page into the target."""
+        """Moves the waiting pages to their places, copies what is not a page to the target, and writes the record. With `check` it
+        does nothing."""
         if self._plan.check:
             return summary
         waiting = iter(self._waiting)
@@ -175,7 +176,7 @@ class _Run:
         self._changed += outcome.is_changed
 
     def _try(self, path: str, step: Callable[[], object]) -> bool:
-        """Does a step, or says why it failed. Returns whether it was done."""
+        """Runs a step, or reports why it failed. Returns whether it succeeded."""
         try:
             step()
         except OSError as error:
@@ -189,19 +190,19 @@ class _Run:
 
 
 def shown(path: str) -> str:
-    """A path as a line of text, also if it is none."""
+    """Returns a path as a line of text, even if the path is not one."""
     return printable(os.path.relpath(path) if os.path.isabs(path) else path)
 
 
 def printable(text: str) -> str:
-    """The text with what is no text, and what ends a line, spelled out."""
+    """Returns the text with everything that is not text or that ends a line spelled out."""
     spelled = text.encode("utf-8", "surrogateescape").decode("utf-8", "backslashreplace")
     return "".join(it if it.isprintable() else it.encode("unicode_escape").decode() for it in spelled)
 
 
 @contextlib.contextmanager
 def _conversions(pages: List[Copy], plan: Plan) -> Iterator[Iterator[Outcome]]:
-    """What becomes of each page, in their order."""
+    """Yields the outcome for each page, in the order of the pages."""
     if plan.jobs == 1 or len(pages) < FEW:
         yield (_convert_page(plan, page) for page in pages)
     else:
@@ -210,7 +211,7 @@ def _conversions(pages: List[Copy], plan: Plan) -> Iterator[Iterator[Outcome]]:
 
 
 def _convert_page(plan: Plan, page: Copy) -> Outcome:
-    """Converts a page, and writes it unless that is to wait."""
+    """Converts a page, and writes it, unless pages are only checked or writing has to wait."""
     try:
         with open(page.source, "rb") as file:
             status = os.fstat(file.fileno())
@@ -237,7 +238,7 @@ def _write_page(page: Copy, plan: Plan, status: os.stat_result, content: bytes, 
         check_writable(page.target)
     beside, after = write_beside(page.target, made, status)
     if not is_in_place and made == content:
-        # a copy has the times too
+        # a copy also has the times
         os.utime(beside, ns=(status.st_atime_ns, status.st_mtime_ns))
         after = signature(os.stat(beside))
     if plan.strict:
@@ -247,7 +248,7 @@ def _write_page(page: Copy, plan: Plan, status: os.stat_result, content: bytes, 
 
 
 def _put(page: Copy, beside: str, before: Signature) -> None:
-    """Puts what was made of a page in its place, unless that is a page which was written anew since it was read."""
+    """Puts the converted page in its place, unless the page there has been rewritten since it was read."""
     if page.source == page.target:
         replace_unchanged(beside, page.target, before)
     else:
@@ -255,7 +256,7 @@ def _put(page: Copy, beside: str, before: Signature) -> None:
 
 
 def _holds(path: str, content: bytes) -> bool:
-    """Whether a file is there and has this content."""
+    """Whether a file exists and has this content."""
     with contextlib.suppress(FileNotFoundError):
         if os.stat(path).st_size == len(content):
             with open(path, "rb") as file:

@@ -15,14 +15,14 @@ from latex2mathml_proved.site.settings import definitions_in
 
 NAME = "latex2mathml-site"
 
-# After how many seconds a terminal shows how far a run is, and how often that is renewed.
+# After how many seconds a terminal shows the progress of a run, and after how many it is updated.
 PATIENCE, PERIOD = 1, 0.1
 
 WELL, UNWELL, WRONG_WORDS, INTERRUPTED = 0, 1, 2, 130
 
 
 def parser() -> argparse.ArgumentParser:
-    r"""The words of the command line."""
+    r"""Returns the parser of the command line."""
     made = argparse.ArgumentParser(prog=NAME, description="Converts the LaTeX formulas in the HTML pages of a site to MathML.")
     made.add_argument("source", metavar="IN", help="the folder of the built site, or a page")
     made.add_argument("target", metavar="OUT", nargs="?", help="the folder of the converted site; without it, IN is converted in place")
@@ -48,7 +48,7 @@ def _positive(text: str) -> int:
 
 
 class Screen:
-    """What a run shows: lines about what is refused, and on a terminal how far it is."""
+    """What a run shows: lines about what is refused and, on a terminal, its progress."""
 
     def __init__(self) -> None:
         self._begun = self._shown = time.monotonic()
@@ -74,7 +74,7 @@ class Screen:
 
 
 def line_of(summary: Summary, plan: Plan, seconds: float) -> str:
-    """The one line that a run ends with."""
+    """Returns the one line that a run ends with."""
     done = "to be changed" if plan.check else "changed"
     return (f"{NAME}: {_count(summary.pages, 'page')}, {summary.changed} {done}, {_count(summary.formulas, 'formula')} converted, "
             f"{summary.refused} refused, {seconds:.1f} s")
@@ -85,7 +85,7 @@ def _count(number: int, name: str) -> str:
 
 
 def run(plan: Plan, is_quiet: bool = False) -> int:
-    """Converts a site once, and returns the status. If it is to be quiet, it says nothing where nothing had to be done."""
+    """Converts a site once, and returns the status. If `is_quiet` is set, it prints nothing if there was nothing to do."""
     screen = Screen()
     lines: List[str] = []
     try:
@@ -107,7 +107,7 @@ def run(plan: Plan, is_quiet: bool = False) -> int:
 
 
 def main(words: Optional[List[str]] = None) -> int:
-    """Runs the command with these words, or with those of the command line, and returns its status."""
+    """Runs the command with these arguments, or with those of the command line, and returns its status."""
     reader = parser()
     given = reader.parse_intermixed_args(words)
     wrong = _wrong(given.source, given.target)
@@ -145,14 +145,14 @@ def _watch(plan: Plan) -> int:
         return WRONG_WORDS
     from latex2mathml_proved.site.watching import watch
     run(plan)
-    # watching has threads, beside which no other process may convert
+    # watching uses threads, and while they run no other process may convert
     alone = plan._replace(jobs=1, fresh=False)
     watch(plan.source, lambda: run(alone, is_quiet=True))
     return WELL
 
 
 def _wrong(source: str, target: Optional[str]) -> str:
-    """What is wrong with the paths, if anything is."""
+    """Returns what is wrong with the paths, if anything is."""
     if not os.path.exists(source):
         return f"there is no {shown(source)}"
     if target is None or _is_same(source, target):

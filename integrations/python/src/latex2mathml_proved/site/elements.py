@@ -1,19 +1,19 @@
-"""Which elements of HTML hold no formulas, which ones are formulas, and where elements end that nothing closes."""
+"""Which HTML elements contain no formulas, which are formulas, and where elements end that have no end tag."""
 from typing import Dict, FrozenSet, List, NamedTuple, Optional, Tuple
 
 Attributes = List[Tuple[str, Optional[str]]]
 
-# These hold text and no elements.
+# These contain text and no elements.
 RAW = frozenset({"script", "style", "textarea", "title", "iframe", "noembed", "noframes", "noscript", "xmp", "plaintext"})
 
-# In these no text is a formula.
+# No text in these is a formula.
 WITHOUT_FORMULAS = RAW | {"pre", "code", "math", "svg", "option", "select", "template"}
 
-# Classes by which authors tell MathJax where formulas are none, and where they are after all.
+# Classes by which authors show MathJax where there are no formulas, and where there are some after all.
 IGNORED = frozenset({"tex2jax_ignore", "mathjax_ignore"})
 PROCESSED = frozenset({"tex2jax_process", "mathjax_process", "math"})
 
-# These have no end.
+# These have no end tag.
 VOID = frozenset({"area", "base", "br", "col", "embed", "hr", "img", "input", "link", "meta", "param", "source", "track", "wbr"})
 
 # In these a slash at the end of a start tag ends the element. Elsewhere in HTML it means nothing.
@@ -42,20 +42,20 @@ ENDED_BY: Dict[str, FrozenSet[str]] = {
 
 
 class Kind(NamedTuple):
-    """What is known of an element that is a formula: whether it stands in a block of its own, and whether the element itself gives way
-    to the `math` element. Otherwise its contents do."""
+    """What is known about an element that is a formula: whether it is in a block of its own, and whether the `math` element
+    replaces the element itself. Otherwise it replaces the contents of the element."""
 
     block: bool
     is_replaced: bool
 
 
 def classes_of(attributes: Attributes) -> FrozenSet[str]:
-    """The classes of an element."""
+    """Returns the classes of an element."""
     return frozenset(attribute(attributes, "class").split())
 
 
 def attribute(attributes: Attributes, name: str) -> str:
-    """The value of an attribute, which is empty where the element does not have it."""
+    """Returns the value of an attribute, which is empty if the element does not have it."""
     for found, value in attributes:
         if found == name:
             return value or ""
@@ -63,10 +63,10 @@ def attribute(attributes: Attributes, name: str) -> str:
 
 
 def kind_of(tag: str, attributes: Attributes) -> Optional[Kind]:
-    """What an element is whose whole text is a formula, as site builders leave it, or None for any other element.
+    """Returns the kind of an element whose whole text is a formula, as site builders write it, or None for any other element.
 
     pandoc has `math inline` and `math display`, kramdown `kdmath`, remark `math-inline` and `math-display`. `language-math` is code in
-    the language `math`, in a block of its own if it stands in a `pre`: the caller knows.
+    the language `math`, which is in a block of its own if it is in a `pre`: the caller knows that.
     """
     if tag == "script":
         form, _, mode = attribute(attributes, "type").partition(";")

@@ -1,4 +1,4 @@
-"""Finds the files of a site. A folder is visited once, whatever links lead to it."""
+"""Finds the files of a site. A folder is visited only once, whatever links lead to it."""
 import os
 import stat
 from typing import List, NamedTuple, Optional, Set, Tuple
@@ -9,14 +9,14 @@ PAGES = (".html", ".htm", ".xhtml")
 
 
 class Copy(NamedTuple):
-    """A file and the one that is made of it, which is the same file if the site is converted in place."""
+    """A file and the one that is made from it, which is the same file if the site is converted in place."""
 
     source: str
     target: str
 
 
 class Site(NamedTuple):
-    """What a site consists of. The first part of each link is its path, and the second one where it leads."""
+    """What a site consists of. The first part of each link is its path, and the second is where it leads."""
 
     pages: List[Copy]
     others: List[Copy]
@@ -28,7 +28,7 @@ class Site(NamedTuple):
 def find(source: str, target: Optional[str] = None) -> Site:
     """Returns the files of a site, which is a folder or one page. Without a target it is converted in place.
 
-    In place, a link to a file stands for the file itself. For a target, links within the site become links again, and what other links
+    In place, a link to a file means the file itself. With a target, links within the site become links again, and what other links
     lead to is copied.
     """
     site = Site([], [], [], [], [])
@@ -62,7 +62,7 @@ class _Walk:
                 self._site.errors.append(error)
 
     def _visit(self, folder: str, target: str) -> None:
-        """Takes the files of a folder, and puts the folders in it among those that are due."""
+        """Takes the files of a folder, and adds the folders in it to those that are due."""
         status = os.stat(folder)
         if (status.st_dev, status.st_ino) in self._visited:
             return
@@ -86,7 +86,7 @@ class _Walk:
         try:
             kind = os.stat(path).st_mode
         except FileNotFoundError:
-            return  # a link that leads nowhere, or what was removed meanwhile
+            return  # a link that leads nowhere, or something that has been removed in the meantime
         if stat.S_ISDIR(kind):
             self._due.append((path, target))
         elif stat.S_ISREG(kind):
@@ -102,6 +102,6 @@ class _Walk:
 
 
 def _text_of(link: str, real: str) -> str:
-    """What the copy of a link holds: the same text, unless that names the site by its place in the system."""
+    """Returns the text for the copy of a link: the same text, unless that is an absolute path into the site."""
     text = os.readlink(link)
     return os.path.relpath(real, os.path.dirname(link)) if os.path.isabs(text) and os.path.exists(real) else text

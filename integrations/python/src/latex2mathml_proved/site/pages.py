@@ -7,14 +7,14 @@ from latex2mathml_proved.rendering import Renderer, shortened
 from latex2mathml_proved.site.scanner import Formula, Found, Scanner
 from latex2mathml_proved.site.settings import macros_of
 
-# The signs before formulas, and with them that of dollars.
+# The signs before formulas, and then the dollar sign.
 _BRACKETS, _DOLLAR = (b"\\(", b"\\["), b"$"
 # The classes and types of elements that are formulas.
 _ELEMENTS = re.compile(rb"(?:class|CLASS)\s*=[^>]{0,200}?math|math/tex")
 
 
 class Options(NamedTuple):
-    """How formulas are found and converted: the options of the command line with these names."""
+    """How formulas are found and converted: the command-line options of these names."""
 
     definitions: str = ""
     dollars: bool = True
@@ -22,7 +22,7 @@ class Options(NamedTuple):
 
 
 class Fault(NamedTuple):
-    """What is refused in a page, and where: a line and a column, which count from 1, or 0 for the page as a whole."""
+    """What is refused in a page, and where: a line and a column, counted from 1, or 0 for the page as a whole."""
 
     line: int
     column: int
@@ -38,7 +38,7 @@ class Page(NamedTuple):
 
 
 def convert(content: bytes, options: Options) -> Page:
-    """Returns the page with each formula replaced by its `math` element, or as code where it is refused.
+    """Returns the page with each formula replaced by its `math` element, or shown as code if it is refused.
 
     A page that is not UTF-8 is returned as it was, with a fault, unless nothing in it looks like a formula.
     """
@@ -69,7 +69,7 @@ class _Conversion:
         self._renderer = Renderer(definitions=definitions, annotation=options.annotation)
 
     def page(self, content: bytes) -> Page:
-        """Returns the converted page, which was spelled by `content`."""
+        """Returns the converted page. `content` is the page as it was."""
         pieces, end, converted = [], 0, 0
         for formula in self._found.formulas:
             markup, is_refused = self._markup(formula)
@@ -83,7 +83,7 @@ class _Conversion:
         return Page(made, converted, tuple(self._located(sorted(self._faults))))
 
     def _located(self, faults: List[Tuple[int, str]]) -> Iterator[Fault]:
-        """The faults with their lines and columns. The page is read once, however many there are."""
+        """Yields the faults with their lines and columns. The page is read once, however many faults there are."""
         line, start, passed = 1, 0, 0
         for place, reason in faults:
             line += self._text.count("\n", passed, place)
@@ -92,7 +92,7 @@ class _Conversion:
             yield Fault(line, place - start + 1, reason)
 
     def _own_definitions(self, found: Found) -> str:
-        """The macros of the page's own scripts."""
+        """Returns the macros of the page's own scripts."""
         made = ""
         for script in found.scripts:
             settings = macros_of(self._text[script.start:script.end])

@@ -1,4 +1,4 @@
-"""Does work in several processes, which end with the one that began them, whatever ends it."""
+"""Does work in several processes, which end with the one that started them, however it ends."""
 import contextlib
 import multiprocessing
 import signal
@@ -16,9 +16,9 @@ _SIGNALS = (signal.SIGINT, signal.SIGTERM, signal.SIGHUP)
 
 @contextlib.contextmanager
 def results(work: Callable[[Item], Result], items: Sequence[Item], jobs: int) -> Iterator[Iterator[Result]]:
-    """The result for each item, in their order, from so many processes. No process outlives the block.
+    """Yields the result for each item, in the order of the items, from `jobs` processes. No process outlives the block.
 
-    The caller has no threads, since the library for C may not be called in the child of a process that has some. The results raise
+    The caller has no threads, since the library for C must not be called in the child of a process that has some. The results raise
     `ChildProcessError` if a process ends too soon.
     """
     workers: List[_Worker] = []
@@ -44,7 +44,7 @@ class _Worker:
         context = multiprocessing.get_context("fork")
         self.pipe, its_end = context.Pipe()
         self.process = context.Process(target=_serve, args=(work, items, its_end, [self.pipe, *others]), daemon=True)
-        # the process is not to be interrupted before it says what an interruption is to it
+        # the process must not be interrupted before it has set how it responds to an interruption
         before = signal.pthread_sigmask(signal.SIG_BLOCK, _SIGNALS)
         try:
             self.process.start()
@@ -54,7 +54,7 @@ class _Worker:
         self.chunk = -1
 
     def give(self, chunk: int, count: int) -> bool:
-        """Gives the process a chunk of the items, if there are so many."""
+        """Gives the process a chunk of the items, if there is one of this number. Returns whether there is."""
         self.chunk = chunk if chunk * CHUNK < count else -1
         if self.chunk >= 0:
             self.pipe.send(self.chunk)
@@ -62,7 +62,7 @@ class _Worker:
 
 
 def _serve(work: Callable[[Any], Any], items: Sequence[Any], pipe: Connection, others: List[Connection]) -> None:
-    """Does what it is asked for, until nobody holds the other end of the pipe any more."""
+    """Does the work that it is asked for, until no process holds the other end of the pipe any more."""
     signal.signal(signal.SIGINT, signal.SIG_IGN)
     signal.signal(signal.SIGHUP, signal.SIG_IGN)
     signal.signal(signal.SIGTERM, _exit)
@@ -74,14 +74,14 @@ def _serve(work: Callable[[Any], Any], items: Sequence[Any], pipe: Connection, o
             start, done = pipe.recv() * CHUNK, []
             for item in items[start:start + CHUNK]:
                 done.append(work(item))
-                # nothing comes before the results are sent, unless the other end is closed
+                # nothing arrives before the results are sent, unless the other end is closed
                 if pipe.poll():
                     return
             pipe.send(done)
 
 
 def _exit(number: int, frame: Any) -> None:
-    # what was being written is removed on the way
+    # what was being written is removed on the way out
     raise SystemExit(128 + number)
 
 

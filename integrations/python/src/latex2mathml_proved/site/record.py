@@ -1,4 +1,4 @@
-"""Remembers which pages are as an earlier run left them, so that a run after no change reads none."""
+"""Remembers which pages are as an earlier run left them, so that a run reads none if nothing has changed."""
 import contextlib
 import hashlib
 import json
@@ -11,12 +11,12 @@ from latex2mathml_proved.site.folders import Copy
 from latex2mathml_proved.site.pages import Fault, Options
 from latex2mathml_proved.site.writing import Signature, replace, signature, write_beside
 
-# Changes with what is found in pages, or how it is written.
+# Changes when what is found in pages changes, or how it is written.
 _FORMAT = 1
 
 
 class Known(NamedTuple):
-    """What is known of a page: the files that it was made of and became, and what was refused in it."""
+    """What is known about a page: the file that it was made from, the file that it became, and what was refused in it."""
 
     source: Signature
     target: Signature
@@ -24,7 +24,7 @@ class Known(NamedTuple):
 
 
 class Record:
-    """The known pages of a target. They are kept among the user's caches, and the site itself holds nothing of them."""
+    """The known pages of a target. They are kept among the user's caches, and the site itself contains nothing about them."""
 
     def __init__(self, target: str, options: Options):
         library = signature(os.stat(_library.PATH))
@@ -36,7 +36,7 @@ class Record:
         self._before: Dict[str, Known] = {}
 
     def read(self) -> None:
-        """Reads what earlier runs have kept. What cannot be read is as if it were not there."""
+        """Reads what earlier runs have kept. What cannot be read is ignored."""
         with contextlib.suppress(OSError, ValueError, TypeError):
             kept: Dict[str, List[Any]] = json.loads(self._file.read_bytes())
             self._before = {
@@ -44,7 +44,7 @@ class Record:
                 for path, (a, b, faults) in kept.items()}
 
     def find(self, page: Copy) -> Optional[Known]:
-        """What is known of a page, if neither its source nor its target has changed."""
+        """Returns what is known about a page, if neither its source nor its target has changed."""
         known = self._before.get(page.target)
         try:
             is_same = known is not None and known.target == signature(os.stat(page.target)) and (
@@ -57,7 +57,7 @@ class Record:
         self._pages[page.target] = known
 
     def write(self) -> None:
-        """Keeps the pages of this run, if they are not those that were kept. A folder that cannot be written keeps nothing."""
+        """Keeps the pages of this run, if they differ from those kept before. If the folder cannot be written, nothing is kept."""
         if self._pages == self._before:
             return
         self._before, self._pages = self._pages, {}

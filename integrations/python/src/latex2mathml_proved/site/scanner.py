@@ -9,26 +9,26 @@ from latex2mathml_proved import delimiters
 from latex2mathml_proved.site.elements import (
     ENDED_BY, FOREIGN, IGNORED, PROCESSED, RAW, VOID, WITHOUT_FORMULAS, Attributes, Kind, attribute, classes_of, kind_of)
 
-# HTML has no such character.
+# HTML does not have this character.
 _BARRIER = "\0"
 
-# A paragraph ends at a blank line, and with it what stands between dollar signs.
+# A paragraph ends at a blank line, and so does anything between dollar signs.
 _BLANK_LINE = re.compile(r"\n[ \t\r]*\n")
 
-# A tag, a comment or the like. No text holds one, also where the parser passes it on as text since it does not end.
+# A tag, a comment or the like. No text contains one, even where the parser passes it on as text since it does not end.
 _MARKUP = re.compile(r"<[A-Za-z/!?]")
 _TAG = re.compile(r"<([A-Za-z][^\s/>]*)")
 
-# A character as HTML spells it: a reference, or itself.
+# A character as HTML spells it: a reference, or the character itself.
 _SPELLED = re.compile(r"&(?:#[0-9]+;?|#[xX][0-9a-fA-F]+;?|[^\t\n\f <&#;]{1,32};?)|.", re.DOTALL)
 
-# What kramdown puts around a formula in a script, so that XML leaves it alone.
+# What kramdown writes around a formula in a script, so that XML leaves it alone.
 _CDATA = re.compile(r"\s*%\s*<!\[CDATA\[\n?(.*?)\n?\s*%\s*\]\]>\s*", re.DOTALL)
 
-# The scripts whose text may have the settings of MathJax or KaTeX.
+# The types of scripts whose text may have the settings of MathJax or KaTeX.
 _SCRIPT_TYPES = ("", "text/javascript", "application/javascript", "module", "text/x-mathjax-config")
 
-# What ends the block of code that a formula is.
+# The end of a code block that is a formula.
 _PRE_END = re.compile(r"\s*</pre\s*>", re.IGNORECASE)
 
 # The class of a formula that was refused.
@@ -36,7 +36,7 @@ REFUSED = "latex2mathml-refused"
 
 
 class Formula(NamedTuple):
-    """A formula: the part of the page that its markup takes the place of, and the part that is its LaTeX."""
+    """A formula: the part of the page that its markup replaces, and the part that is its LaTeX."""
 
     start: int
     end: int
@@ -46,12 +46,12 @@ class Formula(NamedTuple):
     is_script: bool = False
 
     def latex(self, page: str) -> str:
-        """The formula as TeX has it. A script has no references."""
+        """Returns the formula as TeX reads it. A script has no references."""
         written = page[self.latex_start:self.latex_end]
         return written if self.is_script else html.unescape(written)
 
     def place_in(self, page: str, index: int) -> int:
-        """Where in the page the character at an index of the formula is spelled."""
+        """Returns where in the page the character at an index of the formula is spelled."""
         if self.is_script:
             return self.latex_start + index
         passed = 0
@@ -63,7 +63,7 @@ class Formula(NamedTuple):
 
 
 class Part(NamedTuple):
-    """A part of the page, with what is to be known of it."""
+    """A part of the page, with what has to be known about it."""
 
     start: int
     end: int
@@ -71,7 +71,7 @@ class Part(NamedTuple):
 
 
 class Found(NamedTuple):
-    """What a page has: formulas, scripts with text, and formulas that an earlier run has refused, with the reasons."""
+    """What a page has: formulas, scripts with text, and formulas that an earlier run refused, with the reasons."""
 
     formulas: List[Formula]
     scripts: List[Part]
@@ -79,7 +79,8 @@ class Found(NamedTuple):
 
 
 class _Element(NamedTuple):
-    """An open element: whether its text may have formulas, and whether that is so because no element in it may."""
+    """An open element: whether its text may have formulas, if not, whether that is true of all elements in it too, and whether it
+    is in `svg` or `math`."""
 
     tag: str
     has_formulas: bool
@@ -91,7 +92,7 @@ _PAGE = _Element("", has_formulas=True, is_shut=False, is_foreign=False)
 
 
 class _Candidate(NamedTuple):
-    """An element that is a formula if nothing but text stands in it: its start tag, and that of the `pre` around it."""
+    """An element that is a formula if it contains nothing but text: its start tag, and that of the `pre` around it."""
 
     kind: Kind
     at: Part
@@ -103,7 +104,7 @@ class _Candidate(NamedTuple):
 
 
 class _Unended(Exception):
-    """Markup does not end, and so all that follows belongs to it."""
+    """Raised when markup does not end, so that everything after it belongs to it."""
 
 
 class Scanner(HTMLParser):
@@ -117,8 +118,8 @@ class Scanner(HTMLParser):
         self._is_xml = page.lstrip("\ufeff \t\r\n").startswith("<?xml")
         self._open: List[_Element] = [_PAGE]
         self._counts: Dict[str, int] = {}  # of the open elements of a name
-        self._text: Optional[int] = None  # where the text began that is being read
-        self._before = Part(0, 0)  # the start tag before, if nothing stands between
+        self._text: Optional[int] = None  # where the text that is being read began
+        self._before = Part(0, 0)  # the start tag before
         self._candidate: Optional[_Candidate] = None
         self._script: Optional[int] = None
         self._refused: Optional[Part] = None
@@ -132,7 +133,7 @@ class Scanner(HTMLParser):
             self._end_text(len(self._page))
         return self._found
 
-    # what the parser tells
+    # what the parser reports
 
     def handle_data(self, data: str) -> None:
         place = self._place()
@@ -170,9 +171,9 @@ class Scanner(HTMLParser):
         self._pass_markup()
 
     def parse_marked_section(self, i: int, report: int = 1) -> int:
-        """Passes `<![`, of which the parser knows some kinds and fails at others, and returns its end or -1.
+        """Skips `<![`, of which the parser knows some kinds and fails at others, and returns its end or -1.
 
-        As in browsers it ends at the next `>`, except `<![CDATA[` in XML.
+        As in browsers, it ends at the next `>`, except for `<![CDATA[` in XML, `svg` and `math`.
         """
         is_data = self.rawdata.startswith("<![CDATA[", i) and (self._is_xml or self._open[-1].is_foreign)
         end = "]]>" if is_data else ">"
@@ -189,7 +190,7 @@ class Scanner(HTMLParser):
         return self._lines[line - 1] + column
 
     def _take_faulty_markup(self, data: str) -> None:
-        """Takes what the parser passes on as text: a start tag with something in it that is no attribute, or what does not end."""
+        """Takes what the parser passes on as text: a start tag with something in it that is not an attribute, or unended markup."""
         tag = _TAG.match(data)
         if tag and data == self.get_starttag_text():
             self._begin(tag[1].lower(), [], ends_itself=False)
@@ -244,7 +245,7 @@ class Scanner(HTMLParser):
                 self._found.formulas.append(Formula(*found.span(), *found.span(group), group in ("dollars", "brackets")))
 
     def _add_element(self, candidate: _Candidate, place: int, end: int) -> bool:
-        """Adds the formula that an element is, and says whether it is one."""
+        """Adds the formula that an element may be, and returns whether it is one."""
         if not self._page[candidate.at.end:place].strip():
             return False
         start = candidate.at.start
@@ -261,7 +262,7 @@ class Scanner(HTMLParser):
         return True
 
     def _within_signs(self, start: int, end: int, is_script: bool) -> Tuple[int, int]:
-        """The part of an element's text that is the formula, without white space and delimiters around it."""
+        """Returns the part of an element's text that is the formula, without the white space and delimiters around it."""
         if is_script:
             wrapped = _CDATA.fullmatch(self._page, start, end)
             return wrapped.span(1) if wrapped else (start, end)
@@ -282,7 +283,7 @@ class Scanner(HTMLParser):
             self._refused = None
 
     def _close(self, tag: str) -> None:
-        """Closes the innermost element of this name, with those in it."""
+        """Closes the innermost element of this name, with the elements in it."""
         closed = "" if self._counts.get(tag) else tag
         while closed != tag:
             closed = self._open.pop().tag
@@ -290,7 +291,7 @@ class Scanner(HTMLParser):
 
 
 def _may_have_formulas(attributes: Attributes, above: bool) -> bool:
-    """Whether the text of an element may have formulas, as far as its classes and the element above say."""
+    """Whether the text of an element may have formulas, according to its classes and the element above."""
     classes = classes_of(attributes)
     return bool(classes & PROCESSED) or above and not classes & IGNORED
 

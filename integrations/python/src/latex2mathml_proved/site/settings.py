@@ -13,7 +13,7 @@ from latex2mathml_proved.macros import MacroError, definitions_of
 _STRING = r'"(?:\\.|[^"\\\n])*"|\'(?:\\.|[^\'\\\n])*\''
 _COMMENT = r"//[^\n]*|/\*.*?\*/"
 
-# Where a script has macros. Comments and other strings are passed over.
+# Where a script has macros. Comments and other strings are skipped.
 _MACROS = re.compile(rf"(?P<macros>(?:\b[mM]acros|'[mM]acros'|\"[mM]acros\")\s*:)|{_COMMENT}|{_STRING}", re.DOTALL)
 
 _TOKEN = re.compile(
@@ -24,12 +24,12 @@ _ESCAPE = re.compile(r"\\(?:u([0-9a-fA-F]{4})|x([0-9a-fA-F]{2})|(\r\n|.))", re.D
 _ESCAPED = {"n": "\n", "t": "\t", "r": "\r", "b": "\b", "f": "\f", "v": "\v", "0": "\0", "\n": "", "\r\n": ""}
 _WORDS = {"true": True, "false": False, "null": None}
 
-# The most brackets within each other.
+# The greatest depth of nested brackets.
 _DEPTH = 20
 
 
 class NotPlain(ValueError):
-    """The settings are no plain data. `place` is the index of the first sign that is none."""
+    """Raised when settings are not plain data. `place` is the index of the first sign that is not."""
 
     def __init__(self, place: int):
         super().__init__("no plain data")
@@ -37,7 +37,7 @@ class NotPlain(ValueError):
 
 
 class Refusal(NamedTuple):
-    """Why macros are refused, and where in the script they stand."""
+    """Why macros are refused, and where they are in the script."""
 
     reason: str
     place: int
@@ -71,9 +71,9 @@ def macros_of(script: str) -> Settings:
 
 
 def definitions_in(file: Union[str, pathlib.Path]) -> str:
-    """Returns the macros of a file as a text of definitions: `.json` has a mapping, `.js` has settings, and any other has definitions.
+    """Returns the macros of a file as a text of definitions: `.json` has a mapping, `.js` settings, any other file definitions.
 
-    Raises `MacroError` if something is no definition, and `OSError` if the file cannot be read.
+    Raises `MacroError` if something is not a definition, and `OSError` if the file cannot be read.
     """
     path = pathlib.Path(file)
     if path.suffix not in (".js", ".json"):
@@ -97,7 +97,7 @@ def _mapping(value: Any) -> Mapping[str, Any]:
 
 
 class _Data:
-    """Reads a value of JavaScript that is plain data, from an index on."""
+    """Reads a JavaScript value that is plain data, from an index on."""
 
     def __init__(self, script: str, start: int):
         self._tokens = self._read(script, start)
@@ -129,7 +129,7 @@ class _Data:
         return self._kind == "sign" and self._text == sign
 
     def value(self, depth: int = 0) -> Any:
-        """Takes a value, all but its last token, behind which anything may stand."""
+        """Takes all of a value but its last token, which anything may follow."""
         if depth == _DEPTH:
             raise NotPlain(self._place)
         if self._takes("{"):
@@ -165,7 +165,7 @@ class _Data:
         return made
 
     def _end_member(self, closing: str) -> None:
-        """Takes the last token of a member, and the comma behind it."""
+        """Takes the last token of a member, and the comma after it."""
         self._step()
         if not self._takes(",") and not self._is(closing):
             raise NotPlain(self._place)
@@ -173,5 +173,5 @@ class _Data:
 
 def _unquoted(string: str) -> str:
     text = _ESCAPE.sub(lambda it: chr(int(it[1] or it[2], 16)) if it[1] or it[2] else _ESCAPED.get(it[3], it[3]), string[1:-1])
-    # JavaScript may spell a character as two halves
+    # JavaScript may write a character as two halves
     return text.encode("utf-16", "surrogatepass").decode("utf-16", "replace")

@@ -5,12 +5,12 @@ from typing import Any, Callable
 
 from latex2mathml_proved.site.writing import is_leftover
 
-# How many seconds no file must have changed, so that a build that is under way is converted once.
+# For how many seconds no file may have changed, so that a build in progress is converted only once.
 REST = 0.3
 
 
 def watch(folder: str, convert: Callable[[], object]) -> None:
-    """Calls `convert`, and again whenever something in the folder has changed, until it is interrupted. There are threads meanwhile.
+    """Calls `convert`, and again whenever something in the folder has changed, until it is interrupted. It uses threads meanwhile.
 
     Raises `ImportError` if `watchdog` is missing.
     """

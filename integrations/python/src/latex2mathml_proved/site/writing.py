@@ -1,4 +1,4 @@
-"""Writes files beside those that they replace, and renames them. So at each moment a file is the old one or the new one."""
+"""Writes files next to those that they replace, and renames them, so that a file is always either the old one or the new one."""
 import contextlib
 import errno
 import functools
@@ -9,13 +9,13 @@ import shutil
 import stat
 from typing import Iterator, Optional, Tuple
 
-# The name of a file that is being written has the number of the process that writes it, and when that began: a later process may get
-# the same number.
+# The name of a file that is being written contains the number of the process that writes it, and when that process began, since a
+# later process may get the same number.
 _LEFTOVER = re.compile(r"\.latex2mathml-([0-9]+)-([0-9]+)-[0-9]+\.new")
 
 _numbers = itertools.count()
 
-# The size, the time and the number of a file. One that was written anew has others.
+# The size, the time and the number of a file. They are different if it has been rewritten.
 Signature = Tuple[int, int, int]
 
 
@@ -25,7 +25,7 @@ def is_leftover(name: str) -> bool:
 
 
 def remove_leftovers(folder: str, own: bool = False) -> None:
-    """Removes what processes that were killed had begun to write in a folder; with `own`, also what this one has."""
+    """Removes the files that killed processes were writing in a folder and, with `own`, also those of this process."""
     with contextlib.suppress(OSError), os.scandir(folder) as listed:
         for entry in listed:
             written = _LEFTOVER.fullmatch(entry.name)
@@ -35,7 +35,7 @@ def remove_leftovers(folder: str, own: bool = False) -> None:
 
 
 def _is_alive(process: int, began: str) -> bool:
-    """Whether the process of this number is there, and is the one that began then."""
+    """Whether the process of this number exists, and is the one that began then."""
     try:
         os.kill(process, 0)
     except (ProcessLookupError, OverflowError):
@@ -46,12 +46,12 @@ def _is_alive(process: int, began: str) -> bool:
 
 
 def _beginning(process: int) -> str:
-    """When a process began, in ticks since the system did, as Linux tells it; 0 where nothing is told.
+    """Returns when a process began, in ticks since the system did, as Linux reports it, or 0 if nothing is reported.
 
-    The text is empty for one that has ended, and is still listed because no other asked how.
+    The text is empty for a process that has ended but is still listed, because no other process has asked how it ended.
     """
     with contextlib.suppress(OSError), open(f"/proc/{process}/stat", "rb") as file:
-        # the name of the program stands in parentheses, and may have spaces
+        # the name of the program is in parentheses, and may have spaces
         words = file.read().rpartition(b")")[2].split()
         return "" if words[0] in (b"Z", b"X") else words[19].decode()
     return "0"
@@ -63,14 +63,14 @@ def _own_beginning(process: int) -> str:
 
 
 def signature(status: os.stat_result) -> Signature:
-    """What tells a file from a later one in its place."""
+    """Returns what distinguishes a file from a later one in its place."""
     return status.st_size, status.st_mtime_ns, status.st_ino
 
 
 def write_beside(path: str, content: bytes, like: Optional[os.stat_result] = None) -> Tuple[str, Signature]:
-    """Writes a file beside a path, with the rights and the owner of another. Returns its path and its signature.
+    """Writes a file next to a path, with the permissions and the owner of another. Returns its path and its signature.
 
-    It is removed if an error is raised, as where the disk is full.
+    The file is removed if an error is raised, for example because the disk is full.
     """
     with _beside(path) as beside:
         descriptor = os.open(beside, os.O_WRONLY | os.O_CREAT | os.O_EXCL | os.O_CLOEXEC, 0o666)
@@ -85,7 +85,7 @@ def write_beside(path: str, content: bytes, like: Optional[os.stat_result] = Non
 
 
 def replace(beside: str, path: str) -> None:
-    """Puts a file that stands beside a path in its place. It is removed if that fails."""
+    """Moves a file that is next to a path to that path. The file is removed if that fails."""
     try:
         os.replace(beside, path)
     except BaseException:
@@ -95,7 +95,7 @@ def replace(beside: str, path: str) -> None:
 
 
 def replace_unchanged(beside: str, path: str, before: Signature) -> None:
-    """The same, where the file that is replaced must still be the one that was read. Otherwise it stays as it is."""
+    """Does what `replace` does, if the file to be replaced is still the one that was read. Otherwise that file stays as it is."""
     if signature(os.stat(path)) != before:
         os.unlink(beside)
         raise OSError(errno.EBUSY, "changed while it was converted: left as it is", path)
@@ -103,13 +103,13 @@ def replace_unchanged(beside: str, path: str, before: Signature) -> None:
 
 
 def check_writable(path: str) -> None:
-    """Raises `PermissionError` if a file may only be read. A file can be replaced all the same, which its owner does not expect."""
+    """Raises `PermissionError` if a file is read-only. It could be replaced nevertheless, which its owner does not expect."""
     if not os.access(path, os.W_OK):
         raise PermissionError(errno.EACCES, os.strerror(errno.EACCES), path)
 
 
 def copy_file(source: str, target: str) -> bool:
-    """Makes a file the same as another, with its rights and times. Returns whether it had to be written."""
+    """Makes a file the same as another, with its permissions and times. Returns whether it had to be written."""
     from_status = os.stat(source)
     with contextlib.suppress(FileNotFoundError):
         to_status = os.lstat(target)
@@ -139,7 +139,7 @@ def _name_beside(process: int) -> str:
 
 @contextlib.contextmanager
 def _beside(path: str) -> Iterator[str]:
-    """The path of a file to be written, which is removed if the block raises an error."""
+    """Yields the path of a file to be written, which is removed if the block raises an error."""
     beside = os.path.join(os.path.dirname(path), _name_beside(os.getpid()))
     try:
         yield beside

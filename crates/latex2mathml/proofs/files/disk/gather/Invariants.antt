@@ -1,4 +1,4 @@
--- The names are those of the entries so far, the others are counted, and each entry leaves one fewer to come.
+-- The names are those of the entries so far, the unread entries are counted, and each entry leaves one fewer to come.
 use Rattle.std.proofs.Common.{◌≡◌, ◌+◌, ◌≤◌, map, string_bytes}
 use Rattle.std.specs.Iterator.{IsFinite, size}
 use Rattle.latex2mathml.specs.Entries.{names_of, unread_of}

@@ -5,7 +5,7 @@ use Rattle.latex2mathml_elements.specs.Extents.{black_text, length_if_any, lengt
 use Rattle.latex2mathml_attributes.proofs.Appended.{then}
 use Rattle.latex2mathml_attributes.proofs.extent.Extent.append.Goals as goal
 
--- a length as it is handed on
+-- a length stays the same when it is passed on
 kept : (n : ℤ) → SFits w32 n → to_z w32 (of_z w32 n) ≡ n
 kept n fits = omega (arith, ints, fits)
 

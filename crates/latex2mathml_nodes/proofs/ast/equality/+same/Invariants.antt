@@ -1,4 +1,4 @@
--- The members before the index are the same; and how much is in what each function has still to compare.
+-- The members before the index are equal. Also how much each function still has to compare.
 use Rattle.std.proofs.Common.{◌≡◌, ◌+◌, ◌*◌, length, map, take}
 use Rattle.latex2mathml_nodes.specs.{Layers.weight_within, Layers.within, Nodes.tree, Nodes.trees}
 use Rattle.latex2mathml_trees.specs.Weight.{weight, weights}

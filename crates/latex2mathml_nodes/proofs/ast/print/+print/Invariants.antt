@@ -1,4 +1,4 @@
--- The prints of the nodes so far are written; and how much is in what each function has still to print.
+-- The prints of the nodes so far are written. Also how much each function still has to print.
 use Rattle.std.proofs.Common.{take, ◌+◌, ◌*◌}
 use Rattle.std.specs.Fmt.{HasWritten, IsPlainFormatter}
 use Rattle.latex2mathml_trees.specs.{Print.members_print, Print.prints, Weight.weight, Weight.weights}
@@ -36,3 +36,24 @@ decreases-write_member g l = 6 * weight (tree l.node.now) + 1
 
 abbrev pub decreases-write_members : goal.decreases-write_members
 decreases-write_members g l = 6 * weights (trees l.members.now)
+
+abbrev pub decreases-write_accented : goal.decreases-write_accented
+decreases-write_accented g l = 6 * weight (tree l.x.now) + 1
+
+abbrev pub decreases-write_fraction : goal.decreases-write_fraction
+decreases-write_fraction g l = 6 * (weight (tree l.numerator.now) + weight (tree l.denominator.now)) + 2
+
+abbrev pub decreases-write_row : goal.decreases-write_row
+decreases-write_row g l = 6 * weights (trees l.members.now) + 1
+
+abbrev pub decreases-write_fenced : goal.decreases-write_fenced
+decreases-write_fenced g l = 6 * weight (tree l.content.now) + 1
+
+abbrev pub decreases-write_matrix : goal.decreases-write_matrix
+decreases-write_matrix g l = 6 * weights (trees l.members.now) + 1
+
+abbrev pub decreases-write_slashed : goal.decreases-write_slashed
+decreases-write_slashed g l = 6 * weight (tree l.x.now) + 1
+
+abbrev pub decreases-write_styled : goal.decreases-write_styled
+decreases-write_styled g l = 6 * weight (tree l.x.now) + 2

@@ -9,4 +9,4 @@ returns-clause-holds c = λ input k.
     let p = c.args.self.now in
     let l = level 1 input p in
     let more : takes_script (due_of l) ≡ true = cc (due_of_inside input p.frames.stack.items (drop 1 (trees_in p.parts))) in
-    c.open.ensures.holds input (sign_taken l c.args.sign _ p.reader.list _ more (passed _ _ _ c.requires.sign c.skip.ensures.list) k)
+    c.open.ensures.holds input (sign_taken l c.args.sign _ p.lexer.list _ more (passed _ _ _ c.requires.sign c.skip.ensures.list) k)

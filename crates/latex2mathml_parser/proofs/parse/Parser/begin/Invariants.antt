@@ -10,10 +10,10 @@ abbrev pub invariant-middles : goal.invariant-middles
 invariant-middles l = record {
   trees : HasTrees 0 l.self;
   holds : (input : List Tok) → GoesOnBy (rule (lexeme_tok l.fn.lexeme)) 0 input l.fn.self → GoesOnBy (rule (lexeme_tok l.begun)) 0 input l.self;
-  counts : GoesOn l.fn.self.reader l.self.reader;
-  frames : OpensFor l.fn.self.reader l.self.reader (l.fn.self.frames.greatest + opens (lexeme_tok l.fn.lexeme)) (l.self.frames.greatest + opens (lexeme_tok l.begun));
+  counts : GoesOn l.fn.self.lexer l.self.lexer;
+  frames : OpensFor l.fn.self.lexer l.self.lexer (l.fn.self.frames.greatest + opens (lexeme_tok l.fn.lexeme)) (l.self.frames.greatest + opens (lexeme_tok l.begun));
   falls : to_do l.self ≤ to_do l.fn.self;
 }
 
 abbrev pub decreases-middles : goal.decreases-middles
-decreases-middles l = length l.self.reader.list
+decreases-middles l = length l.self.lexer.list

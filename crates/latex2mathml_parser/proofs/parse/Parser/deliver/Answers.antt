@@ -17,4 +17,4 @@ returns-in_ok-put-in-Script-clause-holds c = λ input k.
     let p = c.args.self.now in
     let ts = trees_in p.parts in
     rw (c.in_ok-put-in-Script.ensures ∙ c.script.ensures.trees ts, drop_from_one 2 ts (omega arith))
-    (node_due (inside input p.frames.stack.items (drop 1 (drop 1 ts))) (script c.in-Script.sign (top (drop 1 ts)) (top ts)) p.reader.list (rw c.in-Script.is at k))
+    (node_due (inside input p.frames.stack.items (drop 1 (drop 1 ts))) (script c.in-Script.sign (top (drop 1 ts)) (top ts)) p.lexer.list (rw c.in-Script.is at k))

@@ -7,7 +7,7 @@ use Rattle.latex2mathml_tex_units.specs.declared.error.TexError.{TexError}
 use Rattle.latex2mathml_tex.specs.declared.parse.Form.{Form}
 use Rattle.latex2mathml_tex.proofs.convert.Converter.read_as.Goals as goal
 
--- what was read stands in the builder that is kept
+-- what was read is in the builder that is kept
 kept : (result : Result ℕ TexError) (form : Form) (read style : Style) (l m : Units) (b d : Built) → read ≡ style → l ≡ m → d ≡ b → IfOk result (λ n. HasRead (ReadsAs form read l) n (elements_in b)) → IfOk result (λ n. HasRead (ReadsAs form style m) n (elements_in d))
 kept result form read style l m b d s u e h =
     subst (λ x. IfOk result (λ n. HasRead (ReadsAs form style m) n (elements_in x))) (sym e)

@@ -16,7 +16,7 @@ use Rattle.latex2mathml_tex.proofs.parse.Parser.begin_aligned.Goals as goal
 abbrev rows : ℕ → Context → Environment → Columns → Rule
 rows place context e columns = rows_rule place (context_of context) e.name.now (environment_of e) columns
 
--- .. and where all cells stand as a letter in brackets says
+-- the rows of the environment, where all cells are aligned as a letter in brackets says
 abbrev in_line : ℕ → Context → Environment → Columns → List ℕ → Rule
 in_line place context e columns letter = rows place context e columns
 

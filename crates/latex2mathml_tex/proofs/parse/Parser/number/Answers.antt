@@ -21,7 +21,7 @@ alphabet c = option_map alphabet_of c.args.alphabet
 abbrev before : goal.After-number → Parser
 before c = c.args.self.now
 
--- the digits that stand first, and the parser behind them
+-- the digits that come first, and the parser after them
 abbrev whole : goal.After-number → List ℕ
 whole c = c.args.digit ∷ (digits_next (left_of (before c))).0
 

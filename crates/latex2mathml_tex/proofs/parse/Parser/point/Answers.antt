@@ -22,11 +22,11 @@ alphabet c = option_map alphabet_of c.args.alphabet
 abbrev before : goal.After-number → Parser
 before c = c.args.self.now
 
--- the parser behind the first digit
+-- the parser after the first digit
 abbrev behind : goal.After-number → Parser
 behind c = record (before c) { input = c.take_digit.new.self }
 
--- the point and that digit, and the digits that stand next
+-- the point and that digit, and the digits that come next
 abbrev first : goal.After-number → List ℕ
 first c = 46 ∷ c.in-Some.digit ∷ []
 

@@ -21,7 +21,7 @@ returns-then-branch-clause-holds c = λ s g.
     let below = ap (drop n) c.in_ok-push.ensures.elements ∙ below_longer more n xs some in
     word_put s p c.push.new.self c.args.words c.args.words (Shown more) first c.if-words.true below g
 
--- no text stands uppermost that could become longer
+-- the uppermost element is not a text that could become longer
 same : (c : goal.After-struct_known-2-1) → elements_of c.else-words.self ≡ elements_of c.args.self.now
 same c = elim c.else-words.branch [
   | else-words-via-then-words+then-words-gt0+in_ok-push+else-branch w ↦ (

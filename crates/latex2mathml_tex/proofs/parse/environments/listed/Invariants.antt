@@ -1,4 +1,4 @@
--- The columns of the letters so far, of which there are no more than can be said.
+-- The columns of the letters so far, of which there are no more than can be listed.
 use Rattle.std.proofs.Common.{◌≡◌, ◌≤◌, take}
 use Rattle.latex2mathml_elements.specs.Columns.{Listed}
 use Rattle.latex2mathml_attributes.specs.Columns as builder

@@ -1,4 +1,4 @@
--- What is found from here on, behind the text so far, is what was to be found.
+-- What is found from here on, after the text so far, is what was to be found.
 use Rattle.std.proofs.Common.{◌≡◌, string_bytes}
 use Rattle.latex2mathml_tex_grammar.specs.Scanning.{scan}
 use Rattle.latex2mathml_tex_units.specs.Left.{unit_count, units_at}

@@ -5,7 +5,7 @@ use Rattle.latex2mathml_tex_units.specs.{Left.units_left, Taking.unit_of}
 use Rattle.latex2mathml_tex_units.proofs.macros.usual.units_of.Given as goal
 
 abbrev pub invariant-units : goal.invariant-units
-invariant-units l = listed (units_of 0 (chars l.fn.text)) ≡ map unit_of l.units.items ++ listed (units_left l.reader)
+invariant-units l = listed (units_of 0 (chars l.fn.text)) ≡ map unit_of l.units.items ++ listed (units_left l.lexer)
 
 abbrev pub decreases-units : goal.decreases-units
-decreases-units l = count (units_left l.reader)
+decreases-units l = count (units_left l.lexer)

@@ -1,4 +1,4 @@
--- The entries that are left decide the look-up, and their number falls.
+-- The entries that are left decide the look-up, and their number decreases.
 use Rattle.std.proofs.Common.{length}
 use Rattle.latex2mathml_tokens.proofs.Lookups.{Narrowed}
 use Rattle.latex2mathml_tokens.proofs.token.search.look_up.Given as goal

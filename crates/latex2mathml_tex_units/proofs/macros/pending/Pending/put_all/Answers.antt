@@ -10,5 +10,5 @@ units-preserved c =
     let within : c.units.left - 1 < length c.args.units.now = omega (arith, next, c.units.invariant.within) in
     record {
       within = omega (arith, within);
-      put = one_put c.args.units.now (c.units.left - 1) c.units.left _ c.units.self.put.items c.push.new.self.items (units_left c.units.self.reader) (pending_units c.args.self.now) c.units.invariant.put next within c.in_ok-push.ensures.items;
+      put = one_put c.args.units.now (c.units.left - 1) c.units.left _ c.units.self.put.items c.push.new.self.items (units_left c.units.self.lexer) (pending_units c.args.self.now) c.units.invariant.put next within c.in_ok-push.ensures.items;
     }

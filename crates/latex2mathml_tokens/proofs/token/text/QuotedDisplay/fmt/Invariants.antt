@@ -1,4 +1,4 @@
--- The characters so far are written, each with its backslash where it takes one.
+-- The characters so far are written, each with a backslash if it takes one.
 use Rattle.std.specs.{Char.encode_utf8, Fmt.HasWritten, Fmt.IsPlainFormatter, List.flat_map}
 use Rattle.latex2mathml_tokens.specs.Escape.{quoted_byte}
 use Rattle.latex2mathml_tokens.proofs.token.text.QuotedDisplay.fmt.Given as goal

@@ -1,0 +1,79 @@
+//! A text, character by character and run by run.
+ghost use Rattle.std.specs.Prelude.{◌≡◌, ◌∷◌, ◌++◌, ℕ, [], List, MatchOption};
+ghost use Rattle.std.specs.{Str.chars, Str.encode_utf8_all};
+ghost use Rattle.latex2mathml_tex_grammar.specs.Units;
+ghost use Rattle.latex2mathml_tex_units.specs.Runs.{in_class, IsLongestRun};
+
+/// The classes of characters that form runs.
+#[derive(Clone, Copy)]
+pub enum Class {
+    /// White space.
+    Space,
+    /// The ASCII letters.
+    Letter,
+    /// The characters of a line, without its end.
+    Line,
+}
+
+impl Class {
+    fn contains(self, c: char) -> bool
+        ensures { result ≡ in_class self c }
+    {
+        match self {
+            Class::Space => is_space(c),
+            Class::Letter => c.is_ascii_alphabetic(),
+            Class::Line => c != '\n',
+        }
+    }
+}
+
+/// Whether the character is white space.
+pub fn is_space(c: char) -> bool
+    ensures { result ≡ Units.is_space c }
+{
+    c == ' ' || c == '\t' || c == '\n' || c == '\r'
+}
+
+/// Whether XML forbids the character.
+pub fn is_forbidden(c: char) -> bool
+    ensures { result ≡ Units.is_forbidden c }
+{
+    (c < ' ' && !is_space(c)) || c == '\u{FFFE}' || c == '\u{FFFF}'
+}
+
+/// Returns the first character and the text after it.
+#[inline(always)]
+#[tactic(auto, using(std::proofs::lemmas::Str::chars_past_char))]
+pub fn first_char(text: &str) -> Option<(char, &str)>
+    ensures { MatchOption result (chars text.now ≡ [])
+        (λ found. chars text.now ≡ found.0 ∷ chars found.1.now) }
+{
+    let mut characters = text.chars();
+    let first = characters.next()?;
+    Some((first, characters.as_str()))
+}
+
+/// Returns what follows the longest run of characters of a class at the start of the text.
+#[inline(always)]
+pub fn skip_run(class: Class, text: &str) -> &str
+    ensures { (w : List ℕ) × IsLongestRun class (chars text.now) w (chars result.now) }
+{
+    let mut rest = text;
+    while let Some((c, after)) = first_char(rest) {
+        if !class.contains(c) {
+            return rest;
+        }
+        rest = after;
+    }
+    rest
+}
+
+/// Returns the part of the text before its end `rest`.
+#[inline(always)]
+pub fn before<'a>(text: &'a str, rest: &str) -> &'a str
+    requires { (w : List ℕ) × (chars text.now ≡ w ++ chars rest.now) }
+    ensures { (w : List ℕ) → chars text.now ≡ w ++ chars rest.now
+        → result.now ≡ encode_utf8_all w }
+{
+    text.split_at(text.len() - rest.len()).0
+}
