@@ -281,7 +281,7 @@ class Macros(Pandoc):
                 self.ends(json_of([], macros=macros), fault, "-f", "json", "-t", "html")
 
     def test_what_is_no_macro(self):
-        quoted = "write what the macro \\a stands for between backquotes"
+        quoted = "write the body of the macro \\a between backquotes"
         for macros, fault in (("\n    \\a: a\\,b", quoted), ("\n    \\a: '\\lVert #1 \\rVert'", quoted),
                               ("\n    \\a: true", quoted),
                               (" x", "the option macros is a mapping or a text of definitions")):

@@ -13,7 +13,7 @@ function countArguments(body) {
 /** Returns the body of a macro and the number of its arguments. */
 function bodyOf(command, value) {
     const [body, count] = Array.isArray(value) ? value : [value];
-    if (typeof body !== 'string') throw new TypeError(`latex2mathml: the macro ${command} stands for no string`);
+    if (typeof body !== 'string') throw new TypeError(`latex2mathml: the macro ${command} must be a string`);
     if (count === undefined) return [body, countArguments(body)];
     if (/^[0-9]$/.test(count)) return [body, count];
     throw new TypeError(`latex2mathml: the macro ${command} takes 0 to 9 arguments`);

@@ -117,7 +117,7 @@ local function definition_of(name, value)
   local is_list = type_of(value) == 'List'
   local body = tex_of(is_list and value[1] or value)
   if not body then
-    fail('write what the macro %s stands for between backquotes', name)
+    fail('write the body of the macro %s between backquotes', name)
   end
   local count = is_list and value[2] and tonumber(pandoc.utils.stringify(value[2])) or count_arguments(body)
   local command = name:match('^\\') and name or '\\' .. name

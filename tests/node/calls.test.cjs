@@ -111,8 +111,8 @@ for (const [macros, message] of [
 for (const [macros, message] of [
     [{ R2: 'x' }, '"R2" is no name of a macro'],
     [{ '': 'x' }, '"" is no name of a macro'],
-    [{ a: 1 }, 'the macro \\a stands for no string'],
-    [{ a: [] }, 'the macro \\a stands for no string'],
+    [{ a: 1 }, 'the macro \\a must be a string'],
+    [{ a: [] }, 'the macro \\a must be a string'],
     [{ a: ['x', 10] }, 'the macro \\a takes 0 to 9 arguments'],
     [{ a: ['x', null] }, 'the macro \\a takes 0 to 9 arguments'],
     [undefined, 'macros are a mapping from names to TeX, or a text of definitions'],

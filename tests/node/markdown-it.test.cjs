@@ -115,7 +115,7 @@ testPages([['$\\R$', '<p><i>\\mathbb{R}</i></p>\n']], { macros: '\\newcommand{\\
 
 for (const [macros, message] of [
     [{ R2: 'x' }, 'latex2mathml: "R2" is no name of a macro'],
-    [{ '\\R': 1 }, 'latex2mathml: the macro \\R stands for no string'],
+    [{ '\\R': 1 }, 'latex2mathml: the macro \\R must be a string'],
     [{ '\\R': '{' }, 'the macro \\R is refused: { is not closed'],
 ]) {
     test(message, () => assert.throws(() => markdownIt().use(latex2mathml, { macros }), { message }));

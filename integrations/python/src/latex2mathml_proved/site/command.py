@@ -162,7 +162,7 @@ def _wrong(source: str, target: Optional[str]) -> str:
     for inner, outer in ((source, target), (target, source)):
         if os.path.isdir(outer) and os.path.realpath(inner).startswith(os.path.join(os.path.realpath(outer), "")):
             if os.path.isdir(source):
-                return "neither of IN and OUT may stand in the other"
+                return "IN and OUT must not contain each other"
     return ""
 
 
