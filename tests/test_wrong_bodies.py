@@ -7,7 +7,7 @@ import unittest
 
 from tests.support import ROOT
 
-MOST, MOST_OF_A_CRATE = 97, 12
+MOST, MOST_OF_A_CRATE = 60, 10
 
 # a function of a module of laws: its name, and its body
 LAW = re.compile(r"^pub fn (\w+).*?(?:\{\}$|^\{\n(.*?)^\}$)", re.M | re.S)
