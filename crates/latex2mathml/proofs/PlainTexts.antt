@@ -186,7 +186,7 @@ free_text : (text : List ℕ) → ((i : ℕ) → i < length text → get_or text
 free_text [] none = refl
 free_text (b ∷ text) none = free_more b text (other b (none 0 (omega arith))) (free_text text (λ i inside. none (suc i) (omega arith)))
 
--- text before the first dollar sign holds none
+-- text before the first dollar sign holds no dollar sign
 pub none_before : (text : List ℕ) (place : ℕ) → ((i : ℕ) → i < place → get_or text i 0 ≢ dollar) → IsDollarFree (take place text)
 none_before text place none =
     free_text (take place text) (λ i inside e. (let short : i < place = omega (arith, length-take place text) in none i short (sym (get_or-take place text i 0 short) ∙ e)))

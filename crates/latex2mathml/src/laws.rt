@@ -22,7 +22,7 @@ pub fn one_cut(document: &str)
 /// - Each document has exactly one answer or exactly one refusal. The refusal is for dollar signs exactly if there is no cut.
 /// - An answer is its own answer, and has one `math` element in place of each formula.
 /// - Answers are joined as their documents are, under the condition of [`joined`].
-/// - If the prose around the formulas is balanced markup, so is the answer.
+/// - If the prose around the formulas is balanced markup, so is the answer. If it is that of a page, the answer is a page.
 pub fn answers()
     ensures { AnswersHold }
 {

@@ -11,7 +11,7 @@ use std::io::{ErrorKind, Write};
 use std::process::ExitCode;
 use std::{env, io};
 
-/// Returns the arguments after the program's name, or none if one of them is not UTF-8. The only `Err` is out of memory.
+/// Returns the arguments after the program's name, or an empty list if one of them is not UTF-8. The only `Err` is out of memory.
 fn words(rt: &HostRuntime) -> io::Result<Vec<String>>
     ensures { IfErr result (λ fault. error_kind fault ≡ ErrorKind.OutOfMemory) }
 {

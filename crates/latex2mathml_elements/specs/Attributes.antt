@@ -18,7 +18,7 @@ pub data Stretch : Type 0 where
   Stretching : Stretch
   Rigid : Stretch
 
--- the space on both sides of an operator: none, or a twentieth of an em
+-- the space on both sides of an operator: no space, or a twentieth of an em
 pub data Space : Type 0 where
   NoSpace : Space
   Narrow : Space

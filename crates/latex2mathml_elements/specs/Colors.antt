@@ -8,7 +8,7 @@ pub record Color : Type 0 where
   pub green : ℕ
   pub blue : ℕ
 
--- a digit of a number in hexadecimal
+-- the hexadecimal digit of a number below 16
 abbrev pub hexadecimal : ℕ → ℕ
 hexadecimal d = if nat_lt d 10 then byte "0" + d else byte "a" + (d - 10)
 

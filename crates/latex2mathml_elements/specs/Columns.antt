@@ -9,7 +9,7 @@ pub data Column : Type 0 where
   -- the two columns of a pair, with no space between them: the first is aligned right, the second left
   FirstOfPair : Column
   SecondOfPair : Column
-  -- centered, with little space around
+  -- centered, with little space around it
   Dense : Column
 
 -- all columns of a table, however many there are

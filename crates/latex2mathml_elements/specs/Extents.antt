@@ -16,7 +16,7 @@ pub record Extent : Type 0 where
 abbrev pub wide : ℤ → Extent
 wide width = record { width = width; height = pos 0; depth = pos 0; is_black = false }
 
--- a length in ems, as a decimal fraction
+-- a length of this many thousandths of an em, in ems, as a decimal fraction
 abbrev pub ems : ℤ → List ℕ
 ems (pos n) = thousandths_text n
 ems (negsuc n) = byte "-" ∷ thousandths_text (suc n)

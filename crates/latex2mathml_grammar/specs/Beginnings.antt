@@ -5,7 +5,7 @@ use Rattle.std.specs.List.{AllPass}
 use Rattle.latex2mathml_grammar.specs.{Characters.Stops, Characters.head, Spelling.SpellsAt, Spelling.IsNumber}
 use Rattle.latex2mathml_tokens.specs.Tok.{Tok}
 
--- the text is front and back, and front is the longest run of characters that pass the test
+-- the text is `front` followed by `back`, and `front` is the longest run of characters that pass the test
 abbrev pub IsLongestRun : (ℕ → Bool) → List ℕ → List ℕ → List ℕ → Type 0
 IsLongestRun p text front back = (text ≡ front ++ back) × AllPass p front × Stops p (head back)
 

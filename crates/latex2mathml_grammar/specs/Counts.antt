@@ -15,18 +15,18 @@ begins_with_backslash (c ∷ cs) = c ∈ "\\"
 abbrev pub backslashes : List Slice → ℕ
 backslashes slices = count_by (λ s. begins_with_backslash s.text) slices
 
--- at most n tokens of the text were taken, and all of them where `done` holds
+-- n tokens were taken: no more than the text has, and all of them where `done` holds
 abbrev pub IsTokenCount : List ℕ → Bool → ℕ → Type 0
 IsTokenCount text done n =
     (slices : List Slice) × HasSlices false text slices × (n ≤ length slices) × (IsTrue done → n ≡ length slices)
 
--- Of the tokens that were taken, the first of the text, k have slices that begin with a backslash. There were k to 9 * k
--- comparisons.
+-- The first `taken` tokens of the text were taken. If k of their slices begin with a backslash, the number n of comparisons is
+-- from k to 9 * k.
 abbrev pub IsComparisonCount : List ℕ → ℕ → ℕ → Type 0
 IsComparisonCount text taken n =
     (slices : List Slice) × HasSlices false text slices × (backslashes (take taken slices) ≤ n) × (n ≤ 9 * backslashes (take taken slices))
 
--- consecutive nodes are read, down to the tokens that are left
+-- consecutive nodes are read at the front of the tokens `ts`, and these tokens are left
 pub data ReadsNodes (ts : List Tok) : List Tok → Type 0 where
   none_read : ReadsNodes ts ts
   one_more : {t : Tok} {l m : List Tok} {x : Tree}
@@ -34,7 +34,7 @@ pub data ReadsNodes (ts : List Tok) : List Tok → Type 0 where
       → Reads node (t ∷ l) (Read x m)
       → ReadsNodes ts m
 
--- n tokens of the text were taken where it is refused: all those before the node that is refused, and more
+-- n tokens of the text were taken until it was refused: all those before the node that is refused, and at least one more
 abbrev pub IsRefusalCount : List ℕ → ℕ → Refusal → Type 0
 IsRefusalCount text n r =
     (ts : List Tok) × HasTokens None text ts × ((place : List Tok) × ReadsNodes ts place × Reads node place (Refused r) × (length ts < n + length place))

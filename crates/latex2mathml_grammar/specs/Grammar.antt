@@ -1,5 +1,5 @@
--- The grammar: what a list of tokens is read as, or why it is refused. A table has a rule for each token that can begin
--- a core; three small relations say how rules are read, and they are the same for every rule.
+-- The grammar: what a list of tokens is read as, or why it is refused. A table has the rule of each token at the beginning of
+-- a core, also of a token that has no meaning there. Three relations say how rules are read. They are the same for every rule.
 use Rattle.std.specs.Prelude.{◌≡◌, ◌≢◌, ℕ, List, [], ◌∷◌, Option, Some, None, codes}
 use Rattle.std.specs.Str.{byte, encode_utf8_all}
 use Rattle.latex2mathml_trees.specs.Productions.{binomial_tree, environment_tree, fence_of, overbrace_tree, labelled_overbrace_tree, stretched_operator, underbrace_tree, labelled_underbrace_tree, group_tree, prime_mark}
@@ -35,7 +35,7 @@ pub data Rule : Type 0 where
   -- the longest run of letters, of any variant, is taken, and what follows gets their characters
   takes_letters : (List ℕ → Rule) → Rule
 
--- the operands of roots, fractions, accents and styles: what follows them stays outside
+-- the operands of roots, fractions, binomials, accents, stacks and styles are cores: scripts and primes after them stay outside
 abbrev pub operand : Sort
 operand = core
 

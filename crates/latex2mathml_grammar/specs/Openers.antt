@@ -15,7 +15,7 @@ opens t = 1
 abbrev pub openers : List Tok → ℕ
 openers ts = sum_by opens ts
 
--- While `taken` tokens of the text were taken, n frames at most were open at once. That is no more than the tokens that
--- were taken, and no more than the tokens of the text that may open one.
+-- While `taken` tokens of the text were taken, n is the greatest number of frames that were open at once. It is no more than the
+-- number of tokens that were taken, and no more than the number of tokens of the text that may open a frame.
 abbrev pub IsFrameCount : List ℕ → ℕ → ℕ → Type 0
 IsFrameCount text taken n = (n ≤ taken) × ((ts : List Tok) × HasTokens None text ts × (n ≤ openers ts))

@@ -8,7 +8,7 @@ use Rattle.latex2mathml_grammar.specs.Rendering.{IsRendering, IsFormulaRefusal}
 use Rattle.latex2mathml_grammar.specs.Spelling.{Slice, SpellsAt, HasSlices, HasTokens, takes_digit}
 use Rattle.latex2mathml_tokens.specs.{Refusal.Refusal, Tok.Tok, declared.DisplayStyle.DisplayStyle}
 
--- the text w, followed by `behind`, is these slices in turn, with or without white space before each
+-- the text w, after which the text `behind` follows, is these slices in turn, with or without white space before each
 abbrev pub AreSlices : Bool → List ℕ → List ℕ → List Slice → Type 0
 AreSlices takes w behind [] = w ≡ []
 AreSlices takes w behind (s ∷ ss) =

@@ -1,5 +1,5 @@
--- How a text spells its tokens. Nothing here scans: a slice of the text, with the character that follows it, is a token
--- or is none.
+-- How a text spells its tokens. Nothing here scans: `SpellsAt` relates a slice of the text, and the character that follows it,
+-- to the token that the slice spells.
 use Rattle.std.specs.Prelude.{◌≡◌, ℕ, ◌≤◌, Bool, true, false, ◌&&◌, ◌||◌, ◌==◌, IsTrue, IsFalse, List, [], ◌∷◌, ◌++◌, map, count_by, codes, Option, Some, None, if◌then◌else◌}
 use Rattle.std.specs.{Char.is_ascii_digit, Char.is_ascii_alphabetic, List.AllPass, Str.byte, Str.encode_utf8_all}
 use Rattle.latex2mathml_grammar.specs.Characters.{◌∈◌, Begins, Stops, head, is_empty, is_space}
@@ -59,7 +59,7 @@ takes_digit (Some (Binom display)) = true
 takes_digit (Some (Style variant)) = true
 takes_digit (Some t) = false
 
--- the slice w, before the character `next` or the end of the text, is the token t. `alone` says that a digit here is a
+-- the slice w, before the character `next` or the end of the text, spells the token t. `alone` says that a digit here is a
 -- number of its own.
 pub data SpellsAt (alone : Bool) (w : List ℕ) (next : Option ℕ) (t : Tok) : Type 0 where
   -- a character that is a token by itself
@@ -114,13 +114,13 @@ pub record Slice : Type 0 where
   pub text : List ℕ
   pub token : Tok
 
--- the text is white space, a slice that is its token, and the rest. `takes` says that a digit directly after the previous
+-- the text is white space, a slice that spells its token, and the rest. `takes` says that a digit directly after the previous
 -- token is a number of its own.
 abbrev pub IsFirstSlice : Bool → List ℕ → Slice → List ℕ → Type 0
 IsFirstSlice takes text s rest =
     (space : List ℕ) × (text ≡ space ++ (s.text ++ rest)) × AllPass is_space space × SpellsAt (takes && is_empty space) s.text (head rest) s.token
 
--- the text is white space and these slices in turn
+-- the text is these slices in turn, with or without white space before each of them and at the end
 abbrev pub HasSlices : Bool → List ℕ → List Slice → Type 0
 HasSlices takes text [] = AllPass is_space text
 HasSlices takes text (s ∷ ss) = (rest : List ℕ) × IsFirstSlice takes text s rest × HasSlices (takes_digit (Some s.token)) rest ss

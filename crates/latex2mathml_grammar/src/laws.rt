@@ -9,8 +9,8 @@ ghost use Rattle.latex2mathml_grammar.specs.TokenLists.{HasOneTokenList, TextHas
 use latex2mathml_tokens::DisplayStyle;
 use latex2mathml_tokens::token::Token;
 
-/// Each text has exactly one token list, and each list of tokens exactly one reading or exactly one refusal. White space
-/// between two tokens changes neither, except directly before a digit that may be an operand.
+/// Each text has exactly one token list, and each list of tokens exactly one reading or exactly one refusal. There is a place
+/// between any two adjacent tokens. White space there changes neither, except directly before a digit that may be an operand.
 pub fn texts()
     ensures { TextsHold }
 {}

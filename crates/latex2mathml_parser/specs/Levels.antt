@@ -62,7 +62,7 @@ As core node K = Then rule_after_core (Then rule_after_single K)
 As single node K = Then rule_after_single K
 As s t K = K
 
--- the outcome of members, with this one before them
+-- the outcome of the members that follow this one, with this one put before them
 abbrev pub behind : Tree → Outcome (List Tree) → Outcome (List Tree)
 behind x (Read xs place) = Read (x ∷ xs) place
 behind x (Refused r) = Refused r

@@ -12,8 +12,8 @@ in_class Space c = is_space c
 in_class Digit c = is_ascii_digit c
 in_class Letter c = is_ascii_alphabetic c
 
--- the text is white space, and then a start that begins with none. `takes` says that a digit at the front of the text is
--- a number of its own, and `alone` that a digit at the start is.
+-- the text is white space, and then a start that does not begin with white space. `takes` says that a digit at the front of the
+-- text is a number of its own, and `alone` that a digit at the start is.
 abbrev pub IsStart : Bool → List ℕ → List ℕ → Bool → Type 0
 IsStart takes text start alone =
     (space : List ℕ) × IsLongestRun is_space text space start × (alone ≡ (takes && is_empty space))

@@ -95,7 +95,7 @@ impl<'a> Parts<'a> {
         }
     }
 
-    /// Makes one tree of the last `count` trees: one tree stays as it is, none or several become a row.
+    /// Makes one tree of the last `count` trees: a single tree stays as it is, and no tree or several become a row.
     #[inline(always)]
     #[tactic(auto, using(crate::proofs::Styles::plain, crate::proofs::Styles::all_plain, crate::proofs::Changes::last_trees))]
     pub fn group(&mut self, count: usize) -> Result<(), AllocError>

@@ -7,8 +7,8 @@ use std::test::Fail;
 
 const ENOUGH: usize = 100_000;
 
-/// Whether the document, read this many bytes per call, is read to its end and converted to this answer, or unchanged if there
-/// is none.
+/// Whether the document, read this many bytes per call, is read to its end and converted to this answer, or is unchanged if no
+/// answer is given.
 fn is_read(alloc: Global, document: &str, step: usize, answer: Option<&str>) -> Result<bool, Fail> {
     let mut from = stream(Reader {
         bytes: document.as_bytes(),

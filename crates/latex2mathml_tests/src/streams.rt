@@ -79,7 +79,7 @@ struct Writing {
 }
 
 impl Writing {
-    /// Whether the writer then has exactly the bytes that the result reports, and the result has the cause, or none if all
+    /// Whether the writer then has exactly the bytes that the result reports, and the result has the cause, or is `Ok` if all
     /// bytes were taken.
     fn ends(self, alloc: Global, cause: Option<WriteCause>, written: usize) -> bool {
         let mut sink = stream(Writer {

@@ -117,7 +117,7 @@ element_there style first before PlusOrMinus x =
     if begins_operand before then as_prefix x else tight style (as_infix first x)
 element_there style first before kind x = x
 
--- the space around a sign that is the whole of an atom of this class: none in scripts, or where the class has none
+-- the space around a sign that is the whole of an atom of this class: no space in scripts, or where the class has no space
 abbrev pub space_as : Style → Class → Option Space → Option Space
 space_as InScript class space = Some NoSpace
 space_as style Binary space = space

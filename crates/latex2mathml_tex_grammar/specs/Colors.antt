@@ -170,7 +170,7 @@ named_color name = entry_color color_entries name
 
 -- Digits in hexadecimal
 
--- the value of a digit; any other character has none
+-- the value of a hexadecimal digit; any other character has no value
 abbrev pub digit_value : ℕ → Option ℕ
 digit_value c =
     if is_ascii_digit c then Some (c - byte "0")

@@ -28,7 +28,7 @@ pub data Bracket : Type 0 where
   Alignment : Bracket
 
 pub record Environment : Type 0 where
-  -- the delimiters around it, where it has any; an empty text is none
+  -- the delimiters around it, where it has any; an empty text is no delimiter
   pub delimiters : Option (List ℕ × List ℕ)
   pub columns : Columns
   -- the style of its cells

@@ -115,7 +115,7 @@ spacing width = atom Blank false (space width)
 abbrev pub blank : ℤ → Atom
 blank width = atom Blank false (rectangle (wide width))
 
--- a stroke through a token, U+0338; what is not a token has none
+-- a token with a stroke through it, U+0338; nothing else can have a stroke
 abbrev pub struck : Element → Option Element
 struck (token t a sign_text) = Some (token t a (sign_text ++ text 0x0338))
 struck x = None
@@ -247,7 +247,7 @@ fraction_element Bare above below = without_bar above below
 abbrev pub fraction : FractionRule → Option Style → Element → Element → Core
 fraction rule own above below = core (atom (Plain Inner) true (in_style own (fraction_element rule above below)))
 
--- how a fraction is drawn, as its author says: its delimiters, of which an empty text is none, whether it has a line, and
+-- how a fraction is drawn, as its author says: its delimiters, where an empty text is no delimiter, whether it has a line, and
 -- its style, where it has one of its own
 pub record Outline : Type 0 where
   pub opening : List ℕ

@@ -287,7 +287,7 @@ a_right_brace piece = None
 abbrev pub empty_braces : List (Piece → Option (List ℕ))
 empty_braces = a_left_brace ∷ a_right_brace ∷ []
 
--- a delimiter, which may be in braces; empty braces mean none
+-- a delimiter, which may be in braces; empty braces mean no delimiter
 abbrev pub an_outer_delimiter : ℕ → (List ℕ → Rule) → Rule
 an_outer_delimiter place more =
     takes_if (delimiter_of ∷ []) more

@@ -1,5 +1,5 @@
--- What is taken unit by unit: the name of an environment, its columns, a length. Each unit has a spot, which says what the
--- unit does there. White space is ignored.
+-- What is taken unit by unit: the name of an environment, its columns, a number, the name of a color, a length. Each unit is at
+-- a spot, which decides what the unit does. White space is ignored.
 use Rattle.std.specs.Prelude.{ℕ, zero, suc, ◌+◌, ◌==◌, ◌&&◌, ◌||◌, Bool, true, false, nat_lt, List, [], ◌++◌, if◌then◌else◌, codes}
 use Rattle.std.specs.{Char.encode_utf8, Char.is_ascii_alphanumeric, Char.is_ascii_digit, Str.byte, Str.bytes_eq}
 use Rattle.latex2mathml_tex_grammar.specs.{Commands.meaning_of, Meaning.takes_words}
@@ -120,7 +120,7 @@ argument_deed a (Command name) = other_deed a
 abbrev pub most_braces : ℕ
 most_braces = 100
 
--- a brace closes the innermost open one, or else ends what is in braces among columns
+-- where the unit after a closing brace is: the brace closes the innermost open one, or else ends what is in braces among columns
 abbrev pub behind_brace : ℕ → Spot
 behind_brace zero = InArgument ColumnList
 behind_brace (suc n) = InGap n

@@ -51,7 +51,7 @@ IsDisplay value (All Block) = value ≡ Some (codes "block")
 IsDisplay value (All Inline) = (value ≢ Some (codes "block")) × (value ≢ Some (codes "each"))
 IsDisplay value Each = value ≡ Some (codes "each")
 
--- the value of an option that takes none says whether it is given
+-- an option that takes no value has the text `true` or `false`, which says whether it is given
 abbrev pub IsGiven : Option Text → Bool → Type 0
 IsGiven None is_given = is_given ≡ false
 IsGiven (Some text) is_given = (text ≡ codes "true" → is_given ≡ true) × (text ≡ codes "false" → is_given ≡ false)

@@ -12,7 +12,7 @@ use std::alloc::Global;
 /// The display style of the formulas.
 #[derive(Debug, Clone, Copy, PartialEq, Eq)]
 pub enum Display {
-    /// All in a line of text, or all on a line of their own.
+    /// Each in a line of text, or each in a block of its own.
     All(DisplayStyle),
     /// Each as its first line says, which is `inline` or `block`. A formula without such a line is in a line of text.
     Each,
@@ -40,7 +40,8 @@ pub struct Request<'a> {
 ///
 /// # Errors
 ///
-/// If the arguments are wrong, or ask for the help or the version. The error's text is then the text to print.
+/// If the arguments are wrong, if they ask for the help or the version, or if memory runs out. The error's text is the text to
+/// print, and [`status_of_error`] returns the exit status for it.
 pub fn requested<'a>(alloc: Global, words: &'a [String]) -> Result<Request<'a>, Error>
     ensures { IsRequested (map string_bytes words.now) result }
 {

@@ -7,7 +7,7 @@ use Rattle.latex2mathml_tex_grammar.specs.{DefinitionTexts.AreRefused, Definitio
 use Rattle.latex2mathml_tex_uses.specs.declared.page.PageError.{PageError}
 use Rattle.latex2mathml_tex_uses.specs.declared.page.PageError.TheVariants.{Formula, Preamble}
 
--- the macros that hold on a page with this preamble, or with none
+-- the macros that hold on a page with this preamble, or without a preamble
 abbrev pub HoldOnPage : Option (Bor (List ℕ)) → Table → Type 0
 HoldOnPage None table = table ≡ usual_macros
 HoldOnPage (Some preamble) table = Defines (chars preamble.now) table

@@ -205,7 +205,7 @@ found entries name n d o inv h' cmp is =
     let a : InOrder (map entry_of (take m entries) ++ entry_of (get_or entries m d) ∷ map entry_of (drop (m + 1) entries)) = subst InOrder split inv.ordered in
     inv.same ∙ ap (λ r. entry_token r name) split ∙ stands_here name _ (entry_of (get_or entries m d)) _ a (equal_names name (get_or entries m d).name.now equal)
 
--- no entry is the result if none is left
+-- the result is no entry if no entry is left
 pub none_left : (entries : List Entry) (name : List ℕ) (n : ℕ) → Narrowed entries name n → length entries ≡ 0 → entry_token command_entries name ≡ None
 none_left [] name n inv h = inv.same
 none_left (r ∷ entries) name n inv h = absurd (omega arith)

@@ -3,7 +3,7 @@
 use Rattle.std.specs.Prelude.{ℕ, Bool, ◌||◌, List, [], ◌∷◌, ◌++◌, if◌then◌else◌, ◌==◌, codes}
 use Rattle.std.specs.{List.flat_map, Char.encode_utf8, Str.byte}
 
--- a byte or character that contents do not hold as it is
+-- whether contents have a reference in place of this byte or character
 abbrev pub is_escaped : ℕ → Bool
 is_escaped c = c == byte "&" || c == byte "<" || c == byte ">" || c == byte "$"
 

@@ -28,7 +28,7 @@ pub enum Paren {
 }
 
 impl Paren {
-    /// The text.
+    /// Returns the text, such as `(`.
     pub fn text(self) -> &'static str
         ensures { result.now ≡ paren_text self }
     {
@@ -69,7 +69,7 @@ pub enum LimitName {
 }
 
 impl LimitName {
-    /// The text.
+    /// Returns the name, such as `lim inf`.
     pub fn text(self) -> &'static str
         ensures { result.now ≡ limit_text self }
     {
@@ -95,7 +95,7 @@ pub enum Size {
 }
 
 impl Size {
-    /// The text.
+    /// Returns the size in ems with the unit, such as `1.2em`.
     pub fn text(self) -> &'static str
         ensures { result.now ≡ size_text self }
     {
@@ -137,7 +137,7 @@ pub enum FunctionName {
 }
 
 impl FunctionName {
-    /// The text.
+    /// Returns the name, such as `arccos`.
     pub fn text(self) -> &'static str
         ensures { result.now ≡ function_text self }
     {

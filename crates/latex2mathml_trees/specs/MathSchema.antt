@@ -52,7 +52,7 @@ abbrev pub has_some : List Name → Bool
 has_some [] = false
 has_some (name ∷ names) = true
 
--- an element may hold these children, and text if there is any
+-- whether an element for which the table says this may have these children, and text if there is any
 abbrev pub holds : Option Holding → List Name → Bool → Bool
 holds None children has_text = false
 holds (Some text) children has_text = not (has_some children)
@@ -69,7 +69,7 @@ abbrev pub is_outermost : Option Name → Bool
 is_outermost None = true
 is_outermost (Some parent) = false
 
--- `mtr` may be only in `mtable`, `mtd` only in `mtr`, and `math` in no element
+-- whether an element of this name may be in that parent: `mtr` only in `mtable`, `mtd` only in `mtr`, and `math` in no element
 abbrev pub may_stand_in : Option Name → Name → Bool
 may_stand_in parent name =
     if bytes_eq (codes "mtr") name then is_parent (codes "mtable") parent

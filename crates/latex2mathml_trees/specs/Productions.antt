@@ -1,4 +1,4 @@
--- Trees that a rule of the grammar makes of its parts, if they are more than one node of the parts, and the texts of fences.
+-- Trees that rules of the grammar make of their parts, where one constructor is not enough, and the texts of fences.
 use Rattle.std.specs.Prelude.{ℕ, ◌==◌, List, [], true, Option, Some, None, if◌then◌else◌, codes, ◌∷◌}
 use Rattle.std.specs.{Char.encode_utf8, Str.byte, Str.bytes_eq}
 use Rattle.latex2mathml_tokens.specs.{Tok.Tok, Tok.Operator, Tok.Paren, declared.DisplayStyle.DisplayStyle}
@@ -6,7 +6,7 @@ use Rattle.latex2mathml_trees.specs.Tree.{Tree, Trees, operator, overset, unders
 use Rattle.latex2mathml_tokens.specs.{declared.attribute.LineThickness.TheVariants.Length, declared.attribute.ColumnAlign.ColumnAlign}
 use Rattle.latex2mathml_tokens.specs.declared.attribute.ColumnAlign.TheVariants.{Center, Left}
 
--- the members of a group as one tree: one member is itself, none or several are a row
+-- the members of a group as one tree: a single member stays as it is, and no member or several are a row
 abbrev pub group_tree : List Tree → Tree
 group_tree [] = row no_trees
 group_tree (x ∷ []) = x

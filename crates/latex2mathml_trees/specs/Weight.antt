@@ -25,7 +25,7 @@ abbrev mutual
   weight (style display x) = weight x + 1
   weight leaf = 0
 
-  -- how many nodes and lists the trees of a list are, with what is in them
+  -- how many nodes are in a list of trees, with the nodes and lists in them
   pub weights : Trees → ℕ
   weights no_trees = 0
   weights (more_trees x rest) = weight x + weights rest + 1

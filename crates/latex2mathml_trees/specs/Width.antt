@@ -22,7 +22,7 @@ digit n = byte "0" + n
 abbrev pub three_digits : ℕ → List ℕ
 three_digits n = digit (n / 100 % 10) ∷ digit (n / 10 % 10) ∷ digit (n % 10) ∷ []
 
--- a digit before the digits that were kept; a zero before none is dropped
+-- puts a digit before the digits that were kept; a zero is dropped if no digit was kept
 abbrev pub keep : ℕ → List ℕ → List ℕ
 keep d [] = if d == byte "0" then [] else d ∷ []
 keep d (next ∷ kept) = d ∷ next ∷ kept

@@ -1,4 +1,5 @@
-//! Appends markup to a text.
+//! Appends markup to a text. If memory runs out, each function returns an `Err`, and the text may end in the first part of what
+//! was to be appended.
 ghost use Rattle.std.specs.Prelude.{Some};
 ghost use Rattle.latex2mathml_tokens.specs.Escape.{content, content_char};
 ghost use Rattle.latex2mathml_trees.specs.{Print.print, Texts.Appends, Tree.space, Tree.undefined};

@@ -1,4 +1,5 @@
-//! Writes texts in markup: as contents, as values of attributes, and marked as errors.
+//! Writes texts in markup: as contents, as values of attributes, and marked as errors. An `Err` of a function is one that the
+//! formatter's writer returned.
 ghost use Rattle.std.specs.Prelude.{◌≡◌, ◌++◌, codes};
 ghost use Rattle.std.specs.{Char.encode_utf8, Fmt.WritesOnOk, List.flat_map};
 ghost use Rattle.latex2mathml_tokens.specs.Escape.{content, content_char, is_escaped, quoted, quoted_byte, value};

@@ -5,7 +5,7 @@ ghost use Rattle.latex2mathml_trees.specs.Width.{thousandths, thousandths_text, 
 
 use std::fmt;
 
-/// Writes a space whose width is in eighteenths of an em.
+/// Writes a space whose width is given in eighteenths of an em. An `Err` is one that the formatter's writer returned.
 pub fn write_space<W: fmt::Write>(width: i32, f: &mut fmt::Formatter<W>) -> fmt::Result
     ensures { WritesOnOk W.write_str_gives f.old result
         (codes "<mspace width=\"" ++ (width_text width ++ codes "em\"/>")) f.new }

@@ -32,12 +32,12 @@ pub trait Site {
     fn kind_at(&mut self, path: &str) -> PathKind
         ensures asked { IsAsked (answers self.old) (answers self.new) (Stands path.now result) };
 
-    /// Returns what the directory at a path holds, or `None` if it cannot be listed.
+    /// Returns what the directory at a path holds, or `None` if it cannot be listed. The only `Err` is out of memory.
     fn list(&mut self, path: &str) -> Result<Option<Listing>, AllocError>
         ensures asked { IfOk result (λ listing.
             IsAsked (answers self.old) (answers self.new) (Holds path.now listing)) };
 
-    /// Converts the document at a path in place.
+    /// Converts the document at a path in place, or returns why it could not: a fault of reading, of its text, or of writing.
     fn convert(&mut self, path: &str) -> Result<(), FileFault>
         ensures asked { IsAsked (answers self.old) (answers self.new) (Comes path.now result) }
         ensures fault { IfErr result IsDocumentFault };
