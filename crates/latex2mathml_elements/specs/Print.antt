@@ -164,7 +164,7 @@ abbrev mutual
   cells_print (one_cell column xs) = cell_print column (prints xs)
   cells_print (more_cells column xs cells) = cell_print column (prints xs) ++ cells_print cells
 
--- a formula on its own line, or in a line of text
+-- the start tag of a formula in a block of its own, or in a line of text
 abbrev pub math_tag : Bool → List ℕ
 math_tag true = codes "<math xmlns=\"http://www.w3.org/1998/Math/MathML\" display=\"block\">"
 math_tag false = codes "<math xmlns=\"http://www.w3.org/1998/Math/MathML\" display=\"inline\">"

@@ -12,7 +12,7 @@ pub data Class : Type 0 where
   Punctuation : Class
   Inner : Class
 
--- the style of a formula: on a line of its own, in a line of text, or in a script
+-- the style of a formula: in a block of its own, in a line of text, or in a script
 pub data Style : Type 0 where
   InDisplay : Style
   InText : Style
