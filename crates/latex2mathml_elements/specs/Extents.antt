@@ -21,6 +21,7 @@ abbrev pub ems : ℤ → List ℕ
 ems (pos n) = thousandths_text n
 ems (negsuc n) = byte "-" ∷ thousandths_text (suc n)
 
+-- the attribute of this name with this length
 abbrev pub length_text : List ℕ → ℤ → List ℕ
 length_text name length = codes " " ++ (name ++ (codes "=\"" ++ (ems length ++ codes "em\"")))
 

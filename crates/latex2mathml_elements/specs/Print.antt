@@ -96,6 +96,7 @@ boxing_text (Some StruckUp) = codes " style=\"background: " ++ (line_up ++ codes
 boxing_text (Some StruckDown) = codes " style=\"background: " ++ (line_down ++ codes "\"")
 boxing_text (Some StruckTwice) = codes " style=\"background: " ++ (line_up ++ (codes ", " ++ (line_down ++ codes "\"")))
 
+-- all attributes, each with a space before it
 abbrev pub attributes_text : Attributes → List ℕ
 attributes_text a =
     if_so a.upright (codes " mathvariant=\"normal\"")

@@ -20,6 +20,7 @@ pub data Kind : Type 0 where
   -- a space
   Blank : Kind
 
+-- an atom: its element, and what it is to its neighbours
 pub record Atom : Type 0 where
   pub element : Element
   pub kind : Kind

@@ -184,6 +184,7 @@ with_digit (Some d) (Some ds) = Some (d ∷ ds)
 with_digit (Some d) None = None
 with_digit None ds = None
 
+-- the values of hexadecimal digits, where all characters are such digits
 abbrev pub digit_values : List ℕ → Option (List ℕ)
 digit_values [] = Some []
 digit_values (c ∷ cs) = with_digit (digit_value c) (digit_values cs)

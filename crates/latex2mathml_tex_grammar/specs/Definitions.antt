@@ -88,6 +88,7 @@ abbrev pub name_read : ℕ → Option (List ℕ) → Units → Outcome (List ℕ
 name_read place (Some name) l = Read name l
 name_read place None l = Refused (refusal_at MissingMacroName place)
 
+-- the name that a definition at this place defines, and the units after it
 abbrev pub name_of : ℕ → Units → Outcome (List ℕ)
 name_of place l = and_then (argument place l) (λ us m. name_read place (name_in us) m)
 
@@ -196,18 +197,21 @@ word_of piece = None
 
 -- The definitions that follow their words
 
+-- what follows `\newcommand` and the like: a star, which is ignored, a name, a number of arguments, and a body
 abbrev pub command_definition : ℕ → Units → Outcome Definition
 command_definition place l =
     and_then (name_of place (sign (byte "*") l).1) (λ name m.
     and_then (number_of place m) (λ n k.
     and_then (body place n k) (λ parts rest. Read (definition name (macro n parts)) rest)))
 
+-- what follows `\def`: a name, its parameters, and a body in braces
 abbrev pub plain_definition : ℕ → Units → Outcome Definition
 plain_definition place l =
     and_then (name_of place l) (λ name m.
     and_then (parameters place 9 0 m) (λ n k.
     and_then (body_in_braces place n k) (λ parts rest. Read (definition name (macro n parts)) rest)))
 
+-- what follows `\DeclareMathOperator`: a star, which asks for limits, a name, and a body
 abbrev pub operator_definition : ℕ → Units → Outcome Definition
 operator_definition place l =
     and_then (name_of place (sign (byte "*") l).1) (λ name m.
@@ -221,8 +225,9 @@ definition_of ProvideCommand place l = command_definition place l
 definition_of Def place l = plain_definition place l
 definition_of DeclareOperator place l = operator_definition place l
 
--- the macros that hold after a definition
+-- The macros that hold after a definition
 
+-- the macros after `\providecommand`, by what the name meant before
 abbrev pub provided : Definition → Option Macro → Table → Table
 provided d (Some m) table = table
 provided d None table = with_macro d.name d.stands_for table

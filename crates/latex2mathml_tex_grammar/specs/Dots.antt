@@ -12,7 +12,6 @@ abbrev pub centered_dots : Symbol
 centered_dots = Sign Inner 0x22EF  -- ⋯
 
 -- whether dots before an atom of this class are in the middle of the line
-
 abbrev pub class_centers : Class → Bool
 class_centers Binary = true
 class_centers Relation = true

@@ -53,14 +53,17 @@ replaced table uses room u us l =
     if nat_lt room (length us) then Fails (refusal_at TooManyExpansions u.place)
     else Turns table uses (room - length us) (before us l)
 
+-- what becomes of the use of a macro, by the outcome of its arguments
 abbrev pub with_arguments : Table → ℕ → ℕ → Unit → Macro → Outcome (List (List Unit)) → Turn
 with_arguments table uses room u m (Read args l) = replaced table uses room u (put args u.place m.body) l
 with_arguments table uses room u m (Refused r) = Fails r
 
+-- what becomes of the use of a macro, which is refused if no more can be used
 abbrev pub used : Table → ℕ → ℕ → Unit → Macro → Units → Turn
 used table zero room u m l = Fails (refusal_at TooManyExpansions u.place)
 used table (suc uses) room u m l = with_arguments table uses room u m (arguments u.place m.arity l)
 
+-- what becomes of the word of a definition, by the outcome of the definition that follows it
 abbrev pub defined : Table → ℕ → ℕ → Word → Outcome Definition → Turn
 defined table uses room word (Read d l) = Turns (behind_definition word d table) uses room l
 defined table uses room word (Refused r) = Fails r
@@ -70,6 +73,7 @@ turn_of (Uses m) table uses room u l = used table uses room u m l
 turn_of (Defines word) table uses room u l = defined table uses room word (definition_of word u.place l)
 turn_of Stands table uses room u l = Stays
 
+-- what becomes of a unit before these units, where these macros hold
 abbrev pub turn : Table → ℕ → ℕ → Unit → Units → Turn
 turn table uses room u l = turn_of (role_of table u.piece) table uses room u l
 

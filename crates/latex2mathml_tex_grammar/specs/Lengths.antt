@@ -15,7 +15,7 @@ pub record Length : Type 0 where
 abbrev pub no_length : Length
 no_length = record { is_negative = false; number = 0; scale = 1; is_behind_point = false; first = 0; last = 0 }
 
--- numbers from this one on are alike: each is too large
+-- a number, or `most` if it is greater: all greater numbers are alike, since each is too large
 abbrev pub at_most : ℕ → ℕ → ℕ
 at_most most n = if nat_lt most n then most else n
 
@@ -44,7 +44,7 @@ with_all l (c ∷ cs) = with_all (with_character l c) cs
 abbrev pub length_of : List ℕ → Length
 length_of cs = with_all no_length cs
 
--- rounded to the nearest
+-- a divided by b, rounded to the nearest number
 abbrev pub rounded : ℕ → ℕ → ℕ
 rounded a b = (2 * a + b) / (2 * b)
 

@@ -14,9 +14,11 @@ pub record Core : Type 0 where
   pub atom : Atom
   pub limits : LimitPlace
 
+-- an atom whose scripts are beside it
 abbrev pub core : Atom → Core
 core x = record { atom = x; limits = Beside }
 
+-- an atom whose limits are at this place
 abbrev pub operator : LimitPlace → Atom → Core
 operator limits x = record { atom = x; limits = limits }
 
@@ -91,6 +93,7 @@ abbrev pub sign_kind : Class → ℕ → Kind
 sign_kind Binary c = if is_plus_or_minus c then PlusOrMinus else SignOf Binary
 sign_kind class c = SignOf class
 
+-- a sign of this class
 abbrev pub sign : Class → ℕ → Atom
 sign class c = atom (sign_kind class c) false (token Mo (sign_attributes class c) (text c))
 
@@ -105,6 +108,7 @@ symbol alphabet (Sign class c) = core (sign class c)
 symbol alphabet (BigOperator c) = operator Movable (atom (Plain Operator) true (token Mo plain (text c)))
 symbol alphabet (Integral c) = core (atom (Plain Operator) true (token Mo plain (text c)))
 
+-- the name of a function, with limits at this place
 abbrev pub function_name : LimitPlace → List ℕ → Core
 function_name limits name = operator limits (atom FunctionWord false (token Mi plain name))
 
@@ -122,21 +126,26 @@ struck x = None
 
 -- Groups and classes
 
+-- an operand as an ordinary atom
 abbrev pub group : Operand → Atom
 group x = atom (Plain Ordinary) x.high x.element
 
+-- an operand as an atom of this class; an operator has its limits above and below it in display style
 abbrev pub classed : Class → Operand → Core
 classed Operator x = operator ByStyle (atom (Plain Operator) x.high x.element)
 classed class x = core (atom (Plain class) x.high x.element)
 
+-- an operand as the name of a function, with limits at this place
 abbrev pub operator_name : LimitPlace → Operand → Core
 operator_name limits x = operator limits (atom FunctionWord x.high x.element)
 
 -- Boxes
 
+-- an element with this change to its box
 abbrev pub around : Boxing → Element → Element
 around boxing x = container Mpadded (boxed boxing) (children (x ∷ []))
 
+-- an element that is invisible, and keeps its box
 abbrev pub unseen : Element → Element
 unseen x = container Mphantom plain (children (x ∷ []))
 
@@ -177,18 +186,22 @@ bar raise width height = atom (Plain Ordinary) true (raised_by raise (black widt
 
 -- Marks above and below
 
+-- a mark above or below a base
 abbrev pub on_side : Side → Attributes → Element → Element → Element
 on_side Above a base mark = pair Mover a base mark
 on_side Below a base mark = pair Munder a base mark
 
+-- an element with an accent above or below it
 abbrev pub accent : Side → ℕ → Stretch → Element → Core
 accent side mark width x =
     core (atom (Plain Ordinary) true (on_side side (record plain { accent = Some side }) x (token Mo (record plain { stretch = Some width }) (text mark))))
 
+-- an element with a brace above or below it; its scripts are the labels of the brace
 abbrev pub brace : Side → ℕ → Element → Core
 brace side mark x =
     operator Stacked (atom (Plain Operator) true (on_side side plain x (token Mo (record plain { stretch = Some Stretching }) (text mark))))
 
+-- an element above or below a base; together they are an atom of this class
 abbrev pub stack : Side → Class → Element → Element → Core
 stack side class mark base = core (atom (Plain class) true (on_side side plain base mark))
 
@@ -237,6 +250,7 @@ fenced high opening closing inside =
 abbrev pub without_bar : Element → Element → Element
 without_bar above below = pair Mfrac (record plain { no_line = true }) above below
 
+-- a fraction, and what its rule puts around it
 abbrev pub fraction_element : FractionRule → Element → Element → Element
 fraction_element Bar above below = pair Mfrac plain above below
 fraction_element NoBar above below = fenced true (codes "(") (codes ")") (without_bar above below)
@@ -244,6 +258,7 @@ fraction_element Braced above below = fenced true (codes "{") (codes "}") (witho
 fraction_element Bracketed above below = fenced true (codes "[") (codes "]") (without_bar above below)
 fraction_element Bare above below = without_bar above below
 
+-- a fraction in a style of its own, where it has one
 abbrev pub fraction : FractionRule → Option Style → Element → Element → Core
 fraction rule own above below = core (atom (Plain Inner) true (in_style own (fraction_element rule above below)))
 
@@ -287,6 +302,7 @@ abbrev pub lowered : Bool → List Element → List Element
 lowered true xs = xs
 lowered false xs = map lowered_divider xs
 
+-- a row between delimiters
 abbrev pub between_delimiters : List ℕ → List ℕ → Row → Core
 between_delimiters opening closing row =
     core (atom (Plain Inner) row.high (fenced row.high opening closing (row_element (lowered row.high row.elements))))
@@ -296,6 +312,7 @@ form_of Opening = Some Prefix
 form_of Closing = Some Postfix
 form_of class = None
 
+-- a delimiter of this size and class
 abbrev pub sized : Size → Class → List ℕ → Core
 sized size class sign_text =
     core (atom (Plain class) true (token Mo (record plain { form = form_of class; stretch = Some Stretching; size = Some size; space = Some NoSpace }) sign_text))
@@ -355,6 +372,7 @@ abbrev pub fixed_base : LimitPlace → Element → Element
 fixed_base Stacked (token Mo a sign_text) = token Mo (record a { limits_stay = true }) sign_text
 fixed_base limits x = x
 
+-- a base with scripts, which are below and above it or beside it
 abbrev pub with_scripts : Bool → Element → Option Element → Option Element → Element
 with_scripts stacked base None None = base
 with_scripts true base (Some below) None = pair Munder plain base below
@@ -375,6 +393,7 @@ scripted_kind (SignOf class) = Plain class
 scripted_kind PlusOrMinus = Plain Binary
 scripted_kind kind = no_letters kind
 
+-- an atom with these elements below and above it; without any, it stays as it is
 abbrev pub scripted_atom : Style → Atom → Scripts → Option Element → Option Element → Atom
 scripted_atom style base scripts None None = base
 scripted_atom style base scripts below above =

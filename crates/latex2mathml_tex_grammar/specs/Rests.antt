@@ -45,6 +45,7 @@ settled_after (Some change) style row = record row {
   restyled = None;
 }
 
+-- a row that ends here or changes here: what follows its last change is one element
 abbrev pub settled : Style → Row → Row
 settled style row = settled_after row.restyled style row
 
@@ -71,6 +72,7 @@ abbrev pub below : Option Upper → Row → Row
 below None row = row
 below (Some upper) row = with_atom InText empty_row (fraction upper.rule None upper.element (row_element row.elements)).atom
 
+-- a row as the fraction whose lower part it is, where it is one
 abbrev pub whole_fraction : Row → Row
 whole_fraction row = below row.under row
 

@@ -55,6 +55,7 @@ abbrev pub is_empty : List Element → Bool
 is_empty [] = true
 is_empty (x ∷ xs) = false
 
+-- the elements of a row with one more atom, which may be a letter of the last word
 abbrev pub put : Bool → Style → Before → Atom → List Element → List Element
 put true style before x xs = join x.element xs
 put false style before x xs = element_there style (is_empty xs) before x.kind x.element ∷ parted (is_parted before x.kind) xs
@@ -68,6 +69,7 @@ class_of_kind (Plain Binary) = Binary
 class_of_kind (Plain Relation) = Relation
 class_of_kind kind = Ordinary
 
+-- the class of a row with one more atom as a base: that of its only atom, or ordinary
 abbrev pub class_after : List Element → Kind → Class
 class_after [] kind = class_of_kind kind
 class_after xs kind = Ordinary
@@ -95,6 +97,7 @@ pub record Operand : Type 0 where
   pub class : Class
   pub high : Bool
 
+-- a row as an operand
 abbrev pub operand_of : Row → Operand
 operand_of row = record { element = row_element row.elements; class = row.class; high = row.high }
 

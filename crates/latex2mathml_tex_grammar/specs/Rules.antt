@@ -74,7 +74,7 @@ pub data Rule : Type 0 where
   -- number is the place of the end
   reads_rows : TableEnd → ℕ → Columns → Context → (Lines → ℕ → Rule) → Rule
 
--- the tests of units, which answer with a text
+-- The tests of units, which answer with a text
 
 abbrev pub only_if : Bool → List ℕ → Option (List ℕ)
 only_if true cs = Some cs
@@ -117,6 +117,7 @@ a_symbol c character None = gives (core (upright_letter c.alphabet character))
 abbrev pub begins_none : ℕ → Bool
 begins_none character = character == byte "#" || character == byte "$" || character == byte "_" || character == byte "^" || character == byte "'"
 
+-- the rule of a character
 abbrev pub character_rule : Context → ℕ → ℕ → Rule
 character_rule c character place =
     if is_ascii_digit character then a_number c character
@@ -131,11 +132,12 @@ character_rule c character place =
 abbrev pub some_dots : Context → Rule
 some_dots c = if_follows centers_dots (gives (symbol c.alphabet centered_dots)) (gives (symbol c.alphabet low_dots))
 
--- a fraction, whose parts are in a smaller style
+-- a style of its own, if there is one, or else the style around it
 abbrev pub own_style : Option Style → Style → Style
 own_style None style = style
 own_style (Some own) style = own
 
+-- a fraction, whose parts are in a smaller style
 abbrev pub a_fraction : ℕ → Context → FractionRule → Option Style → Rule
 a_fraction place c rule own =
     let part = styled c (smaller (own_style own c.style)) in of_two place part part (λ above below. fraction rule own above.element below.element)
@@ -182,10 +184,12 @@ rows_rule place c name e columns =
 abbrev pub most_columns : ℕ
 most_columns = 16
 
+-- the rows of an environment, in the columns that its author lists
 abbrev pub listed_rule : ℕ → Context → List ℕ → Environment → List ℕ → Rule
 listed_rule place c name e letters =
     if nat_le (length letters) most_columns then rows_rule place c name e (Listed (columns_of letters)) else refuses (refusal_at TooManyColumns place)
 
+-- the rows of an environment, after what is in braces after its name
 abbrev pub argument_rule : ℕ → Context → List ℕ → Environment → Option Argument → Rule
 argument_rule place c name e None = rows_rule place c name e e.columns
 argument_rule place c name e (Some ColumnList) = takes_found (BeforeArgument ColumnList) place (λ letters. listed_rule place c name e letters)
@@ -204,11 +208,13 @@ alignment_rule place c name e =
     (takes_if (in_brackets (byte "c")) (λ letter. rows_rule place c name e (Alike Centered))
     (takes_if (in_brackets (byte "r")) (λ letter. rows_rule place c name e (Alike RightAligned)) (rows_rule place c name e e.columns)))
 
+-- the rows of an environment, after what is in brackets after its name
 abbrev pub bracket_rule : ℕ → Context → List ℕ → Environment → Bracket → Rule
 bracket_rule place c name e NoBracket = argument_rule place c name e e.argument
 bracket_rule place c name e Position = passes_over BeforePosition (argument_rule place c name e e.argument)
 bracket_rule place c name e Alignment = alignment_rule place c name e
 
+-- the rule of the environment of this name, where there is one
 abbrev pub environment_rule : ℕ → Context → List ℕ → Option Environment → Rule
 environment_rule place c name None = refuses (refusal_at (UnknownEnvironment name) place)
 environment_rule place c name (Some e) = bracket_rule place c name e e.bracket
@@ -315,6 +321,7 @@ numbered_style digits = None
 abbrev pub a_style : ℕ → (Option Style → Rule) → Rule
 a_style place more = takes_found (BeforeArgument Number) place (λ number. with_value (refusal_at MissingArgument place) more (numbered_style number))
 
+-- how a fraction is drawn, which comes next, and what follows it
 abbrev pub an_outline : ℕ → (Outline → Rule) → Rule
 an_outline place more =
     an_outer_delimiter place (λ opening. an_outer_delimiter place (λ closing. a_line place (λ has_line. a_style place (λ own.
@@ -369,6 +376,7 @@ meaning_rule place c EndTable = refuses (refusal_at EndWithoutBegin place)
 meaning_rule place c LineBreak = refuses (refusal_at OutsideTable place)
 meaning_rule place c Substack = a_substack place c
 
+-- the rule of the command of this name, by its meaning, where it has one
 abbrev pub command_rule : ℕ → Context → List ℕ → Option Meaning → Rule
 command_rule place c name (Some meaning) = meaning_rule place c meaning
 command_rule place c name None = refuses (refusal_at (UnknownCommand name) place)

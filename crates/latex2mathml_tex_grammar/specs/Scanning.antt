@@ -231,6 +231,7 @@ row_deed piece = Leaves
 
 -- What the unit at a spot does
 
+-- what a unit other than white space does at a spot
 abbrev pub deed_there : Spot → Piece → Deed
 deed_there (BeforeArgument a) piece = brace_deed (Passes (InArgument a)) Misses piece
 deed_there (InArgument a) piece = argument_deed a piece
@@ -249,6 +250,7 @@ deed_there (BehindLetter end first) piece = in_length (BehindLetter end first) p
 deed_there (BehindLength end) piece = ending_deed end piece
 deed_there spot piece = in_brackets spot piece
 
+-- what a unit does at a spot
 abbrev pub deed : Spot → Piece → Deed
 deed spot Space = Passes spot
 deed spot piece = deed_there spot piece

@@ -5,7 +5,7 @@ use Rattle.latex2mathml_tex_grammar.specs.{Commands.meaning_of, Meaning.takes_wo
 use Rattle.latex2mathml_tex_grammar.specs.Refusal.{Refusal}
 use Rattle.latex2mathml_tex_grammar.specs.Units.{Piece, Space, Open, Close, Command, Character, Unit, Units, Next, End, Stop, HasUnits}
 
--- Where a unit is. The standing within another is where the units after that part are.
+-- Where a unit is. The standing that another one has in it says where the units after that part are.
 pub data Standing : Type 0 where
   -- in the formula that is the whole text
   InFormula : Standing

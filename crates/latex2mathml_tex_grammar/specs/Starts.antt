@@ -33,6 +33,7 @@ pub data CellEnd : Type 0 where
   EndsRow : CellEnd
   EndsTable : CellEnd
 
+-- what a unit that ends a cell does
 abbrev pub cell_end : Piece → CellEnd
 cell_end piece = if is_character (byte "&") piece then PartsCells else if is_break piece then EndsRow else EndsTable
 
@@ -93,6 +94,7 @@ pub data Mark : Type 0 where
   Above : Mark
   LimitsAt : LimitPlace → Mark
 
+-- the mark that a unit is, where it is one
 abbrev pub mark_of : Piece → Option Mark
 mark_of (Character c) =
     if c == byte "'" then Some Prime
@@ -126,7 +128,7 @@ start_of_mark change (Some Above) = ScriptStart
 start_of_mark change (Some (LimitsAt place)) = RuleStart
 start_of_mark change None = start_of_change change
 
--- how the atom that this unit begins does so, among atoms with this ending
+-- how an atom begins with this unit, among atoms with this ending
 abbrev pub atom_start : Ending → Piece → AtomStart
 atom_start (InDelimiters place) piece = if is_command (codes "middle") piece then DividerStart else start_of_mark (change_by piece) (mark_of piece)
 atom_start ending piece = start_of_mark (change_by piece) (mark_of piece)
@@ -145,6 +147,7 @@ abbrev pub start_of_digit : Option (List ℕ) → OperandStart
 start_of_digit (Some digit) = DigitStart digit
 start_of_digit None = OtherStart
 
+-- how an operand begins with this unit
 abbrev pub operand_start : Piece → OperandStart
 operand_start piece =
     if is_no_operand piece then NoStart
@@ -160,6 +163,7 @@ pub data Step : Type 0 where
   -- a second script, or limits of what is not an operator
   Forbidden : Kind → Step
 
+-- what a mark does after an atom with these scripts, by what is below and above the atom already
 abbrev pub step_of : Scripts → Option Element → Option Element → Mark → Step
 step_of scripts below (Some x) Prime = Forbidden SecondSuperscript
 step_of scripts below None Prime = GoesOn (record scripts { primes = suc scripts.primes })

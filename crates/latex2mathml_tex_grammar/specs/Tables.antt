@@ -13,6 +13,7 @@ begun_cell columns k = record empty_row { before = before_cell (column_at column
 
 -- Rows: until a table is made of it, a row is an `mrow` of its cells
 
+-- a row of these cells, the last one first
 abbrev pub a_row : List Element → Element
 a_row cells = container Mrow plain (children (reverse cells))
 

@@ -37,6 +37,7 @@ abbrev pub word_character : Option Alphabet → ℕ → ℕ
 word_character None c = if c == byte "`" then 0x2018 else if c == byte "'" then 0x2019 else c
 word_character (Some alphabet) c = in_alphabet alphabet c
 
+-- what a character is in words
 abbrev pub character_rule : Option Alphabet → ℕ → WordRule
 character_rule alphabet c =
     if c == byte "$" then BeginsFormula
@@ -80,6 +81,7 @@ abbrev pub with_text : Bool → List ℕ → List Element → List Element
 with_text true more (token t a before ∷ xs) = token t a (before ++ more) ∷ xs
 with_text ends_in_text more xs = token Mtext plain more ∷ xs
 
+-- words with one more part
 abbrev pub with_word : Words → Word → Words
 with_word ws (Shown more) = record { elements = with_text ws.ends_in_text more ws.elements; ends_in_text = true }
 with_word ws (Formula x) = record { elements = x ∷ ws.elements; ends_in_text = false }
@@ -90,5 +92,6 @@ abbrev pub words_element : List Element → Element
 words_element [] = token Mtext plain []
 words_element xs = row_element xs
 
+-- words as an ordinary atom
 abbrev pub words_atom : Words → Atom
 words_atom ws = atom (Plain Ordinary) false (words_element ws.elements)

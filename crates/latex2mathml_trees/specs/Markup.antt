@@ -129,6 +129,7 @@ step schema (empty_tag name attributes) levels = if schema (name_of levels) name
 step schema (reference r) levels = Some (mark true levels)
 step schema (data_byte b) levels = Some (mark true levels)
 
+-- the open elements after these events in turn, if the schema allows each event
 abbrev pub run : Schema → List Event → OpenElements → Option OpenElements
 run schema [] levels = Some levels
 run schema (event ∷ events) levels = option_and_then (run schema events) (step schema event levels)

@@ -17,6 +17,7 @@ pub data Holding : Type 0 where
   -- at least one element, and each is of this name
   all_of : Name → Holding
 
+-- what each element may hold
 abbrev pub holding_table : List (Name × Holding)
 holding_table =
     (codes "mi", text) ∷

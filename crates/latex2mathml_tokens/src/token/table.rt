@@ -9,7 +9,7 @@ use crate::lexeme::Lexeme;
 pub(crate) struct Entry {
     pub(crate) name: &'static str,
     /// The name's first eight bytes as a number. Numbers compare faster than texts: without keys, formulas that people write
-    /// take 6 % more instructions.
+    /// take 2 % or 6 % more instructions, depending on how texts are compared.
     pub(crate) key: u64,
     pub(crate) lexeme: Lexeme<'static>,
 }
