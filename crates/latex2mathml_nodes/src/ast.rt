@@ -96,7 +96,7 @@ pub enum Node {
 }
 
 impl Node {
-    /// Returns a node with the same contents, or an `Err` if memory runs out for its parts.
+    /// Returns a node with the same contents, or an `Err` if memory runs out for its parts. An `Err` leaves nothing allocated.
     #[cycle(clone)]
     pub fn clone(&self, alloc: Global) -> Result<Node, AllocError>
         ensures { IfOk result (λ copy. tree copy ≡ tree self.now) }

@@ -62,7 +62,8 @@ pub struct Steps {
     pub frames: u128,
 }
 
-/// Returns the `math` element of a formula, as [`latex_to_mathml`] does, and how many steps the reading took.
+/// Returns the `math` element of a formula, as [`latex_to_mathml`] does, and how many steps the reading took. The steps are those
+/// up to an `Err`, if there is one.
 pub fn latex_to_mathml_counted(
     alloc: Global,
     latex: &str,

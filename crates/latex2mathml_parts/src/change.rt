@@ -1,4 +1,5 @@
-//! The functions that the parser calls: they put a part, or change the last trees.
+//! The functions that the parser calls: they put a part, or change the last trees. The only `Err` of each is out of memory. No
+//! contract then says which trees the list has, until it is cleared.
 ghost use Rattle.std.specs.Prelude.{◌≡◌, ◌-◌, ◌<◌, ◌≤◌, suc, IfOk, MatchBool, OnOk, length, string_bytes};
 ghost use Rattle.latex2mathml_trees.specs.Productions.{matrix_of, stretched_operator};
 ghost use Rattle.latex2mathml_trees.specs.{Style.styled, Tree.function, Tree.slashed, Tree.words};

@@ -44,7 +44,8 @@ impl<'a> Parts<'a> {
         }
     }
 
-    /// Reserves room for a node of common length at once, so that the lists do not grow for each part.
+    /// Reserves room for a node of common length at once, so that the lists do not grow for each part. The only `Err` is out of
+    /// memory.
     #[inline(always)]
     pub fn make_room(&mut self, works: &mut Works) -> Result<(), AllocError>
         ensures { self.new ≡ self.old }

@@ -28,7 +28,7 @@ pub enum LatexError {
 }
 
 impl LatexError {
-    /// Returns an error with the same contents, or an `Err` if memory runs out for its texts.
+    /// Returns an error with the same contents, or an `Err` if memory runs out for its texts. An `Err` leaves nothing allocated.
     pub fn clone(&self, alloc: Global) -> Result<LatexError, AllocError>
         ensures { IfOk result (λ copy. refusal_of copy ≡ refusal_of self.now) }
     {

@@ -122,7 +122,7 @@ impl Token {
         lexeme.owned(alloc)
     }
 
-    /// Returns a token with the same contents, or an `Err` if memory runs out for its text.
+    /// Returns a token with the same contents, or an `Err` if memory runs out for its text. An `Err` leaves nothing allocated.
     pub fn clone(&self, alloc: Global) -> Result<Token, AllocError>
         ensures { IfOk result (λ copy. tok copy ≡ tok self.now) }
     {
