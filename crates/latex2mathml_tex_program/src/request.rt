@@ -84,7 +84,7 @@ fn display_argument<'a>(alloc: Global) -> Arg<'a>
         .value_parser(["inline", "block", "each"].as_slice())
         .default_value("inline")
         .help(
-            "Whether the formula is for a line of text or for a block of its own, or, with `each`, what its first line says: `inline` or `block`",
+            "How to display the formula: in a line of text, as a block, or, with `each`, as its first line says, `inline` or `block`",
         )
 }
 
