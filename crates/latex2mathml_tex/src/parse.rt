@@ -25,13 +25,14 @@ mod values;
 mod words;
 
 use crate::parse::frames::{Frame, Frames};
+use crate::parse::rows::ends_or_marks;
 use latex2mathml_builder::builder::Builder;
 use latex2mathml_tex_atoms::atoms::{Core, Operand, Scripts, Words};
 use latex2mathml_tex_commands::meaning::{Alphabet, Style};
 use latex2mathml_tex_units::error::{TexError, TexErrorKind};
 use latex2mathml_tex_units::input::Input;
 use latex2mathml_tex_units::macros::whole::Whole;
-use latex2mathml_tex_units::unit::{Fault, Next};
+use latex2mathml_tex_units::unit::{Fault, Next, Piece};
 use std::alloc::{AllocError, Global};
 use std::mem;
 
@@ -154,6 +155,15 @@ impl<'a> Parser<'a> {
         ensures holds { LeadsOn (HoldsIn State.Next) self.old self.new result }
         ensures step { Advances 1 self.old self.new result }
     {
+        // most units are letters and signs in a row: for these, no frame is copied
+        if let Next::Unit(unit) = self.input.next
+            && let Piece::Character(c) = unit.piece
+            && !ends_or_marks(c)
+            && let Some(context) = self.frames.row_context(self.style)
+        {
+            self.input.advance();
+            return self.character_in_row(c, unit.place, context);
+        }
         match self.frames.innermost(self.style) {
             Frame::Row(ending, place, context, row) => {
                 self.next_atom(ending, place, context, row)

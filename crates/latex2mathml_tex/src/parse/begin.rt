@@ -131,12 +131,23 @@ impl<'a> Parser<'a> {
     }
 
     /// Begins the rule of a character.
-    fn character(&mut self, c: char, place: usize, context: Context) -> Result<State, AllocError>
+    #[inline(always)]
+    pub(crate) fn character(
+        &mut self,
+        c: char,
+        place: usize,
+        context: Context,
+    ) -> Result<State, AllocError>
         requires begin { CanBegin 0 self.old }
         ensures holds { LeadsOn
             (BeginsIn context (character_rule (context_of context) c place) 0)
             self.old self.new result }
         ensures step { Advances 13 self.old self.new result }
+        ensures kept { self.new ≡ record self.old {
+          input = self.new.input;
+          builder = self.new.builder;
+          refusal = self.new.refusal;
+        } }
     {
         if c.is_ascii_digit() {
             return self.number(context.alphabet, c);

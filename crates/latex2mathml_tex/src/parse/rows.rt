@@ -1,11 +1,12 @@
 //! Rows: how each of their atoms begins, how it is put after the others, and how a row ends.
 ghost use Rattle.std.specs.Prelude.{◌≡◌, ◌≢◌, ◌+◌, ◌≤◌, ℕ, false};
-ghost use Rattle.latex2mathml_tex_grammar.specs.{Makes.no_scripts, Meaning.Beside, Starts.empty_base, Starts.ends};
+ghost use Rattle.latex2mathml_tex_grammar.specs.{Makes.no_scripts, Meaning.Beside, Rules.character_rule, Starts.empty_base, Starts.ends};
 ghost use Rattle.latex2mathml_tex_commands.specs.Meanings.{change_of};
 ghost use Rattle.latex2mathml_tex_units.specs.Taking.{piece_of};
 ghost use Rattle.latex2mathml_tex.specs.Frames.{ending_count, ending_of, Start};
-ghost use Rattle.latex2mathml_tex_atoms.specs.Models.{row_count};
-ghost use Rattle.latex2mathml_tex.specs.Steps.{Awaits, AwaitsAtom, BeginsDivider, BeginsRest, CanBegin, CanMake, ClosesRow, EndsFormula, EndsRow, EndsText, EndsWithText, HasElements, HoldsIn, InnermostIs, Advances, LeadsOn, MadeAtom, Ready, Took, TookMark, TookUnmarked, atom_made, core_made, ending_weight, level, row_makes, Closes, Follows, Holds, to_do};
+ghost use Rattle.latex2mathml_tex_atoms.specs.Models.{context_of, row_count};
+ghost use Rattle.latex2mathml_tex.specs.RowCharacters.{IsRowInnermost, ends_or_marks};
+ghost use Rattle.latex2mathml_tex.specs.Steps.{Awaits, AwaitsAtom, BeginsDivider, BeginsIn, BeginsRest, CanBegin, CanMake, ClosesRow, EndsFormula, EndsRow, EndsText, EndsWithText, HasElements, HoldsIn, InnermostIs, Advances, LeadsOn, MadeAtom, Ready, Took, TookMark, TookUnmarked, atom_made, core_made, ending_weight, level, row_makes, Closes, Follows, Holds, to_do};
 ghost use Rattle.latex2mathml_tex_atoms.specs.declared.atoms.{Context.Context, Row.Row};
 
 use crate::parse::frames::{Ending, Frame, Last, Table};
@@ -91,6 +92,28 @@ impl<'a> Parser<'a> {
                 self.command(found, name, unit.place, context)
             }
         }
+    }
+
+    /// Begins an atom of a row with this character, which was taken at this place.
+    #[inline(always)]
+    pub(crate) fn character_in_row(
+        &mut self,
+        c: char,
+        place: usize,
+        context: Context,
+    ) -> Result<State, AllocError>
+        requires begin { CanBegin 0 self.old }
+        requires row { IsRowInnermost self.old.style self.old.frames.stack.items context }
+        ensures holds { LeadsOn
+            (BeginsIn context (character_rule (context_of context) c place) 0)
+            self.old self.new result }
+        ensures step { Advances 13 self.old self.new result }
+    {
+        let begun = self.character(c, place, context);
+        if let Ok(State::Core(core)) = begun {
+            return self.go_on(core, Scripts::none(core.kind, core.limits));
+        }
+        begun
     }
 
     /// Changes what follows this place in the innermost row.
@@ -326,4 +349,12 @@ impl<'a> Parser<'a> {
         enclose(&mut self.builder, row.high, opening, closing)?;
         Ok(State::Core(Core::new(Kind::Plain(Class::Inner), row.high)))
     }
+}
+
+/// Whether the character ends some rows, or continues an atom.
+#[inline(always)]
+pub(crate) fn ends_or_marks(c: char) -> bool
+    ensures { result ≡ ends_or_marks c }
+{
+    matches!(c, '&' | '_' | '^' | '\'' | ']' | '$')
 }
