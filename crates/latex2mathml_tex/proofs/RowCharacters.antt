@@ -1,7 +1,8 @@
 -- Characters that begin atoms in every row.
-use Rattle.std.proofs.Common.{◌≡◌, ◌∙◌, ◌==◌, ◌||◌, ◌∷◌, [], ℕ, Bool, true, false, IsTrue, List, ap, arith, refl, reverse, subst, sym}
+use Rattle.std.proofs.Common.{◌≡◌, ◌∙◌, ◌==◌, ◌||◌, ℕ, Bool, true, false, Some, ap, arith, refl}
 use Rattle.std.proofs.lemmas.Bool.Decides.{nat_tests}
-use Rattle.std.proofs.lemmas.List.{reverse-append}
+use Rattle.std.specs.Prelude.{not}
+use Rattle.std.specs.Char.{is_ascii_alphabetic, is_ascii_digit}
 use Rattle.std.specs.Str.{byte}
 use Rattle.latex2mathml_tex_grammar.specs.{Next.past_space, Rules.character_rule}
 use Rattle.latex2mathml_tex_grammar.specs.Rules as rules
@@ -12,15 +13,13 @@ use Rattle.latex2mathml_tex_atoms.specs.Models.{context_of}
 use Rattle.latex2mathml_tex_units.specs.{Left.units_at, Taking.piece_of, Taking.unit_of}
 use Rattle.latex2mathml_tex_units.specs.declared.{input.Input.Input, unit.Unit.Unit}
 use Rattle.latex2mathml_tex_units.specs.declared.unit.Piece.TheVariants as piece
-use Rattle.latex2mathml_tex_grammar.specs.Makes.{takes_limits}
+use Rattle.latex2mathml_tex_grammar.specs.{Commands.symbol_of, Makes.core, Makes.takes_limits, Rules.gives, Symbols.Symbol}
+use Rattle.latex2mathml_tex_grammar.specs.Makes
 use Rattle.latex2mathml_tex_atoms.specs.Models.{kind_of}
-use Rattle.latex2mathml_tex_commands.specs.declared.meaning.Style.{Style}
-use Rattle.latex2mathml_tex_atoms.specs.declared.{atoms.Context.Context, atoms.Core.Core, atoms.Row.Row as CodeRow, atoms.Scripts.Scripts}
-use Rattle.latex2mathml_tex.specs.Innermost.{IsInnermost, none_begun, on_top}
-use Rattle.latex2mathml_tex.specs.declared.parse.frames.{Ending.Ending, Frame.Frame}
+use Rattle.latex2mathml_tex_atoms.specs.declared.{atoms.Context.Context, atoms.Core.Core, atoms.Scripts.Scripts}
 use Rattle.latex2mathml_tex.specs.Frames.{Start, ending_of}
-use Rattle.latex2mathml_tex.specs.RowCharacters.{IsRowInnermost, ends_or_marks}
-use Rattle.latex2mathml_tex.specs.Steps.{BeginsIn, Holds, Ready, Took, atom_made, first_accepts, left_of}
+use Rattle.latex2mathml_tex.specs.RowCharacters.{IsRowInnermost, ends_or_marks, is_symbol}
+use Rattle.latex2mathml_tex.specs.Steps.{BeginsIn, Holds, Took, left_of}
 use Rattle.latex2mathml_tex.specs.declared.parse.Parser.{Parser}
 use Rattle.latex2mathml_tex.specs.declared.parse.State.TheVariants as state
 use Rattle.latex2mathml_tex.specs.declared.parse.frames.Frame.TheVariants as frame
@@ -84,27 +83,39 @@ module _ (p : Parser) (i : Input) (u : Unit) (c : ℕ) (is : u.piece ≡ piece.C
       let begun = rule_begun s q u e (place, (row, (k, (others, inner)))) (λ at. rw is (ends_none c none (ending_of e at))) took (λ at. rw is (begins_by_rule c none (ending_of e at))) in
       unit_begins s q (frame.Row e place k row) k u (piece.Character c) refl is (others, inner) begun
 
--- The innermost row, where a character was put
+-- what follows an atom that was put in the innermost row
+pub scripts_follow : (p : Parser) (k : Context) → IsRowInnermost p.style p.frames.stack.items k → (c : Core) (scripts : Scripts) → scripts ≡ record { primes = 0; below = false; above = false; is_exchanged = false; limits = c.limits; takes_limits = takes_limits (kind_of c.kind) } → (s : Start) → Holds s p (state.Core c) → Holds s p (state.Atom c scripts)
+scripts_follow p k (e, (place, (row, (others, inner)))) c scripts none s g = core_in_row s p c scripts (frame.Row e place k row) e place k row (others, inner) refl none g
 
-row_awaits : (style : Style) (fs others : List Frame) (e : Ending) (place : ℕ) (k : Context) (row : CodeRow) → IsInnermost style fs (frame.Row e place k row) others → IsTrue (first_accepts atom_made (reverse fs))
-row_awaits style fs others e place k row (none_begun h i g) = rw h search
-row_awaits style fs others e place k row (on_top h) = rw h (subst (λ l. IsTrue (first_accepts atom_made l)) (sym (reverse-append others (frame.Row e place k row ∷ []))) search)
+-- The rules of letters and signs
 
--- q is the parser p, but for its input, its elements and its refusal
-module _ (p q : Parser) (kept : q ≡ record p { input = q.input; builder = q.builder; refusal = q.refusal }) (k : Context) (there : IsRowInnermost p.style p.frames.stack.items k) where
-  still_there : IsRowInnermost q.style q.frames.stack.items k
-  still_there = subst (λ (r : Parser). IsRowInnermost r.style r.frames.stack.items k) (sym kept) there
+-- none of eight tests
+record None8 (a b c d e f g h : Bool) : Type 0 where
+  first : a ≡ false
+  second : b ≡ false
+  third : c ≡ false
+  fourth : d ≡ false
+  fifth : e ≡ false
+  sixth : f ≡ false
+  seventh : g ≡ false
+  eighth : h ≡ false
 
-  module _ (c : Core) (scripts : Scripts) (none : scripts ≡ record { primes = 0; below = false; above = false; is_exchanged = false; limits = c.limits; takes_limits = takes_limits (kind_of c.kind) }) where
-    pub ready_for_scripts : Ready q (state.Core c) → Ready q (state.Atom c scripts)
-    ready_for_scripts ready =
-        let (e, (place, (row, (others, inner)))) = still_there in
-        record {
-          elements = rw none ready.elements;
-          may_come = record { accepted = row_awaits q.style q.frames.stack.items others e place k row inner; nested = ready.may_come.nested };
-        }
+none_of_8 : (a b c d e f g h : Bool) → not (a || b || c || d || e || f || g || h) ≡ true → None8 a b c d e f g h
+none_of_8 false false false false false false false false t = record { first = refl; second = refl; third = refl; fourth = refl; fifth = refl; sixth = refl; seventh = refl; eighth = refl }
+none_of_8 true b c d e f g h t = absurd (cc)
+none_of_8 false true c d e f g h t = absurd (cc)
+none_of_8 false false true d e f g h t = absurd (cc)
+none_of_8 false false false true e f g h t = absurd (cc)
+none_of_8 false false false false true f g h t = absurd (cc)
+none_of_8 false false false false false true g h t = absurd (cc)
+none_of_8 false false false false false false true h t = absurd (cc)
+none_of_8 false false false false false false false true t = absurd (cc)
 
-    pub scripts_follow : (s : Start) → Holds s q (state.Core c) → Holds s q (state.Atom c scripts)
-    scripts_follow s g =
-        let (e, (place, (row, (others, inner)))) = still_there in
-        core_in_row s q c scripts (frame.Row e place k row) e place k row (others, inner) refl none g
+module _ (k : rules.Context) (c place : ℕ) (no_digit : is_ascii_digit c ≡ false) where
+  pub letter_rule : is_ascii_alphabetic c ≡ true → character_rule k c place ≡ gives (core (Makes.letter k.alphabet c))
+  letter_rule alphabetic = rw (no_digit, alphabetic) refl
+
+  pub symbol_rule : (symbol : Symbol) → is_ascii_alphabetic c ≡ false → is_symbol c ≡ true → symbol_of c ≡ Some symbol → character_rule k c place ≡ gives (Makes.symbol k.alphabet symbol)
+  symbol_rule symbol no_letter plain is =
+      let each = none_of_8 (c == byte ".") (c == byte "~") (c == byte "&") (c == byte "#") (c == byte "$") (c == byte "_") (c == byte "^") (c == byte "'") plain in
+      rw (no_digit, no_letter, each.first, each.second, each.third, each.fourth, each.fifth, each.sixth, each.seventh, each.eighth, is) refl

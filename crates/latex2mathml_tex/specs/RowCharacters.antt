@@ -1,5 +1,5 @@
 -- Characters that are read within a row.
-use Rattle.std.specs.Prelude.{◌==◌, ◌||◌, ℕ, Bool, List}
+use Rattle.std.specs.Prelude.{◌==◌, ◌||◌, ℕ, Bool, List, not}
 use Rattle.std.specs.Str.{byte}
 use Rattle.latex2mathml_tex.specs.Innermost.{IsInnermost}
 use Rattle.latex2mathml_tex_commands.specs.declared.meaning.Style.{Style}
@@ -14,3 +14,7 @@ IsRowInnermost s fs c = (e : Ending) × ((place : ℕ) × ((row : Row) × ((othe
 -- whether the character ends some rows, or continues an atom
 abbrev pub ends_or_marks : ℕ → Bool
 ends_or_marks c = c == byte "&" || c == byte "_" || c == byte "^" || c == byte "'" || c == byte "]" || c == byte "$"
+
+-- whether a character that is no letter and no digit is none of those that have a rule of their own
+abbrev pub is_symbol : ℕ → Bool
+is_symbol c = not (c == byte "." || c == byte "~" || c == byte "&" || c == byte "#" || c == byte "$" || c == byte "_" || c == byte "^" || c == byte "'")

@@ -164,6 +164,15 @@ impl<'a> Parser<'a> {
             self.input.advance();
             return self.character_in_row(c, unit.place, context);
         }
+        self.next_part()
+    }
+
+    /// Reads what the innermost frame waits for, whatever comes next.
+    fn next_part(&mut self) -> Result<State, AllocError>
+        requires { Ready self.old State.Next }
+        ensures holds { LeadsOn (HoldsIn State.Next) self.old self.new result }
+        ensures step { Advances 1 self.old self.new result }
+    {
         match self.frames.innermost(self.style) {
             Frame::Row(ending, place, context, row) => {
                 self.next_atom(ending, place, context, row)

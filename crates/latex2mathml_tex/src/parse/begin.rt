@@ -131,7 +131,6 @@ impl<'a> Parser<'a> {
     }
 
     /// Begins the rule of a character.
-    #[inline(always)]
     pub(crate) fn character(
         &mut self,
         c: char,
@@ -143,11 +142,6 @@ impl<'a> Parser<'a> {
             (BeginsIn context (character_rule (context_of context) c place) 0)
             self.old self.new result }
         ensures step { Advances 13 self.old self.new result }
-        ensures kept { self.new ≡ record self.old {
-          input = self.new.input;
-          builder = self.new.builder;
-          refusal = self.new.refusal;
-        } }
     {
         if c.is_ascii_digit() {
             return self.number(context.alphabet, c);

@@ -43,17 +43,11 @@ impl<'a> Parser<'a> {
             (Makes.symbol (option_map alphabet_of alphabet) (Meanings.symbol_of symbol))) 0)
             self.old self.new result }
         ensures step { Advances 13 self.old self.new result }
-        ensures kept { self.new ≡ record self.old {
-          input = self.new.input;
-          builder = self.new.builder;
-          refusal = self.new.refusal;
-        } }
     {
         Ok(State::Core(put_symbol(&mut self.builder, alphabet, symbol)?))
     }
 
     /// Puts a letter that is italic by default.
-    #[inline(always)]
     pub(crate) fn letter(
         &mut self,
         alphabet: Option<Alphabet>,
@@ -64,11 +58,6 @@ impl<'a> Parser<'a> {
             (Begins (gives (core (Makes.letter (option_map alphabet_of alphabet) c))) 0)
             self.old self.new result }
         ensures step { Advances 13 self.old self.new result }
-        ensures kept { self.new ≡ record self.old {
-          input = self.new.input;
-          builder = self.new.builder;
-          refusal = self.new.refusal;
-        } }
     {
         Ok(State::Core(put_letter(&mut self.builder, alphabet, c)?))
     }
@@ -84,11 +73,6 @@ impl<'a> Parser<'a> {
             (Begins (gives (core (Makes.upright_letter (option_map alphabet_of alphabet) c))) 0)
             self.old self.new result }
         ensures step { Advances 13 self.old self.new result }
-        ensures kept { self.new ≡ record self.old {
-          input = self.new.input;
-          builder = self.new.builder;
-          refusal = self.new.refusal;
-        } }
     {
         Ok(State::Core(put_upright_letter(&mut self.builder, alphabet, c)?))
     }
@@ -120,18 +104,12 @@ impl<'a> Parser<'a> {
             (Begins (gives (core (Makes.spacing width))) 0)
             self.old self.new result }
         ensures step { Advances 13 self.old self.new result }
-        ensures kept { self.new ≡ record self.old {
-          input = self.new.input;
-          builder = self.new.builder;
-          refusal = self.new.refusal;
-        } }
     {
         self.builder.space(i32::from(width))?;
         Ok(State::Core(Core::new(Kind::Blank, false)))
     }
 
     /// Puts the number that begins with this digit: digits, and a point between digits.
-    #[inline(always)]
     pub(crate) fn number(
         &mut self,
         alphabet: Option<Alphabet>,
@@ -141,11 +119,6 @@ impl<'a> Parser<'a> {
         requires digit { digit < 128 }
         ensures holds { LeadsOn (NumberBegins alphabet digit) self.old self.new result }
         ensures step { Advances 13 self.old self.new result }
-        ensures kept { self.new ≡ record self.old {
-          input = self.new.input;
-          builder = self.new.builder;
-          refusal = self.new.refusal;
-        } }
     {
         begin_number(&mut self.builder, alphabet, digit)?;
         digits(&mut self.input, &mut self.builder, alphabet)?;
@@ -170,11 +143,6 @@ impl<'a> Parser<'a> {
             → Begins (a_symbol (context_of context) c (symbol_of c)) 0 s self.old
             → IfOk result (Holds s self.new) }
         ensures step { Advances 13 self.old self.new result }
-        ensures kept { self.new ≡ record self.old {
-          input = self.new.input;
-          builder = self.new.builder;
-          refusal = self.new.refusal;
-        } }
     {
         match symbol_of(c) {
             Some(symbol) => self.symbol(alphabet, symbol),
@@ -187,11 +155,6 @@ impl<'a> Parser<'a> {
         requires { CanBegin 0 self.old }
         ensures holds { LeadsOn (PointBegins alphabet) self.old self.new result }
         ensures step { Advances 13 self.old self.new result }
-        ensures kept { self.new ≡ record self.old {
-          input = self.new.input;
-          builder = self.new.builder;
-          refusal = self.new.refusal;
-        } }
     {
         let Some(digit) = self.input.take_digit() else {
             return self.other_character(alphabet, '.');
