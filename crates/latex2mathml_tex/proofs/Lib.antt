@@ -16,6 +16,7 @@ pub mod Outlining
 pub mod Putting
 pub mod Replacing
 pub mod Resting
+pub mod RowCharacters
 pub mod Rows
 pub mod RuleSteps
 pub mod Scripting

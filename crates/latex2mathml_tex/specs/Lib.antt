@@ -4,6 +4,7 @@ pub mod Innermost
 pub mod Levels
 pub mod Numbers
 pub mod ReadRows
+pub mod RowCharacters
 pub mod Steps
 pub mod Tables
 pub mod TakenBy

@@ -25,13 +25,14 @@ mod values;
 mod words;
 
 use crate::parse::frames::{Frame, Frames};
+use crate::parse::rows::ends_or_marks;
 use latex2mathml_builder::builder::Builder;
 use latex2mathml_tex_atoms::atoms::{Core, Operand, Scripts, Words};
 use latex2mathml_tex_commands::meaning::{Alphabet, Style};
 use latex2mathml_tex_units::error::{TexError, TexErrorKind};
 use latex2mathml_tex_units::input::Input;
 use latex2mathml_tex_units::macros::whole::Whole;
-use latex2mathml_tex_units::unit::{Fault, Next};
+use latex2mathml_tex_units::unit::{Fault, Next, Piece};
 use std::alloc::{AllocError, Global};
 use std::mem;
 
@@ -150,6 +151,24 @@ impl<'a> Parser<'a> {
 
     /// Reads what the innermost frame waits for.
     fn next(&mut self) -> Result<State, AllocError>
+        requires { Ready self.old State.Next }
+        ensures holds { LeadsOn (HoldsIn State.Next) self.old self.new result }
+        ensures step { Advances 1 self.old self.new result }
+    {
+        // most units are letters and signs in a row: for these, no frame is copied
+        if let Next::Unit(unit) = self.input.next
+            && let Piece::Character(c) = unit.piece
+            && !ends_or_marks(c)
+            && let Some(context) = self.frames.row_context(self.style)
+        {
+            self.input.advance();
+            return self.character_in_row(c, unit.place, context);
+        }
+        self.next_part()
+    }
+
+    /// Reads what the innermost frame waits for, whatever comes next.
+    fn next_part(&mut self) -> Result<State, AllocError>
         requires { Ready self.old State.Next }
         ensures holds { LeadsOn (HoldsIn State.Next) self.old self.new result }
         ensures step { Advances 1 self.old self.new result }

@@ -9,6 +9,7 @@ pub mod Listings
 pub mod Names
 pub mod Nexts
 pub mod Parameters
+pub mod Plain
 pub mod PuttingBodies
 pub mod Runs
 pub mod Scanned
@@ -17,5 +18,6 @@ pub mod Tables
 pub mod Taken
 pub mod Texts
 pub mod Turning
+pub mod UsualForms
 pub mod UsualLookups
 pub mod Whole

@@ -1,4 +1,5 @@
 pub mod Bodies
+pub mod Characters
 pub mod Defined
 pub mod Environments
 pub mod ErrorTexts
@@ -14,4 +15,5 @@ pub mod Runs
 pub mod Scans
 pub mod Taking
 pub mod Texts
+pub mod UsualForms
 pub mod Whole

@@ -227,6 +227,12 @@ impl<'a> Input<'a> {
             (TakesNone (a_character 46 ∷ a_digit ∷ []) self.old self.new)
             (λ c. TakesNext (a_character 46 ∷ a_digit ∷ []) (46 ∷ c ∷ []) self.old self.new) }
     {
+        if let Next::Unit(unit) = self.next
+            && let Piece::Character(c) = unit.piece
+            && c != '.'
+        {
+            return None;
+        }
         let mut ahead = *self;
         if ahead.take_character('.')
             && let Some(digit) = ahead.take_digit()

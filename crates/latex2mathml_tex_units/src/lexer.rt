@@ -1,12 +1,13 @@
 //! The units of a text, taken one at a time.
-ghost use Rattle.std.specs.Prelude.{◌≡◌, ◌+◌, ◌<◌, ◌^◌, length};
+ghost use Rattle.std.specs.Prelude.{◌≡◌, ◌+◌, ◌<◌, ◌^◌, MatchOption, length};
 ghost use Rattle.std.specs.Str.{chars};
 ghost use Rattle.latex2mathml_tex_grammar.specs.Cutting.{units_of};
-ghost use Rattle.latex2mathml_tex_units.specs.Taking.{Takes};
+ghost use Rattle.latex2mathml_tex_units.specs.{Characters.TakesCharacter, Taking.Takes};
 
 pub mod characters;
 mod slices;
 
+use crate::lexer::characters::{first_char, is_plain};
 use crate::lexer::slices::{Start, front};
 use crate::unit::{Next, Unit};
 
@@ -39,6 +40,23 @@ impl<'a> Lexer<'a> {
         self.rest = rest;
         self.place = place;
         next
+    }
+
+    /// Takes the next unit, if it is a printable ASCII character. Returns the character and its place. Most units are such
+    /// characters, and a character with its place takes less room than any unit.
+    #[inline(always)]
+    pub(crate) fn take_plain(&mut self) -> Option<(char, usize)>
+        ensures { MatchOption result (units_left self.new ≡ units_left self.old)
+            (λ taken. TakesCharacter taken (units_left self.old) (units_left self.new)) }
+    {
+        let (c, behind) = first_char(self.rest)?;
+        if !is_plain(c) {
+            return None;
+        }
+        let place = self.place;
+        self.place += self.rest.len() - behind.len();
+        self.rest = behind;
+        Some((c, place))
     }
 }
 

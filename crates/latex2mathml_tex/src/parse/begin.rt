@@ -131,7 +131,12 @@ impl<'a> Parser<'a> {
     }
 
     /// Begins the rule of a character.
-    fn character(&mut self, c: char, place: usize, context: Context) -> Result<State, AllocError>
+    pub(crate) fn character(
+        &mut self,
+        c: char,
+        place: usize,
+        context: Context,
+    ) -> Result<State, AllocError>
         requires begin { CanBegin 0 self.old }
         ensures holds { LeadsOn
             (BeginsIn context (character_rule (context_of context) c place) 0)

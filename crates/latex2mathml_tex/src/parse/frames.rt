@@ -1,5 +1,5 @@
 //! The open frames, and how much of each was read.
-ghost use Rattle.std.specs.Prelude.{◌≡◌, ℕ, ◌∷◌, ◌++◌, [], List, MatchOption, None, OnOk, if◌then◌else◌, option_map};
+ghost use Rattle.std.specs.Prelude.{◌≡◌, ℕ, ◌∷◌, ◌++◌, [], IfSome, List, MatchOption, None, OnOk, if◌then◌else◌, option_map};
 ghost use Rattle.latex2mathml_tex_grammar.specs.Starts.{DividerStart, atom_start, change_by, ends, mark_of, start_of_mark};
 ghost use Rattle.latex2mathml_tex_grammar.specs.{Refusal.refusal_at, Starts.unended, Environments.before_cell, Rules.InCell};
 ghost use Rattle.latex2mathml_elements.specs.Columns.{column_at};
@@ -10,6 +10,7 @@ ghost use Rattle.latex2mathml_tex_commands.specs.Meanings.{style_of};
 ghost use Rattle.latex2mathml_tex_atoms.specs.Models.{before_of};
 ghost use Rattle.latex2mathml_tex.specs.Tables.{style_in, table_end};
 ghost use Rattle.latex2mathml_tex.specs.Innermost.{IsInnermost, begun_row, frame_context, frame_row};
+ghost use Rattle.latex2mathml_tex.specs.RowCharacters.{IsRowInnermost};
 ghost use Rattle.latex2mathml_tex_atoms.specs.Models.{empty_row};
 ghost use Rattle.latex2mathml_tex_units.specs.Taking.{piece_of};
 
@@ -283,6 +284,18 @@ impl Frames {
         match self.stack.as_slice().last() {
             Some(&frame) => frame,
             None => text_row(style),
+        }
+    }
+
+    /// Returns the innermost frame's context, if the frame is a row, in a formula of this style.
+    #[inline(always)]
+    pub(crate) fn row_context(&self, style: Style) -> Option<Context>
+        ensures { IfSome result (λ context. IsRowInnermost style self.now.stack.items context) }
+    {
+        match self.stack.as_slice().last() {
+            Some(Frame::Row(_, _, context, _)) => Some(*context),
+            Some(_) => None,
+            None => Some(text_context(style)),
         }
     }
 

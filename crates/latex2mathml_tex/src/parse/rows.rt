@@ -1,15 +1,17 @@
 //! Rows: how each of their atoms begins, how it is put after the others, and how a row ends.
 ghost use Rattle.std.specs.Prelude.{◌≡◌, ◌≢◌, ◌+◌, ◌≤◌, ℕ, false};
-ghost use Rattle.latex2mathml_tex_grammar.specs.{Makes.no_scripts, Meaning.Beside, Starts.empty_base, Starts.ends};
+ghost use Rattle.latex2mathml_tex_grammar.specs.{Makes.no_scripts, Meaning.Beside, Rules.character_rule, Starts.empty_base, Starts.ends};
 ghost use Rattle.latex2mathml_tex_commands.specs.Meanings.{change_of};
 ghost use Rattle.latex2mathml_tex_units.specs.Taking.{piece_of};
 ghost use Rattle.latex2mathml_tex.specs.Frames.{ending_count, ending_of, Start};
-ghost use Rattle.latex2mathml_tex_atoms.specs.Models.{row_count};
-ghost use Rattle.latex2mathml_tex.specs.Steps.{Awaits, AwaitsAtom, BeginsDivider, BeginsRest, CanBegin, CanMake, ClosesRow, EndsFormula, EndsRow, EndsText, EndsWithText, HasElements, HoldsIn, InnermostIs, Advances, LeadsOn, MadeAtom, Ready, Took, TookMark, TookUnmarked, atom_made, core_made, ending_weight, level, row_makes, Closes, Follows, Holds, to_do};
+ghost use Rattle.latex2mathml_tex_atoms.specs.Models.{context_of, row_count};
+ghost use Rattle.latex2mathml_tex.specs.RowCharacters.{IsRowInnermost, ends_or_marks, is_symbol};
+ghost use Rattle.latex2mathml_tex.specs.Steps.{Awaits, AwaitsAtom, BeginsDivider, BeginsIn, BeginsRest, CanBegin, CanMake, ClosesRow, EndsFormula, EndsRow, EndsText, EndsWithText, HasElements, HoldsIn, InnermostIs, Advances, LeadsOn, MadeAtom, Ready, Took, TookMark, TookUnmarked, atom_made, core_made, ending_weight, level, row_makes, Closes, Follows, Holds, to_do};
 ghost use Rattle.latex2mathml_tex_atoms.specs.declared.atoms.{Context.Context, Row.Row};
 
 use crate::parse::frames::{Ending, Frame, Last, Table};
 use crate::parse::scripts::{Mark, mark_of};
+use crate::parse::symbols::{put_letter, put_symbol};
 use crate::parse::{Parser, State};
 use latex2mathml_attributes::attributes::Attributes;
 use latex2mathml_attributes::tag::Container;
@@ -18,6 +20,7 @@ use latex2mathml_tex_atoms::rests::{divide, finish, recolor, restyle};
 use latex2mathml_tex_atoms::shapes::{enclose, lower_dividers, put_divider, put_row, with_atom};
 use latex2mathml_tex_commands::commands;
 use latex2mathml_tex_commands::meaning::{Change, Class, LimitPlace, Meaning, Style};
+use latex2mathml_tex_commands::signs::symbol_of;
 use latex2mathml_tex_units::error::TexErrorKind;
 use latex2mathml_tex_units::unit::{Next, Piece, Unit};
 use std::alloc::AllocError;
@@ -91,6 +94,36 @@ impl<'a> Parser<'a> {
                 self.command(found, name, unit.place, context)
             }
         }
+    }
+
+    /// Begins an atom of a row with this character, which was taken at this place.
+    pub(crate) fn character_in_row(
+        &mut self,
+        c: char,
+        place: usize,
+        context: Context,
+    ) -> Result<State, AllocError>
+        requires begin { CanBegin 0 self.old }
+        requires row { IsRowInnermost self.old.style self.old.frames.stack.items context }
+        ensures holds { LeadsOn
+            (BeginsIn context (character_rule (context_of context) c place) 0)
+            self.old self.new result }
+        ensures step { Advances 13 self.old self.new result }
+    {
+        if c.is_ascii_digit() {
+            return self.number(context.alphabet, c);
+        }
+        if c.is_ascii_alphabetic() {
+            let letter = put_letter(&mut self.builder, context.alphabet, c)?;
+            return self.go_on(letter, Scripts::none(letter.kind, letter.limits));
+        }
+        if is_symbol(c)
+            && let Some(symbol) = symbol_of(c)
+        {
+            let sign = put_symbol(&mut self.builder, context.alphabet, symbol)?;
+            return self.go_on(sign, Scripts::none(sign.kind, sign.limits));
+        }
+        self.character(c, place, context)
     }
 
     /// Changes what follows this place in the innermost row.
@@ -326,4 +359,20 @@ impl<'a> Parser<'a> {
         enclose(&mut self.builder, row.high, opening, closing)?;
         Ok(State::Core(Core::new(Kind::Plain(Class::Inner), row.high)))
     }
+}
+
+/// Whether the character ends some rows, or continues an atom.
+#[inline(always)]
+pub(crate) fn ends_or_marks(c: char) -> bool
+    ensures { result ≡ ends_or_marks c }
+{
+    matches!(c, '&' | '_' | '^' | '\'' | ']' | '$')
+}
+
+/// Whether a character that is no letter and no digit is none of those that have a rule of their own.
+#[inline(always)]
+fn is_symbol(c: char) -> bool
+    ensures { result ≡ is_symbol c }
+{
+    !matches!(c, '.' | '~' | '&' | '#' | '$' | '_' | '^' | '\'')
 }

@@ -200,6 +200,7 @@ fn scripted(
 }
 
 /// Returns the scripts with a mark of the primes as the superscript, if they have no other superscript.
+#[inline(always)]
 fn with_primes(builder: &mut Builder, scripts: Scripts) -> Result<Scripts, AllocError>
     ensures scripts { IfOk result (λ whole. scripts_with whole (elements_in builder.new)
         ≡ record (scripts_with scripts (elements_in builder.old)) {

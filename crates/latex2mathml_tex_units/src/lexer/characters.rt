@@ -1,5 +1,5 @@
 //! A text, character by character and run by run.
-ghost use Rattle.std.specs.Prelude.{◌≡◌, ◌∷◌, ◌++◌, ℕ, [], List, MatchOption};
+ghost use Rattle.std.specs.Prelude.{◌≡◌, ◌∷◌, ◌++◌, ℕ, [], false, IsTrue, List, MatchOption};
 ghost use Rattle.std.specs.{Str.chars, Str.encode_utf8_all};
 ghost use Rattle.latex2mathml_tex_grammar.specs.Units;
 ghost use Rattle.latex2mathml_tex_units.specs.Runs.{in_class, IsLongestRun};
@@ -39,6 +39,15 @@ pub fn is_forbidden(c: char) -> bool
     ensures { result ≡ Units.is_forbidden c }
 {
     (c < ' ' && !is_space(c)) || c == '\u{FFFE}' || c == '\u{FFFF}'
+}
+
+/// Whether the character is a printable one of ASCII that is a unit by itself.
+#[inline(always)]
+pub fn is_plain(c: char) -> bool
+    ensures special { IsTrue result → Units.is_special c ≡ false }
+    ensures forbidden { IsTrue result → Units.is_forbidden c ≡ false }
+{
+    c > ' ' && c <= '~' && c != '{' && c != '}' && c != '%' && c != '\\'
 }
 
 /// Returns the first character and the text after it.

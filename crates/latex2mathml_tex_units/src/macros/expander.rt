@@ -1,9 +1,9 @@
 //! The units of a text, with what they expand to in their place.
-ghost use Rattle.std.specs.Prelude.{◌≡◌, IfOk, None};
+ghost use Rattle.std.specs.Prelude.{◌≡◌, IfOk, MatchOption, None};
 ghost use Rattle.std.specs.Str.{chars};
 ghost use Rattle.latex2mathml_tex_grammar.specs.{Cutting.units_of, Expanding.expansion, Expansion.most_units, Expansion.most_uses};
 ghost use Rattle.latex2mathml_tex_grammar.specs.Units as units;
-ghost use Rattle.latex2mathml_tex_units.specs.{Expanded.IsHalted, Expanded.Turned, Expanded.expanded_left, Expanded.turn_of_name, MacroTables.macros_in, Taking.Takes};
+ghost use Rattle.latex2mathml_tex_units.specs.{Expanded.IsHalted, Expanded.Turned, Expanded.expanded_left, Expanded.turn_of_name, MacroTables.macros_in, Characters.TakesCharacter, Taking.Takes};
 
 use crate::macros::definitions::word_named;
 use crate::macros::halt::Halt;
@@ -76,6 +76,18 @@ impl<'m, 'a> Expander<'m, 'a> {
                 Err(halt) => return self.halted(halt),
             }
         }
+    }
+
+    /// Takes the next expanded unit, if it is a printable ASCII character of the text. Returns the character and its place.
+    #[inline(always)]
+    pub(crate) fn take_plain(&mut self) -> Option<(char, usize)>
+        ensures { MatchOption result (expanded_left self.new ≡ expanded_left self.old)
+            (λ taken. TakesCharacter taken (expanded_left self.old) (expanded_left self.new)) }
+    {
+        if self.refused.is_some() {
+            return None;
+        }
+        self.pending.take_plain()
     }
 
     /// Leaves nothing but this refusal.

@@ -1,8 +1,8 @@
 //! The units that are still to be expanded.
-ghost use Rattle.std.specs.Prelude.{◌≡◌, option_map};
+ghost use Rattle.std.specs.Prelude.{◌≡◌, MatchOption, option_map};
 ghost use Rattle.std.specs.Str.{chars};
 ghost use Rattle.latex2mathml_tex_grammar.specs.{Cutting.units_of, Definitions.digit, Definitions.sign, Next.past_space};
-ghost use Rattle.latex2mathml_tex_units.specs.{Pending.next_piece, Pending.pending_units, Taking.Takes, Taking.piece_of};
+ghost use Rattle.latex2mathml_tex_units.specs.{Pending.next_piece, Pending.pending_units, Characters.TakesCharacter, Taking.Takes, Taking.piece_of};
 
 use crate::lexer::Lexer;
 use crate::macros::part::{digit_of, is_character};
@@ -36,6 +36,18 @@ impl<'a> Pending<'a> {
             Some(unit) => Next::Unit(unit),
             None => self.lexer.take(),
         }
+    }
+
+    /// Takes the next unit, if it is a printable ASCII character of the text. Returns the character and its place.
+    #[inline(always)]
+    pub(crate) fn take_plain(&mut self) -> Option<(char, usize)>
+        ensures { MatchOption result (pending_units self.new ≡ pending_units self.old)
+            (λ taken. TakesCharacter taken (pending_units self.old) (pending_units self.new)) }
+    {
+        if !self.put.as_slice().is_empty() {
+            return None;
+        }
+        self.lexer.take_plain()
     }
 
     /// Returns the next piece, if there is one.

@@ -3,7 +3,7 @@ ghost use Rattle.std.specs.Prelude.{◌≡◌, IfOk};
 ghost use Rattle.latex2mathml_tex_units.specs.{Expanded.expanded_left, Whole.whole_units};
 
 use crate::macros::expander::Expander;
-use crate::unit::{Fault, Next, Unit};
+use crate::unit::{Fault, Next, Piece, Unit};
 use std::alloc::AllocError;
 
 /// How units end.
@@ -30,6 +30,11 @@ impl<'m, 'a> Expander<'m, 'a> {
         let mut units = room;
         units.clear();
         'units: loop {
+            if let Some((c, place)) = self.take_plain() {
+                let piece = Piece::Character(c);
+                units.push(Unit { piece, place })?;
+                continue;
+            }
             match self.take()? {
                 Next::Unit(unit) => units.push(unit)?,
                 Next::End(place) => {

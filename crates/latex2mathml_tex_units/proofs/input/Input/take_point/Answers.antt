@@ -1,7 +1,10 @@
-use Rattle.latex2mathml_tex_grammar.specs.Rules.{a_character, a_digit}
-use Rattle.latex2mathml_tex_units.specs.Left.{units_at}
-use Rattle.latex2mathml_tex_units.proofs.Nexts.{both_stand}
+use Rattle.std.proofs.Common.{◌∷◌, [], ap, refl}
+use Rattle.latex2mathml_tex_grammar.specs.Rules.{a_digit}
+use Rattle.latex2mathml_tex_units.specs.Left.{put_back, units_at, units_behind}
+use Rattle.latex2mathml_tex_units.proofs.Plain.{other_next}
 use Rattle.latex2mathml_tex_units.proofs.input.Input.take_point.Goals as goal
 
 pub returns : goal.returns
-returns c = both_stand (a_character 46) a_digit (units_at c.args.self.now) _ _ _ _ c.if-take_character.ensures c.in-Some.ensures
+returns c =
+    let i = c.args.self.now in
+    (other_next 46 c.in-Character.c (a_digit ∷ []) (units_at i) (units_behind i) c.in-Unit.unit (ap (λ n. put_back n (units_behind i)) c.in-Unit.is) c.in-Character.is c.if-c-ne46.true, refl)

@@ -1,0 +1,121 @@
+-- Characters that begin atoms in every row.
+use Rattle.std.proofs.Common.{◌≡◌, ◌∙◌, ◌==◌, ◌||◌, ℕ, Bool, true, false, Some, ap, arith, refl}
+use Rattle.std.proofs.lemmas.Bool.Decides.{nat_tests}
+use Rattle.std.specs.Prelude.{not}
+use Rattle.std.specs.Char.{is_ascii_alphabetic, is_ascii_digit}
+use Rattle.std.specs.Str.{byte}
+use Rattle.latex2mathml_tex_grammar.specs.{Next.past_space, Rules.character_rule}
+use Rattle.latex2mathml_tex_grammar.specs.Rules as rules
+use Rattle.latex2mathml_tex_grammar.specs.Rules.{WholeText, InBraces, InBrackets, InDollars, InDelimiters, InCell, ByName, ByBrace, ByText}
+use Rattle.latex2mathml_tex_grammar.specs.Starts.{RuleStart, atom_start, ends}
+use Rattle.latex2mathml_tex_grammar.specs.Units.{Character, Next}
+use Rattle.latex2mathml_tex_atoms.specs.Models.{context_of}
+use Rattle.latex2mathml_tex_units.specs.{Left.units_at, Taking.piece_of, Taking.unit_of}
+use Rattle.latex2mathml_tex_units.specs.declared.{input.Input.Input, unit.Unit.Unit}
+use Rattle.latex2mathml_tex_units.specs.declared.unit.Piece.TheVariants as piece
+use Rattle.latex2mathml_tex_grammar.specs.{Commands.symbol_of, Makes.core, Makes.takes_limits, Rules.gives, Symbols.Symbol}
+use Rattle.latex2mathml_tex_grammar.specs.Makes
+use Rattle.latex2mathml_tex_atoms.specs.Models.{kind_of}
+use Rattle.latex2mathml_tex_atoms.specs.declared.{atoms.Context.Context, atoms.Core.Core, atoms.Scripts.Scripts}
+use Rattle.latex2mathml_tex.specs.Frames.{Start, ending_of}
+use Rattle.latex2mathml_tex.specs.RowCharacters.{IsRowInnermost, ends_or_marks, is_symbol}
+use Rattle.latex2mathml_tex.specs.Steps.{BeginsIn, Holds, Took, left_of}
+use Rattle.latex2mathml_tex.specs.declared.parse.Parser.{Parser}
+use Rattle.latex2mathml_tex.specs.declared.parse.State.TheVariants as state
+use Rattle.latex2mathml_tex.specs.declared.parse.frames.Frame.TheVariants as frame
+use Rattle.latex2mathml_tex.proofs.{Beginning.unit_begins, Beginnings.rule_begun, Operands.core_in_row}
+
+-- none of six tests
+record None6 (a b c d e f : Bool) : Type 0 where
+  first : a ≡ false
+  second : b ≡ false
+  third : c ≡ false
+  fourth : d ≡ false
+  fifth : e ≡ false
+  sixth : f ≡ false
+
+none_of : (a b c d e f : Bool) → (a || b || c || d || e || f) ≡ false → None6 a b c d e f
+none_of false false false false false false h = record { first = refl; second = refl; third = refl; fourth = refl; fifth = refl; sixth = refl }
+none_of true b c d e f h = absurd (cc)
+none_of false true c d e f h = absurd (cc)
+none_of false false true d e f h = absurd (cc)
+none_of false false false true e f h = absurd (cc)
+none_of false false false false true f h = absurd (cc)
+none_of false false false false false true h = absurd (cc)
+
+turned : (a b : ℕ) → (a == b) ≡ false → (b == a) ≡ false
+turned a b h = grind (arith, nat_tests)
+
+module _ (c : ℕ) (none : ends_or_marks c ≡ false) where
+  each : None6 (c == byte "&") (c == byte "_") (c == byte "^") (c == byte "'") (c == byte "]") (c == byte "$")
+  each = none_of (c == byte "&") (c == byte "_") (c == byte "^") (c == byte "'") (c == byte "]") (c == byte "$") none
+
+  -- the character ends no row
+  pub ends_none : (e : rules.Ending) → ends e (Character c) ≡ false
+  ends_none WholeText = refl
+  ends_none (InBraces place) = refl
+  ends_none (InBrackets place) = turned c (byte "]") each.fifth
+  ends_none (InDollars place) = turned c (byte "$") each.sixth
+  ends_none (InDelimiters place) = refl
+  ends_none (InCell ByName place) = rw (turned c (byte "&") each.first) refl
+  ends_none (InCell ByBrace place) = refl
+  ends_none (InCell ByText place) = rw (turned c (byte "&") each.first) refl
+
+  -- the character begins an atom by its rule
+  pub begins_by_rule : (e : rules.Ending) → atom_start e (Character c) ≡ RuleStart
+  begins_by_rule WholeText = rw (each.fourth, each.second, each.third) refl
+  begins_by_rule (InBraces place) = rw (each.fourth, each.second, each.third) refl
+  begins_by_rule (InBrackets place) = rw (each.fourth, each.second, each.third) refl
+  begins_by_rule (InDollars place) = rw (each.fourth, each.second, each.third) refl
+  begins_by_rule (InDelimiters place) = rw (each.fourth, each.second, each.third) refl
+  begins_by_rule (InCell end place) = rw (each.fourth, each.second, each.third) refl
+
+module _ (p : Parser) (i : Input) (u : Unit) (c : ℕ) (is : u.piece ≡ piece.Character c) where
+  -- no white space precedes the character
+  pub character_next : left_of p ≡ Next (unit_of u) (units_at i) → past_space (left_of p) ≡ Next (unit_of u) (units_at i)
+  character_next next = ap past_space next ∙ rw is refl
+
+  -- the rule of the character begins in the innermost row
+  pub character_begins : (s : Start) (k : Context) → IsRowInnermost p.style p.frames.stack.items k → ends_or_marks c ≡ false → past_space (left_of p) ≡ Next (unit_of u) (units_at i) → Holds s p state.Next → BeginsIn k (character_rule (context_of k) c u.place) 0 s (record p { input = i })
+  character_begins s k (e, (place, (row, (others, inner)))) none next h =
+      let took : Took u s (record p { input = i }) = record { style = h.style; before = left_of p; next = next; leads = h.claims } in
+      let q = record p { input = i } in
+      let begun = rule_begun s q u e (place, (row, (k, (others, inner)))) (λ at. rw is (ends_none c none (ending_of e at))) took (λ at. rw is (begins_by_rule c none (ending_of e at))) in
+      unit_begins s q (frame.Row e place k row) k u (piece.Character c) refl is (others, inner) begun
+
+-- what follows an atom that was put in the innermost row
+pub scripts_follow : (p : Parser) (k : Context) → IsRowInnermost p.style p.frames.stack.items k → (c : Core) (scripts : Scripts) → scripts ≡ record { primes = 0; below = false; above = false; is_exchanged = false; limits = c.limits; takes_limits = takes_limits (kind_of c.kind) } → (s : Start) → Holds s p (state.Core c) → Holds s p (state.Atom c scripts)
+scripts_follow p k (e, (place, (row, (others, inner)))) c scripts none s g = core_in_row s p c scripts (frame.Row e place k row) e place k row (others, inner) refl none g
+
+-- The rules of letters and signs
+
+-- none of eight tests
+record None8 (a b c d e f g h : Bool) : Type 0 where
+  first : a ≡ false
+  second : b ≡ false
+  third : c ≡ false
+  fourth : d ≡ false
+  fifth : e ≡ false
+  sixth : f ≡ false
+  seventh : g ≡ false
+  eighth : h ≡ false
+
+none_of_8 : (a b c d e f g h : Bool) → not (a || b || c || d || e || f || g || h) ≡ true → None8 a b c d e f g h
+none_of_8 false false false false false false false false t = record { first = refl; second = refl; third = refl; fourth = refl; fifth = refl; sixth = refl; seventh = refl; eighth = refl }
+none_of_8 true b c d e f g h t = absurd (cc)
+none_of_8 false true c d e f g h t = absurd (cc)
+none_of_8 false false true d e f g h t = absurd (cc)
+none_of_8 false false false true e f g h t = absurd (cc)
+none_of_8 false false false false true f g h t = absurd (cc)
+none_of_8 false false false false false true g h t = absurd (cc)
+none_of_8 false false false false false false true h t = absurd (cc)
+none_of_8 false false false false false false false true t = absurd (cc)
+
+module _ (k : rules.Context) (c place : ℕ) (no_digit : is_ascii_digit c ≡ false) where
+  pub letter_rule : is_ascii_alphabetic c ≡ true → character_rule k c place ≡ gives (core (Makes.letter k.alphabet c))
+  letter_rule alphabetic = rw (no_digit, alphabetic) refl
+
+  pub symbol_rule : (symbol : Symbol) → is_ascii_alphabetic c ≡ false → is_symbol c ≡ true → symbol_of c ≡ Some symbol → character_rule k c place ≡ gives (Makes.symbol k.alphabet symbol)
+  symbol_rule symbol no_letter plain is =
+      let each = none_of_8 (c == byte ".") (c == byte "~") (c == byte "&") (c == byte "#") (c == byte "$") (c == byte "_") (c == byte "^") (c == byte "'") plain in
+      rw (no_digit, no_letter, each.first, each.second, each.third, each.fourth, each.fifth, each.sixth, each.seventh, each.eighth, is) refl
