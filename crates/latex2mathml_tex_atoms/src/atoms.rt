@@ -225,6 +225,8 @@ pub struct Restyled {
 pub struct Row {
     /// How many elements there are since the last change of style or color.
     pub count: usize,
+    /// How many elements precede that change, below the others.
+    pub settled: usize,
     /// What precedes the next atom.
     pub before: Before,
     /// Whether the last element is a word of upright letters.
@@ -235,8 +237,6 @@ pub struct Row {
     pub class: Class,
     /// That change, if there was one.
     pub restyled: Option<Restyled>,
-    /// How many elements precede that change, below the others.
-    pub settled: usize,
     /// The rule of the fraction, if the row is the lower part of one. The upper part is below the other elements.
     pub under: Option<FractionRule>,
 }

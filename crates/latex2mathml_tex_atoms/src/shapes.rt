@@ -327,9 +327,7 @@ pub fn with_atom(
         } else {
             Class::Ordinary
         },
-        restyled: row.restyled,
-        settled: row.settled,
-        under: row.under,
+        ..row
     })
 }
 
