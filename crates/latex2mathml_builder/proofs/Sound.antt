@@ -5,7 +5,7 @@ use Rattle.std.proofs.Math.{ListN.get_or, ListN.set, Seq.drop-append_seam, Seq.d
 use Rattle.std.specs.Str.{IsUtf8}
 use Rattle.latex2mathml_elements.specs.{Element.Element, Element.token}
 use Rattle.latex2mathml_elements.specs.Attributes as attributes
-use Rattle.latex2mathml_builder.specs.Built.{Adjoin, AllFit, EachFits, EndsAt, Fits, HasText, IsCut, IsSound, Meets, element_of, is_token_part, settled_on}
+use Rattle.latex2mathml_builder.specs.Built.{Adjoin, AllFit, EachFits, EndsAt, Fits, HasText, IsCut, IsSound, Meets, between, element_of, is_token_part, settled_on}
 use Rattle.latex2mathml_attributes.specs.Names.{attributes_of, token_of}
 use Rattle.latex2mathml_builder.specs.Stacks.{given, is_token, lengthened, ordered, token_at, token_of_element, with_attributes}
 use Rattle.latex2mathml_attributes.specs.declared.attributes.Attributes.{Attributes}
@@ -56,6 +56,29 @@ elements_longer texts more settled stack f g =
     let n = settled_length texts [] settled in
     ap (λ ys. reverse (map (element_of (texts ++ more) ys) stack)) (settled_longer texts more settled f ∙ sym (append-nil xs))
     ∙ ap reverse (elements_kept texts more xs [] (length settled) stack (omega arith) g)
+
+-- a token with these texts is pushed
+module _ (texts more : List ℕ) (settled stack : List Part) (t : Token) (a : Attributes) (s : IsSound texts settled stack) (new : List ℕ) (start end : ℕ) (is : new ≡ texts ++ more) (starts : start ≡ length texts) (ends : end ≡ length new) where
+  pub sound_text : IsUtf8 texts → IsUtf8 new → IsSound new settled (stack ++ part.Token t a start end ∷ [])
+  sound_text u v = rw (starts, ends, is) (record {
+    settled_fit = each_more texts more 0 settled s.settled_fit;
+    open_fit = all_append (texts ++ more) (length settled) stack _ (all_more texts more (length settled) (length settled) stack (omega arith) s.open_fit) (fits, tt);
+    adjoin = adjoin_push (length texts) (length (texts ++ more)) stack _ s.adjoin refl refl;
+  })
+    where
+      fits : HasText (texts ++ more) (length texts) (length (texts ++ more))
+      fits = (omega (arith, length-append texts more), (cut_kept texts more (length texts) (cut_end texts u), cut_end (texts ++ more) (subst IsUtf8 is v)))
+
+  pub elements_text : elements new settled (stack ++ part.Token t a start end ∷ []) ≡ token (token_of t) (attributes_of a) more ∷ elements texts settled stack
+  elements_text = rw (starts, ends, is) (
+      elements_push (texts ++ more) settled stack _
+      ∙ cc (ap (token (token_of t) (attributes_of a)) whole, elements_longer texts more settled stack s.settled_fit s.open_fit))
+    where
+      rest : length (texts ++ more) - length texts ≡ length more
+      rest = omega (arith, length-append texts more)
+
+      whole : between (length texts) (length (texts ++ more)) (texts ++ more) ≡ more
+      whole = ap (λ n. take n (drop (length texts) (texts ++ more))) rest ∙ ap (take (length more)) (drop-append_seam texts more) ∙ take-length more
 
 -- The last part
 

@@ -111,9 +111,16 @@ impl Builder {
         ensures err { OnErr result ((self.new ≡ self.old)
             ⊎ Puts (element_with_text tag attributes []) self.old self.new) }
     {
-        self.token(tag, attributes)?;
-        self.push(c)?;
-        Ok(())
+        let start = self.texts.len();
+        self.texts.push(c)?;
+        let end = self.texts.len();
+        match self.stack.push(Part::Token(tag, attributes, start, end)) {
+            Ok(()) => Ok(()),
+            Err(failed) => {
+                self.texts.truncate(start);
+                Err(failed.into())
+            }
+        }
     }
 
     /// Appends to the text of the uppermost element, if it holds one. Returns whether it does.

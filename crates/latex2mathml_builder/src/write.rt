@@ -1,15 +1,17 @@
 //! Writes elements as markup.
-ghost use Rattle.std.specs.Prelude.{◌≡◌, ◌+◌, ◌<◌, ◌≤◌, ◌++◌, [], OnOk, codes, length, string_bytes};
+ghost use Rattle.std.specs.Prelude.{◌≡◌, ◌+◌, ◌<◌, ◌≤◌, ◌∷◌, ◌++◌, [], false, IsTrue, OnOk, codes, length, string_bytes};
 ghost use Rattle.latex2mathml_elements.specs.Element.{children};
 ghost use Rattle.latex2mathml_elements.specs.Print.{attributes_text, print, prints};
-ghost use Rattle.latex2mathml_builder.specs.Built.{Fits, element_in, elements_in, uppermost};
-ghost use Rattle.latex2mathml_attributes.specs.Names.{attributes_of};
+ghost use Rattle.latex2mathml_builder.specs.Built.{Fits, element_in, elements_in, is_token_part, uppermost};
+ghost use Rattle.latex2mathml_attributes.specs.Names.{attributes_of, element_with_text};
+ghost use Rattle.latex2mathml_tokens.specs.Escape.{content};
 ghost use Rattle.latex2mathml_builder.specs.Due.{AreIn, IsIn, Writes, arranged, due, load, settled_from, weight, weights, work_print, work_weight};
 
 use crate::builder::Builder;
 use crate::part::Part;
 use crate::works::{Work, Works};
 use latex2mathml_attributes::attributes::Attributes;
+use latex2mathml_attributes::tag::Token;
 use latex2mathml_trees::append::{append_content, append_space};
 use std::alloc::AllocError;
 
@@ -101,10 +103,31 @@ impl Builder {
     {
         match part {
             Part::Token(tag, attributes, start, end) => {
-                start_tag(tag.start_tag(), tag.start(), &attributes, out)?;
-                append_content(self.text_between(start, end), out)?;
-                out.push_str(tag.end())
+                write_token(tag, attributes, self.text_between(start, end), out)
             }
+            part => self.write_outer(part, works, out),
+        }
+    }
+
+    /// Writes what precedes the children of an element that holds no text, and pushes what follows on the list.
+    #[inline(never)]
+    fn write_outer(
+        &self,
+        part: Part,
+        works: &mut Vec<Work>,
+        out: &mut String,
+    ) -> Result<(), AllocError>
+        requires no_token { is_token_part part ≡ false }
+        requires fits { Fits self.now.texts (length self.now.settled) part }
+        requires inside { AreIn self.now works.old.items }
+        ensures inside { OnOk result (AreIn self.now works.new.items) }
+        ensures print { OnOk result (Writes self.now (string_bytes out.old) works.old.items
+            (print (element_in self.now part)) (string_bytes out.new) works.new.items) }
+        ensures weight { OnOk result (load self.now works.new.items
+            < load self.now works.old.items + weight (element_in self.now part)) }
+    {
+        match part {
+            Part::Token(_, _, _, _) => unreachable!(),
             Part::Space(width) => append_space(width, out),
             Part::Rectangle(extent) => {
                 out.push_str("<mspace")?;
@@ -181,6 +204,67 @@ impl Builder {
         let _ = self;
         Ok(works.push(work)?)
     }
+}
+
+/// Appends an element that holds this text.
+#[inline(always)]
+#[tactic(auto, using(std::proofs::lemmas::Grind::common_steps))]
+fn write_token(
+    tag: Token,
+    attributes: Attributes,
+    text: &str,
+    out: &mut String,
+) -> Result<(), AllocError>
+    ensures { OnOk result (string_bytes out.new ≡ string_bytes out.old
+        ++ print (element_with_text tag attributes text.now)) }
+{
+    if !attributes.are_none() {
+        start_with_attributes(tag.start(), &attributes, out)?;
+        append_content(text, out)?;
+        return out.push_str(tag.end());
+    }
+    match tag {
+        Token::Mi => write_text("<mi>", text, "</mi>", out),
+        Token::Mn => write_text("<mn>", text, "</mn>", out),
+        Token::Mo => write_text("<mo>", text, "</mo>", out),
+        Token::Mtext => write_text("<mtext>", text, "</mtext>", out),
+    }
+}
+
+/// Appends a text as contents, between two tags.
+#[inline(always)]
+fn write_text(
+    before: &'static str,
+    text: &str,
+    after: &'static str,
+    out: &mut String,
+) -> Result<(), AllocError>
+    ensures { OnOk result (string_bytes out.new ≡ string_bytes out.old
+        ++ (before.now ++ (content text.now ++ after.now))) }
+{
+    out.push_str(before)?;
+    write_content(text, out)?;
+    out.push_str(after)
+}
+
+/// Appends a text as contents. Most texts are one character.
+#[inline(always)]
+fn write_content(text: &str, out: &mut String) -> Result<(), AllocError>
+    ensures { OnOk result (string_bytes out.new ≡ string_bytes out.old ++ content text.now) }
+{
+    match text.as_bytes() {
+        [byte] if is_its_content(*byte) => out.push(char::from(*byte)),
+        _ => append_content(text, out),
+    }
+}
+
+/// Whether the byte is a character that contents hold as it is.
+#[inline(always)]
+fn is_its_content(byte: u8) -> bool
+    ensures character { IsTrue result → byte < 128 }
+    ensures content { IsTrue result → content (byte ∷ []) ≡ byte ∷ [] }
+{
+    byte.is_ascii() && !matches!(byte, b'&' | b'<' | b'>' | b'$')
 }
 
 /// Appends a start tag: `whole` if there are no attributes, otherwise `beginning` and the attributes.

@@ -1,5 +1,5 @@
 -- The top elements changed, and a row with an atom after it.
-use Rattle.std.proofs.Common.{◌≡◌, ℕ, ◌+◌, ◌<◌, ◌≤◌, ◌==◌, Bool, false, true, zero, suc, List, [], ◌∷◌, ◌++◌, Option, Some, None, length, take, drop, arith, refl, sym, ap, ◌∙◌}
+use Rattle.std.proofs.Common.{◌≡◌, ℕ, ◌+◌, ◌<◌, ◌≤◌, ◌==◌, ◌&&◌, Bool, false, true, zero, suc, List, [], ◌∷◌, ◌++◌, Option, Some, None, length, take, drop, arith, refl, sym, ap, ◌∙◌}
 use Rattle.std.proofs.Math.Dec.{eqb-suc-zero}
 use Rattle.std.proofs.lemmas.List.{drop-drop}
 use Rattle.latex2mathml_elements.specs.Attributes.{Attributes}
@@ -186,6 +186,12 @@ begins_row (suc n) (x ∷ y ∷ xs) enough = sym (eqb-suc-zero n)
 pub put_adapted : (n : ℕ) (style : Style) (before : Before) (kind : Kind) (xs : List Element) → suc n ≤ length xs → Atoms.is_parted before kind ≡ false → take (suc n) (changed_at (Atoms.element_there style (n == 0) before kind) 0 xs) ≡ Rows.put false style before (Atoms.atom kind false (top xs)) (take n (drop 1 xs))
 put_adapted n style before kind [] enough none = absurd (omega arith)
 put_adapted n style before kind (x ∷ xs) enough none = rw (begins_row n (x ∷ xs) enough, none)
+
+-- an atom that stays as it is, with no space before it
+pub put_as_it_is : (joins : Bool) (n : ℕ) (style : Style) (before : Before) (kind : Kind) (xs : List Element) → suc n ≤ length xs → Atoms.is_letters kind ≡ false → Atoms.is_parted before kind ≡ false → ((x : Element) → Atoms.element_there style (n == 0) before kind x ≡ x) → take (suc n) xs ≡ Rows.put (joins && Atoms.is_letters kind) style before (Atoms.atom kind false (top xs)) (take n (drop 1 xs))
+put_as_it_is joins n style before kind [] enough apart none stays = absurd (omega arith)
+put_as_it_is false n style before kind (x ∷ xs) enough apart none stays = rw (begins_row n (x ∷ xs) enough, none) (ap (λ y. y ∷ take n xs) (sym (stays x)))
+put_as_it_is true n style before kind (x ∷ xs) enough apart none stays = rw (apart, begins_row n (x ∷ xs) enough, none) (ap (λ y. y ∷ take n xs) (sym (stays x)))
 
 pub class_behind : (n : ℕ) (xs : List Element) (kind : Kind) → 0 < n → suc n ≤ length xs → Ordinary ≡ Rows.class_after (take n (drop 1 xs)) kind
 class_behind zero xs kind some enough = absurd (omega arith)

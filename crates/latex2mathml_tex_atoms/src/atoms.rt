@@ -63,6 +63,7 @@ impl Kind {
     }
 
     /// Returns the class of the atom as a base. A binary operator and a relation stay what they are.
+    #[inline(always)]
     pub fn class(self) -> Class
         ensures { class_of result ≡ Rows.class_of_kind (kind_of self) }
     {
@@ -107,6 +108,7 @@ pub enum Before {
 
 impl Before {
     /// Whether no binary operator can follow.
+    #[inline(always)]
     pub fn begins_operand(self) -> bool
         ensures { result ≡ Atoms.begins_operand (before_of self) }
     {
@@ -124,6 +126,7 @@ impl Before {
     }
 
     /// Returns the class that an atom of this class has there.
+    #[inline(always)]
     pub fn class_there(self, class: Class) -> Class
         ensures { class_of result ≡ Atoms.class_there (before_of self) (class_of class) }
     {
@@ -140,6 +143,7 @@ impl Before {
     }
 
     /// Returns what an atom there is to the atom after it.
+    #[inline(always)]
     pub fn past(self, kind: Kind) -> Before
         ensures { before_of result ≡ Atoms.past (before_of self) (kind_of kind) }
     {
@@ -225,6 +229,8 @@ pub struct Restyled {
 pub struct Row {
     /// How many elements there are since the last change of style or color.
     pub count: usize,
+    /// How many elements precede that change, below the others.
+    pub settled: usize,
     /// What precedes the next atom.
     pub before: Before,
     /// Whether the last element is a word of upright letters.
@@ -235,8 +241,6 @@ pub struct Row {
     pub class: Class,
     /// That change, if there was one.
     pub restyled: Option<Restyled>,
-    /// How many elements precede that change, below the others.
-    pub settled: usize,
     /// The rule of the fraction, if the row is the lower part of one. The upper part is below the other elements.
     pub under: Option<FractionRule>,
 }

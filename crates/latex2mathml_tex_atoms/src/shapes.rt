@@ -14,6 +14,7 @@ ghost use Rattle.latex2mathml_tex_atoms.specs.Shapes.{ChangesAt, ReplacesTop, de
 ghost use Rattle.latex2mathml_tex_commands.specs.Delimiters.{delimiter_text};
 
 use crate::atoms::{Before, Core, Kind, Row};
+use crate::signs::{adapt, is_put_as_it_is};
 use latex2mathml_attributes::attributes::{Attributes, Form, Side, Size, Space, Stretch};
 use latex2mathml_attributes::tag::{Container, Pair, Token};
 use latex2mathml_builder::builder::Builder;
@@ -171,59 +172,6 @@ pub fn fix_limits(builder: &mut Builder, depth: usize)
     }
 }
 
-/// Removes the space around a sign, if the style is that of scripts.
-fn tighten(builder: &mut Builder, style: Style)
-    ensures { ChangesAt (Atoms.tight (style_of style)) 0 builder.old builder.new }
-{
-    match style {
-        Style::InScript => remove_space(builder),
-        Style::InDisplay | Style::InText => {}
-    }
-}
-
-fn remove_space(builder: &mut Builder)
-    ensures { ChangesAt Atoms.without_space 0 builder.old builder.new }
-{
-    if let Some((_, attributes)) = builder.token_at(0) {
-        builder.give(
-            0,
-            Attributes {
-                space: Some(Space::NoSpace),
-                ..attributes
-            },
-        );
-    }
-}
-
-fn make_prefix(builder: &mut Builder)
-    ensures { ChangesAt Atoms.as_prefix 0 builder.old builder.new }
-{
-    if let Some((_, attributes)) = builder.token_at(0) {
-        builder.give(
-            0,
-            Attributes {
-                form: Some(Form::Prefix),
-                ..attributes
-            },
-        );
-    }
-}
-
-/// Makes the top element a sign between two operands, which may be the first of its row.
-fn make_infix(builder: &mut Builder, first: bool)
-    ensures { ChangesAt (Atoms.as_infix first) 0 builder.old builder.new }
-{
-    if first && let Some((_, attributes)) = builder.token_at(0) {
-        builder.give(
-            0,
-            Attributes {
-                form: Some(Form::Infix),
-                ..attributes
-            },
-        );
-    }
-}
-
 /// Makes of the top element, an operand of the class `own`, the element of an atom of the class `class`.
 pub fn make_base(builder: &mut Builder, style: Style, class: Class, own: Class)
     ensures elements { ChangesAt
@@ -276,31 +224,8 @@ fn space_as(style: Style, class: Class, space: Option<Space>) -> Option<Space>
     }
 }
 
-/// Adapts the top element to the position of its atom. A sign may be a prefix, or between two operands, and has no space in
-/// scripts. The atom may be the first of its row.
-fn adapt(builder: &mut Builder, style: Style, first: bool, before: Before, kind: Kind)
-    ensures { ChangesAt
-        (Atoms.element_there (style_of style) first (before_of before) (kind_of kind)) 0
-        builder.old builder.new }
-{
-    match kind {
-        Kind::SignOf(class) => match before.class_there(class) {
-            Class::Binary | Class::Relation | Class::Punctuation => tighten(builder, style),
-            _ => {}
-        },
-        Kind::PlusOrMinus => {
-            if before.begins_operand() {
-                make_prefix(builder);
-            } else {
-                make_infix(builder, first);
-                tighten(builder, style);
-            }
-        }
-        _ => {}
-    }
-}
-
 /// Returns a row with an atom after it, whose element is the top one.
+#[inline(always)]
 pub fn with_atom(
     builder: &mut Builder,
     style: Style,
@@ -327,13 +252,12 @@ pub fn with_atom(
         } else {
             Class::Ordinary
         },
-        restyled: row.restyled,
-        settled: row.settled,
-        under: row.under,
+        ..row
     })
 }
 
 /// Makes the top element the last one of a row. Returns how many elements the row has then.
+#[inline(always)]
 fn put_behind(
     builder: &mut Builder,
     style: Style,
@@ -349,18 +273,47 @@ fn put_behind(
         ≡ drop (row.count + 1) (elements_in builder.old)) }
     ensures count { IfOk result (λ count. count ≤ length (elements_in builder.new)) }
 {
-    if continues_word(row, kind) {
-        return Ok(join_word(builder, row.count));
+    if is_put_as_it_is(style, row.count == 0, row.before, kind) {
+        // all elements of a row are among those of the builder, so their number fits in a `usize`
+        let _ = builder.len();
+        return Ok(row.count + 1);
     }
-    adapt(builder, style, row.count == 0, row.before, kind);
-    if row.before.is_parted(kind) {
+    let continues = continues_word(row, kind);
+    put_adapted(builder, style, row.count, row.before, continues, kind)
+}
+
+/// Makes the top element, which continues a word or not, the last one of a row that has `count` elements. Returns how many it
+/// has then.
+#[inline(never)]
+fn put_adapted(
+    builder: &mut Builder,
+    style: Style,
+    count: usize,
+    before: Before,
+    continues: bool,
+    kind: Kind,
+) -> Result<usize, AllocError>
+    requires { count + 1 ≤ length (elements_in builder.old) }
+    ensures elements { IfOk result (λ longer. take longer (elements_in builder.new)
+        ≡ Rows.put continues (style_of style) (before_of before)
+        (Atoms.atom (kind_of kind) false (top (elements_in builder.old)))
+        (take count (drop 1 (elements_in builder.old)))) }
+    ensures below { IfOk result (λ longer. drop longer (elements_in builder.new)
+        ≡ drop (count + 1) (elements_in builder.old)) }
+    ensures count { IfOk result (λ longer. longer ≤ length (elements_in builder.new)) }
+{
+    if continues {
+        return Ok(join_word(builder, count));
+    }
+    adapt(builder, style, count == 0, before, kind);
+    if before.is_parted(kind) {
         builder.space_below(3)?;
         // all elements of a row are among those of the builder, so their number fits in a `usize`
         let _ = builder.len();
-        return Ok(row.count + 2);
+        return Ok(count + 2);
     }
     let _ = builder.len();
-    Ok(row.count + 1)
+    Ok(count + 1)
 }
 
 /// Whether an atom of this kind forms one word with the last element of a row.

@@ -1,40 +1,21 @@
-use Rattle.std.proofs.Common.{◌≡◌, ◌+◌, ◌∙◌, suc, ap, arith, length, pos, sym, take}
+use Rattle.std.proofs.Common.{rules, ◌≡◌, ◌+◌, ◌==◌, false, suc, arith}
 use Rattle.latex2mathml_builder.specs.Built.{elements_in}
-use Rattle.latex2mathml_elements.specs.Element.{space}
+use Rattle.latex2mathml_elements.specs.Element.{Element}
+use Rattle.latex2mathml_tex_grammar.specs.Atoms
 use Rattle.latex2mathml_tex_commands.specs.Meanings.{style_of}
 use Rattle.latex2mathml_tex_atoms.specs.Models.{before_of, kind_of}
-use Rattle.latex2mathml_tex_atoms.proofs.Shaping.{length_changed, length_parted, put_adapted}
+use Rattle.latex2mathml_tex_atoms.proofs.Shaping.{put_as_it_is}
 use Rattle.latex2mathml_tex_atoms.proofs.shapes.put_behind.Goals as goal
-use Rattle.latex2mathml_tex_atoms.proofs.shapes.put_behind.Goals.{After-adapt, In_ok-space_below}
 
-adapted : (c : After-adapt) → length (elements_in c.adapt.new.builder) ≡ length (elements_in c.args.builder.now)
-adapted c = ap length c.adapt.ensures ∙ length_changed _ 0 (elements_in c.args.builder.now)
-
-parted : (c : In_ok-space_below) → length (elements_in c.space_below.new.self) ≡ suc (length (elements_in c.args.builder.now))
-parted c =
-    ap length c.in_ok-space_below.ensures.elements
-    ∙ length_parted (space (pos 3)) (elements_in c.adapt.new.builder)
-    ∙ ap suc (ap length c.adapt.ensures ∙ length_changed _ 0 (elements_in c.args.builder.now))
-
-pub space_below-requires : goal.space_below-requires
-space_below-requires c = omega (arith, adapted (goal.at.space_below-requires c).After-adapt)
-
-pub overflow_add-result : goal.overflow_add-result
-overflow_add-result c = omega (arith, parted (goal.at.overflow_add-result c).In_ok-space_below)
-
-pub returns-then-is_parted-clause-count : goal.returns-then-is_parted-clause-count
-returns-then-is_parted-clause-count c = omega (arith, parted (goal.at.returns-then-is_parted-clause-count c).In_ok-space_below)
-
-pub overflow_add-result-2 : goal.overflow_add-result-2
-overflow_add-result-2 c = omega (arith, adapted (goal.at.overflow_add-result-2 c).After-adapt)
-
-pub returns-clause-count : goal.returns-clause-count
-returns-clause-count c = omega (arith, adapted (goal.at.returns-clause-count c).After-adapt)
-
-pub returns-clause-elements : goal.returns-clause-elements
-returns-clause-elements c =
-    let xs = elements_in c.args.builder.now in
-    let n = c.args.row.count in
-    let next : n + 1 ≡ suc n = omega arith in
-    rw (← c.continues_word.ensures, c.if-continues_word.false, next)
-    (ap (take (suc n)) c.adapt.ensures ∙ put_adapted n (style_of c.args.style) (before_of c.args.row.before) (kind_of c.args.kind) xs (omega arith) (sym c.is_parted.ensures ∙ c.if-is_parted.false))
+pub returns-then-is_put_as_it_is-clause-elements :
+    goal.returns-then-is_put_as_it_is-clause-elements
+returns-then-is_put_as_it_is-clause-elements c =
+    let row = c.args.row in
+    let style = style_of c.args.style in
+    let before = before_of row.before in
+    let kind = kind_of c.args.kind in
+    let next : row.count + 1 ≡ suc row.count = omega arith in
+    let apart : Atoms.is_letters kind ≡ false = search rules in
+    let none : Atoms.is_parted before kind ≡ false = search rules in
+    let stays : (x : Element) → Atoms.element_there style (row.count == 0) before kind x ≡ x = λ x. search rules in
+    rw next (put_as_it_is row.ends_in_word row.count style before kind (elements_in c.args.builder.now) (omega arith) apart none stays)

@@ -3,7 +3,7 @@ use Rattle.latex2mathml_builder.specs.Built.{elements_in}
 use Rattle.latex2mathml_tex_grammar.specs.Atoms
 use Rattle.latex2mathml_tex_commands.specs.Meanings.{style_of}
 use Rattle.latex2mathml_tex_atoms.proofs.Shaping.{unchanged}
-use Rattle.latex2mathml_tex_atoms.proofs.shapes.tighten.Goals as goal
+use Rattle.latex2mathml_tex_atoms.proofs.signs.tighten.Goals as goal
 
 pub returns-in-InDisplay : goal.returns-in-InDisplay
 returns-in-InDisplay c =

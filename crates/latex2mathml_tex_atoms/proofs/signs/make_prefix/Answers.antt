@@ -3,7 +3,7 @@ use Rattle.latex2mathml_builder.specs.Built.{elements_in}
 use Rattle.latex2mathml_attributes.specs.Names.{attributes_of, token_of}
 use Rattle.latex2mathml_tex_grammar.specs.Atoms
 use Rattle.latex2mathml_tex_atoms.proofs.Shaping.{given_changed, no_prefix, unchanged_at}
-use Rattle.latex2mathml_tex_atoms.proofs.shapes.make_prefix.Goals as goal
+use Rattle.latex2mathml_tex_atoms.proofs.signs.make_prefix.Goals as goal
 
 pub returns-in-Some : goal.returns-in-Some
 returns-in-Some c =

@@ -5,7 +5,7 @@ use Rattle.latex2mathml_tex_commands.specs.Meanings.{style_of}
 use Rattle.latex2mathml_tex_atoms.specs.Models.{before_of, kind_of}
 use Rattle.latex2mathml_tex_atoms.specs.Shapes.{changed_at}
 use Rattle.latex2mathml_tex_atoms.proofs.Shaping.{infix_there, no_sign, spaced_sign, unchanged}
-use Rattle.latex2mathml_tex_atoms.proofs.shapes.adapt.Goals as goal
+use Rattle.latex2mathml_tex_atoms.proofs.signs.adapt.Goals as goal
 
 pub returns-in_default-class_there : goal.returns-in_default-class_there
 returns-in_default-class_there c =

@@ -13,7 +13,7 @@ use Rattle.latex2mathml_attributes.specs.Names.{attributes_of, math_style_of, pa
 use Rattle.latex2mathml_builder.proofs.Parts.{settled_count}
 use Rattle.latex2mathml_builder.proofs.Tables.{table_loaded, table_written}
 use Rattle.latex2mathml_builder.proofs.Written.{opened, taken_length, print_around, print_pair, print_triple, weight_around, weight_pair, weight_triple}
-use Rattle.latex2mathml_builder.proofs.builder.Builder.write_part.Goals as goal
+use Rattle.latex2mathml_builder.proofs.builder.Builder.write_outer.Goals as goal
 
 pub returns-in-Space-clause-print : goal.returns-in-Space-clause-print
 returns-in-Space-clause-print c =
@@ -39,7 +39,7 @@ returns-in_ok-push_work-in-Around-clause-print c =
     let enough : found.first + 1 ≤ length (settled_in b) = omega (arith, settled_count b.texts b.settled, fits) in
     let whole = ap (λ p. print (element_of b.texts (settled_in b) p)) found.is ∙ print_around found.around (settled_in b) found.first enough in
     on_ok_weaker c.push_work-in-Around.result
-    (λ h. opened (container_name (around_name found.around)) (around_attributes found.around) (string_bytes c.args.out.now) (prints (children (settled_from b found.first 1))) (due b c.args.works.now.items) _ _ _ _ _ _ refl c.in_ok-append_start-in-Around.ensures c.end-in-Around.ensures c.in_ok-push_work-in-Around.ensures.print h whole)
+    (λ h. opened (container_name (around_name found.around)) (around_attributes found.around) (string_bytes c.args.out.now) (prints (children (settled_from b found.first 1))) (due b c.args.works.now.items) _ _ _ _ _ _ refl c.in_ok-append_start-in-Around.ensures c.end.ensures c.in_ok-push_work-in-Around.ensures.print h whole)
     c.push_work-in-Around.ensures.print
 
 pub returns-in_ok-push_work-in-Around-clause-weight : goal.returns-in_ok-push_work-in-Around-clause-weight

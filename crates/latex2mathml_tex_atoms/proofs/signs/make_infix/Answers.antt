@@ -3,8 +3,8 @@ use Rattle.latex2mathml_builder.specs.{Built.elements_in, Stacks.token_at}
 use Rattle.latex2mathml_attributes.specs.Names.{attributes_of, token_of}
 use Rattle.latex2mathml_tex_grammar.specs.Atoms
 use Rattle.latex2mathml_tex_atoms.proofs.Shaping.{given_changed, no_infix, unchanged, unchanged_at}
-use Rattle.latex2mathml_tex_atoms.proofs.shapes.make_infix.Goals as goal
-use Rattle.latex2mathml_tex_atoms.proofs.shapes.make_infix.Goals.{else-first-via-else-first, else-first-via-then-first+in-None-1}
+use Rattle.latex2mathml_tex_atoms.proofs.signs.make_infix.Goals as goal
+use Rattle.latex2mathml_tex_atoms.proofs.signs.make_infix.Goals.{else-first-via-else-first, else-first-via-then-first+in-None-1}
 
 pub returns-in-Some : goal.returns-in-Some
 returns-in-Some c =
