@@ -1,7 +1,7 @@
 """Random formulas, as strategies of hypothesis."""
 from hypothesis import strategies as st
 
-from tests.command_table import in_the_definitions
+from tests import cases
 
 # characters that XML allows, some of them hostile
 CHARACTERS = list("abcxyzABC0123456789.+-*/=,;:!?|()[]{}<>&\"'~@%$^_# \t\n") + list("é∂∑−⟨⟩字ℝ𝔸😀\u0338")
@@ -36,7 +36,7 @@ def longer(inner):
 
 def formulas():
     """Formulas: most are built as one would write them, some are noise."""
-    command = st.sampled_from(sorted(in_the_definitions())).map(lambda name: "\\" + name + (" " if name[-1].isalpha() else ""))
+    command = st.sampled_from(sorted(it.name for it in cases.commands())).map(lambda name: "\\" + name + (" " if name[-1].isalpha() else ""))
     sizes = st.builds("\\big{}{}".format, st.sampled_from("lr"), st.sampled_from("()[]|"))
     words = around("", st.builds("{}{{{}".format, st.sampled_from(["\\text", "\\operatorname"]), st.sampled_from(["abc", "a<b & c", "if "])))
     noise = joined(st.one_of(st.sampled_from(CHARACTERS), command), 11)

@@ -174,7 +174,7 @@ def sentences(text):
     prose = re.sub(r"^\s*(?:[-*]|\d+\.) +", "\n\n", "\n".join(kept), flags=re.M)
     prose = re.sub(r"``.*?``|`[^`]*`", "code", prose, flags=re.S)
     # an enumeration of code, with the sign of each command after it, counts as one word
-    item = r"code(?:\s+(?:code|[^\s,]{1,2})(?:\s+\(U\+\w+\))?)?"
+    item = r"code(?:\s+(?:code|[^\s,(]{1,2}))?(?:\s+\(U\+\w+\))?"
     prose = re.sub(rf"{item}(?:,\s+(?:and\s+)?{item})+", "code", prose)
     prose = re.sub(r"\]\([^)]*\)", "]", prose)
     for paragraph in re.split(r"\n\s*\n", prose):
