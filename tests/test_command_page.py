@@ -16,6 +16,8 @@ DRAWN = {
     "Marks, braces and stacks": ("{0}{{x}}", "x{1}"), "Delimiters": (r"\left{0} x\right{0}", "{1}x{1}"), "Strokes": (r"\not{0}", "{1}"),
     "Words": (r"\text{{{0}}}", "{1}"), "Tables": (r"\begin{{matrix}}{0} a\end{{matrix}}", "a"),
 }
+# an arrow is before what is above it
+BELOW = "{1}x"
 
 # the arguments of macros that do not take every formula
 FIRST_ARGUMENTS = {"colorbox": "{red}", "raisebox": "{1em}"}
@@ -90,9 +92,9 @@ class Read(Case):
 
     @each_row({section: (section, *forms) for section, forms in DRAWN.items()})
     def draws(self, section, formula, due):
-        """An arrow is before what is above it."""
         listed = [it for it in tex_commands.listed() if it.place.section == section and not it.place.example]
-        self.draw({formula.format(it.name): ("{1}x" if it.name.startswith("\\x") else due).format(it.name, it.draws) for it in listed})
+        self.draw({formula.format(it.name): (BELOW if it.place.what.startswith("Arrows as long") else due).format(it.name, it.draws)
+                   for it in listed})
 
     def test_sizes(self):
         self.draw({it.example: "(" for it in tex_commands.listed() if it.place.section == "Sizes"})
