@@ -118,52 +118,47 @@ def empty_assertions(module):
 
 
 def is_empty(node):
-    if isinstance(node, ast.Assert):
-        return is_always_true(node.test)
-    if isinstance(node, ast.Compare):
-        return is_always_true(node)
-    if isinstance(node, ast.Call) and name_of(node.func) == "Has":
-        return is_of_any("assertIn", *node.args, None)
-    if not isinstance(node, ast.Call) or not isinstance(node.func, ast.Attribute) or not node.func.attr.startswith("assert"):
-        return False
-    name, operands = node.func.attr, node.args
-    if name in ("assertTrue", "assertFalse"):
-        # what is intended as an operand would be the message
-        return is_always_true(operands[0]) or any(not is_message(it, operands[0]) for it in operands[1:])
-    return len(operands) > 1 and (is_same(*operands[:2]) or is_of_any(name, *operands[:2]))
+    match node:
+        case ast.Assert(test=test):
+            return is_always_true(test)
+        case ast.Compare(left=left, ops=[relation], comparators=[right]):
+            return is_met(type(relation).__name__, left, right)
+        case ast.Call(func=ast.Name(id="Has"), args=[part]):
+            return is_met("In", part, None)
+        case ast.Call(func=ast.Attribute(attr="assertTrue" | "assertFalse"), args=[operand, *messages]):
+            # what is intended as an operand would be the message
+            return is_always_true(operand) or not all(is_message(it, operand) for it in messages)
+        case ast.Call(func=ast.Attribute(attr=name), args=[left, right, *_]) if name.startswith("assert"):
+            return is_met(name.removeprefix("assert"), left, right)
+    return False
+
+
+def is_always_true(node):
+    return isinstance(node, (ast.Tuple, ast.List, ast.Dict, ast.JoinedStr, ast.Lambda, ast.Constant)) or isinstance(node, ast.Compare) and is_empty(node)
+
+
+def is_met(relation, left, right):
+    """Whether a relation is between the same, or one of any text or any length."""
+    match relation, left, right:
+        case "In", ast.Constant(value="" | b""), _:
+            return True
+        case "GreaterEqual" | "GtE", ast.Call(func=ast.Name(id="len")), ast.Constant(value=0):
+            return True
+    return right is not None and is_same(left, right)
 
 
 def is_message(node, operand):
     """Whether it is one, as after a condition, or if it shows what should be true. Otherwise it may be meant as an operand."""
-    if isinstance(operand, (ast.Compare, ast.BoolOp)):
-        return True
-    if isinstance(operand, ast.Call) and name_of(operand.func) in CONDITIONS:
-        return True
-    return any(is_same(operand, it) for it in ast.walk(node) if it is not node)
-
-
-def name_of(node):
-    return getattr(node, "attr", None) or getattr(node, "id", None)
+    is_condition = isinstance(operand, (ast.Compare, ast.BoolOp)) or isinstance(operand, ast.Call) and name_of(operand.func) in CONDITIONS
+    return is_condition or any(is_same(operand, it) for it in ast.walk(node) if it is not node)
 
 
 def is_same(left, right):
     return ast.dump(left) == ast.dump(right)
 
 
-def is_of_any(name, left, right):
-    """Whether a comparison is of any text, or of any length."""
-    if name == "assertIn":
-        return isinstance(left, ast.Constant) and not left.value and isinstance(left.value, (str, bytes))
-    is_length = isinstance(left, ast.Call) and isinstance(left.func, ast.Name) and left.func.id == "len"
-    return name == "assertGreaterEqual" and is_length and isinstance(right, ast.Constant) and right.value == 0
-
-
-def is_always_true(node):
-    if isinstance(node, ast.Compare) and len(node.ops) == 1:
-        left, right = node.left, node.comparators[0]
-        names = {ast.In: "assertIn", ast.GtE: "assertGreaterEqual"}
-        return is_same(left, right) or is_of_any(names.get(type(node.ops[0])), left, right)
-    return isinstance(node, (ast.Tuple, ast.List, ast.Dict, ast.JoinedStr, ast.Lambda, ast.Constant))
+def name_of(node):
+    return getattr(node, "attr", None) or getattr(node, "id", None)
 
 
 def cases_without_an_assertion(modules):
@@ -178,15 +173,10 @@ def cases_without_an_assertion(modules):
 
 def is_case(function):
     """Whether it is one, or makes one from each row of a table."""
-    is_of_rows = any(isinstance(it, ast.Call) and name_of(it.func) == "each_row" for it in function.decorator_list)
-    return is_of_rows or function.name.startswith("test_")
+    return function.name.startswith("test_") or any(name_of(getattr(it, "func", it)) == "each_row" for it in function.decorator_list)
 
 
 def asserts(function, asserting):
-    for node in ast.walk(function):
-        if isinstance(node, ast.Assert) or isinstance(node, ast.keyword) and node.arg == "check":
-            return True
-        name = name_of(node)
-        if name and (name.startswith("assert") or name in asserting):
-            return True
-    return False
+    names = {name_of(it) or "" for it in ast.walk(function)}
+    return any(name in asserting or name.startswith("assert") for name in names) or any(
+        isinstance(it, ast.Assert) or isinstance(it, ast.keyword) and it.arg == "check" for it in ast.walk(function))

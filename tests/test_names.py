@@ -1,31 +1,24 @@
-"""A name that is defined twice in a module or a class hides the first one, such as a case that then never runs."""
-import ast
-import collections
-import unittest
+"""What pyflakes finds in Python: among others a name that is defined twice, which hides the first, such as a case that never runs."""
+import sys
 
-from tests.support import ROOT
+from tests.support import ROOT, Case, each_row, requires, run
 
 
-def names_defined_twice(text):
-    """The functions and classes that a module of Python, or a class in it, defines more than once."""
-    found = []
-    for scope in ast.walk(ast.parse(text)):
-        if isinstance(scope, (ast.Module, ast.ClassDef)):
-            names = collections.Counter(it.name for it in scope.body if isinstance(it, (ast.FunctionDef, ast.ClassDef)))
-            owner = f"{scope.name}." if isinstance(scope, ast.ClassDef) else ""
-            found += [f"{owner}{name}" for name, times in names.items() if times > 1]
-    return found
+@requires("python:pyflakes")
+class Names(Case):
+    def expect_names(self, status, told, *files, text=""):
+        self.expect(run([sys.executable, "-m", "pyflakes", *files], stdin=text.encode()), status, told.encode())
 
+    def test_the_sources_have_no_such_name(self):
+        scripts = [it for folder in ("bench", "diff", "tools") for it in (ROOT / folder).iterdir()
+                   if it.is_file() and it.read_bytes().startswith(b"#!/usr/bin/env python3")]
+        self.assertGreater(len(scripts), 5)
+        self.expect_names(0, "", *(ROOT / it for it in ("tests", "tools", "bench", "diff", "integrations")), *scripts)
 
-class Names(unittest.TestCase):
-    def test_no_module_has_one(self):
-        for file in sorted((ROOT / "tests").glob("*.py")):
-            with self.subTest(file.name):
-                self.assertEqual(names_defined_twice(file.read_text(encoding="utf-8")), [])
-
-    def test_names_that_are_defined_twice(self):
-        text = "def f(): pass\nclass A:\n    def test_x(self): pass\n    def test_x(self): pass\ndef f(): pass\n"
-        self.assertEqual(names_defined_twice(text), ["f", "A.test_x"])
-
-    def test_the_same_name_in_two_classes(self):
-        self.assertEqual(names_defined_twice("class A:\n    def f(self): pass\nclass B:\n    def f(self): pass\n"), [])
+    @each_row({
+        "twice": ("def f(): pass\nclass A:\n    def test_x(self): pass\n    def test_x(self): pass\ndef f(): pass\n",
+                  "<stdin>:4:5: redefinition of unused 'test_x' from line 3\n<stdin>:5:1: redefinition of unused 'f' from line 1\n"),
+        "in two classes": ("class A:\n    def f(self): pass\nclass B:\n    def f(self): pass\n", ""),
+    })
+    def defined(self, text, told):
+        self.expect_names(int(told != ""), told, text=text)
