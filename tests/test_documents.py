@@ -83,7 +83,7 @@ class Quotes(Case):
         self.assertEqual(sorted(renewed), sorted(str(it.relative_to(ROOT)) for it in quoting))
         for document in quoting:
             links = document.read_text().count(".antt#L")
-            self.assertEqual(len(list(quotes.definitions(document))), links, f"{document.name} links a line without a definition's name")
+            self.assertEqual(len(quotes.sources_of(document)), links, f"{document.name} links a line without a definition's name")
 
     def test_each_public_call_is_quoted(self):
         text = read("docs/CALLING.md") + read("docs/CALLING_TEX.md")
@@ -96,7 +96,7 @@ class Definitions(Case):
     files = specs.in_order(specs.named(quotes.public_sources()))
 
     def test_the_tables_link_each_file_after_those_that_it_uses(self):
-        linked = list(dict.fromkeys(link.source for link in quotes.definitions(self.document)))
+        linked = list(dict.fromkeys(quotes.sources_of(self.document)))
         self.assertEqual(sorted(linked), sorted(it.path for it in self.files))
         for here in self.files:
             for below in specs.files_below(here):
