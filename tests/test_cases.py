@@ -2,8 +2,8 @@
 import functools
 
 from tests import cases
-from tests.answers import WAYS, AnswerCase, Code, show, tex_by_library
-from tests.support import Case, build, put, run, tex_program
+from tests.answers import WAYS, AnswerCase, Code, tex_by_library
+from tests.support import Case, build, put, run, show, tex_program
 from tests.texts import math
 
 WHITE_SPACE = [space * count for space in (b" ", b"\t", b"\n", b"\r") for count in (1, 1000)]

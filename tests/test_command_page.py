@@ -1,4 +1,5 @@
-"""docs/COMMANDS.md: it is what `tools/commands` prints, it has each name, and the programs read and draw all that it lists."""
+"""docs/COMMANDS.md: it has each name, and the programs read and draw all that it lists. `test_documents` compares it with what
+`tools/renew-documents` prints."""
 import html
 import re
 import shutil
@@ -26,9 +27,6 @@ FIRST_ARGUMENTS = {"colorbox": "{red}", "raisebox": "{1em}"}
 class Page(Case):
     maxDiff = None
 
-    def test_it_is_printed_by_the_script(self):
-        self.expect(run([ROOT / "tools/commands"]), stdout=PAGE.read_bytes())
-
     def test_it_has_each_name(self):
         """As often as a table has it, with what it draws."""
         text = " ".join(PAGE.read_text(encoding="utf-8").split())
@@ -38,7 +36,7 @@ class Page(Case):
         self.assertEqual([it for it in names if f"`{it}`" not in text], [])
 
     def test_an_entry_of_an_unknown_form_is_told(self):
-        for part in ("tools", "tests", "cases", "crates"):
+        for part in ("docs", "tools", "tests", "cases", "crates"):
             shutil.copytree(ROOT / part, self.folder / part, ignore=shutil.ignore_patterns("out", "must-fail", "proofs", "__pycache__"))
         sources = [it for crate in ("commands", "units") for it in (self.folder / f"crates/latex2mathml_tex_{crate}/src").rglob("*.rt")]
         unlisted = "is of a form that tools/tex_commands.txt does not list: "
@@ -56,10 +54,10 @@ class Page(Case):
                 [file] = [it for it in sources if old in it.read_text()]
                 text = file.read_text()
                 file.write_text(text.replace(old, new))
-                done = run([self.folder / "tools/commands"])
+                done = run([self.folder / "tools/renew-documents", "--check"])
                 file.write_text(text)
                 self.expect(done, 1, None, None)
-                self.assertRegex(done.stderr.decode(), rf"\Acommands: .*{re.escape(told)}\n\Z")
+                self.assertRegex(done.stderr.decode(), rf"\Arenew-documents: COMMANDS.md: .*{re.escape(told)}\n\Z")
 
 
 def drawn(name, meaning):

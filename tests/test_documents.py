@@ -57,7 +57,7 @@ class Quotes(Case):
 
     def test_a_line_that_moved_is_renewed(self):
         folder = self.folder
-        for part in ("docs", "tools", "crates"):
+        for part in ("docs", "tools", "tests", "cases", "crates"):
             shutil.copytree(ROOT / part, folder / part, ignore=shutil.ignore_patterns("out", "must-fail", "proofs"))
         source, document = folder / "crates/latex2mathml/specs/Documents.antt", folder / "docs/PROMISES.md"
         old, link = document.read_text(), "specs/Documents.antt#L{})"
@@ -260,7 +260,7 @@ class Sources(Case):
     """What documents take from the sources."""
 
     @each_row({
-        "entries": ("docs/COMMANDS.md", r"The command table has (\d+) entries", {
+        "entries": ("docs/COMMANDS.md", r"It reads (\d+) commands, and the environments", {
             "README.md": " {} commands", "docs/DECISIONS.md": " {} texts", "docs/ARCHITECTURE.md": " {} entries"}),
         "comparisons": ("crates/latex2mathml_grammar/specs/Counts.antt", r"n ≤ (\d+) \* backslashes", {
             "README.md": "at most {} compared names per command", "docs/PROMISES.md": "1 to {} names for each token",

@@ -51,10 +51,7 @@ def renewed(document):
         signatures = [signature(ROOT / found["path"], name) for name in names]
         return f"<!-- quoted from {found['path']} -->\n```rust\n{chr(10).join(signatures)}```"
 
-    try:
-        return QUOTE.sub(renewed_quote, DEFINITION.sub(renewed_line, document.read_text(encoding="utf-8")))
-    except LookupError as gone:
-        raise LookupError(f"{document.name}: {gone.args[0]}") from None
+    return QUOTE.sub(renewed_quote, DEFINITION.sub(renewed_line, document.read_text(encoding="utf-8")))
 
 
 def signature(source, name):

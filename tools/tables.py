@@ -9,7 +9,7 @@ TEXT = r'"(?:\\u\{[0-9A-F]+\}|\\.|[^"\\])*"'
 LITERAL = rf"{CHARACTER}|{TEXT}|-?\b\d+"
 
 
-class WrongForm(ValueError):
+class WrongForm(LookupError):
     """A table that cannot be read, or an entry that is listed nowhere."""
 
 

@@ -121,13 +121,9 @@ def macros():
         yield value(name), int(arity), value(body)
 
 
-def counts():
-    return (f"{len(commands())} commands, {len(list(environments()))} environments, {len(characters())} characters "
-            f"and {len(list(macros()))} usual macros")
-
-
 def lines():
-    yield "## `tex_to_mathml`"
+    yield (f"It reads {len(commands())} commands, {len(list(environments()))} environments, {len(characters())} characters "
+           f"and {len(list(macros()))} usual macros.")
     for section, text in places()[0].items():
         yield from ("", f"### {section}", "", *([text, ""] if text else []))
         yield from section_lines([it for it in listed() if it.place.section == section])
