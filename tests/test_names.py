@@ -7,13 +7,12 @@ from tests.support import ROOT, Case, each_row, requires, run
 @requires("python:pyflakes")
 class Names(Case):
     def expect_names(self, status, told, *files, text=""):
-        self.expect(run([sys.executable, "-m", "pyflakes", *files], stdin=text.encode()), status, told.encode())
+        self.expect(run([sys.executable, "-m", "pyflakes", *files], stdin=text.encode(), cwd=ROOT), status, told.encode())
 
     def test_the_sources_have_no_such_name(self):
-        scripts = [it for folder in ("bench", "diff", "tools") for it in (ROOT / folder).iterdir()
-                   if it.is_file() and it.read_bytes().startswith(b"#!/usr/bin/env python3")]
-        self.assertGreater(len(scripts), 5)
-        self.expect_names(0, "", *(ROOT / it for it in ("tests", "tools", "bench", "diff", "integrations")), *scripts)
+        scripts = [it.relative_to(ROOT) for it in ROOT.glob("tools/*") if it.is_file() and it.read_bytes().startswith(b"#!/usr/bin/env python3")]
+        self.assertGreater(len(scripts), 3)
+        self.expect_names(0, "", "tests", "tools", "bench", "diff", "integrations", *scripts)
 
     @each_row({
         "twice": ("def f(): pass\nclass A:\n    def test_x(self): pass\n    def test_x(self): pass\ndef f(): pass\n",
