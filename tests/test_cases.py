@@ -57,29 +57,18 @@ class CaseOfFile(AnswerCase):
     def tex_formula(self, case, displays=("inline", "block")):
         for display in displays:
             markup = math(case.answer, display)
-            self.assertEqual(tex_reply(case, display), b"mathml\n" + markup, case.place)
+            self.expect(tex_run(case, display), stdout=markup + b"\n")
             self.assertEqual(tex_by_library(display, case.input), (Code.DONE, markup, 0), case.place)
 
     def tex_refusal(self, case):
         place = int(case.answer.rpartition(b" at ")[2])
         for display in ("inline", "block"):
-            self.assertEqual(tex_reply(case, display), b"error\n" + case.answer, case.place)
+            self.expect(tex_run(case, display), 1, b"", b"tex2mathml: %s\n" % case.answer)
             self.assertEqual(tex_by_library(display, case.input), (Code.REFUSED, case.answer, place), case.place)
 
 
-@functools.cache
-def tex_replies(name, display):
-    """The reply of `tex2mathml` to each formula of a file of cases; it is given all of them at once."""
-    formulas = [case.input for case in cases.read(name)]
-    done = run([tex_program(), "--null", "--display", display], stdin=b"".join(it + b"\0" for it in formulas))
-    *replies, rest = done.stdout.split(b"\0")
-    if done.returncode or done.stderr or rest or len(replies) != len(formulas):
-        raise RuntimeError(f"status {done.returncode}, {len(replies)} replies to {len(formulas)} formulas: {done.stderr.decode()}")
-    return dict(zip(formulas, replies))
-
-
-def tex_reply(case, display):
-    return tex_replies(str(case.first.path.relative_to(cases.CASES)), display)[case.input]
+def tex_run(case, display):
+    return run([tex_program(), "--display", display], stdin=case.input)
 
 
 def code_of(case):
