@@ -169,6 +169,15 @@ def as_nobody(folder):
     return {"user": NOBODY, "group": NOBODY, "extra_groups": []}
 
 
+def read_terminal(terminal):
+    """Everything that a terminal shows until it is closed. The system passes it on in pieces, and reports the end by an error."""
+    shown = b""
+    with open(terminal, "rb", buffering=0) as screen, contextlib.suppress(OSError):
+        while part := screen.read(1 << 16):
+            shown += part
+    return shown.decode()
+
+
 def put(folder, texts):
     """Writes texts or bytes to files below a folder, by their names. What begins with `#!` is made executable."""
     for name, text in texts.items():

@@ -1,6 +1,5 @@
 """Tests the tests: what compares an answer notices each difference, and no case asserts nothing."""
 import ast
-import ctypes
 import itertools
 import subprocess
 import unittest
@@ -30,20 +29,23 @@ class Differences(unittest.TestCase):
             self.assertEqual(fails(lambda: Case().expect(done, 1, Has(part), b"c")), not met)
             self.assertEqual(fails(lambda: Case().expect(done, 0, Has(part), b"c")), True)
 
+    def test_of_a_program(self):
+        """An answer, a refusal, or neither: its status and both of its streams count."""
+        for done, due in (((0, b"x\n", b""), (Code.DONE, b"x")), ((0, b"y\n", b""), (Code.DONE, b"y")), ((1, b"", error("r")), (Code.REFUSED, b"r")),
+                          ((1, b"x\n", b""), None), ((0, b"x\n", b"e"), None), ((1, b"x", error("r")), None)):
+            done = subprocess.CompletedProcess(["a"], *done)
+            with self.subTest(done), unittest.mock.patch.multiple(answers, run=lambda *_, **__: done, program=str):
+                found = answers.by_program("inline", b"x")
+                self.assertEqual(found if isinstance(found[0], Code) else None, due)
+
     def test_of_a_case(self):
-        """The answers of the program and of the library for C are compared, each with its status or code, and with standard error."""
-        told = error("r")
-        programs = {"right": (0, b"x\n", b""), "another answer": (0, b"y\n", b""), "another status": (1, b"x\n", b""),
-                    "something told": (0, b"x\n", b"e"), "refused": (1, b"", told), "refused and written": (1, b"x", told)}
-        libraries = {"right": (Code.DONE, b"x"), "another answer": (Code.DONE, b"y"), "another code": (Code.REFUSED, b"x"),
-                     "refused": (Code.REFUSED, b"r")}
-        for (program, (status, *streams)), (library, by_library) in itertools.product(programs.items(), libraries.items()):
-            done = subprocess.CompletedProcess(["a"], status, *streams)
-            with self.subTest(program=program, library=library), \
-                    unittest.mock.patch.multiple(answers, run=lambda *_, **__: done, program=str, library=lambda: Library(*by_library)):
-                for name, code, answer in (("right", Code.DONE, b"x"), ("refused", Code.REFUSED, b"r")):
-                    differs = fails(lambda: AnswerCase().comes_to("here", "inline", b"x", code, answer))
-                    self.assertEqual(differs, (program, library) != (name, name))
+        """The results of the program and of the library for C are compared, each with its code."""
+        results = list(itertools.product((Code.DONE, Code.REFUSED, "status 1"), (b"x", b"y")))
+        for due, *found in itertools.product(results, repeat=3):
+            ways = [(f"way {number}", lambda *_, result=result: result) for number, result in enumerate(found)]
+            with self.subTest(due=due, found=found), unittest.mock.patch.object(answers, "WAYS", ways):
+                differs = fails(lambda: AnswerCase().comes_to("here", "inline", b"x", *due))
+                self.assertEqual(differs, found != [due, due])
 
 
 class Rows(Case):
@@ -58,20 +60,6 @@ class Rows(Case):
         for table in ({"a b": (), "a, b": ()}, {"one": ()}):
             with self.subTest(table), self.assertRaises(NameError):
                 type("Twice", (made,), {"add": each_row(table)(add)})
-
-
-class Library:
-    """A library for C that always has the same answer."""
-
-    def __init__(self, code, text):
-        self.code, self.text = code, text
-
-    def latex2mathml_formula(self, given, length, block, room, size, needed):
-        needed._obj.value = len(self.text)
-        if size < len(self.text):
-            return Code.TOO_SMALL
-        ctypes.memmove(room, self.text, len(self.text))
-        return self.code
 
 
 def fails(assertion):

@@ -4,6 +4,7 @@
 """
 import os
 import pathlib
+import pty
 import shutil
 import signal
 import subprocess
@@ -11,7 +12,7 @@ import sys
 import time
 import unittest
 
-from tests.support import BUILD_NOTHING, Case, Has, ROOT, hear_signals, put, requires, run
+from tests.support import BUILD_NOTHING, Case, Has, ROOT, hear_signals, put, read_terminal, run
 
 FAKES = ROOT / "tests/fakes/building"
 CRATES = ("low", "middle", "high", "tool", "other", "left", "right", "both")
@@ -178,13 +179,14 @@ class Building(House):
         self.assertIn("checked middle::f, 3 of 7\n", (logs / "middle.log").read_text())
         self.assertIn("the program ran\n", (logs / "high.log").read_text())
 
-    @requires("script")
     def test_a_line_that_is_renewed(self):
-        """On a terminal, which `script` provides."""
-        done = run(["script", "--quiet", "--return", "--command", f"'{self.house}/tools/built' high", "/dev/null"], env=self.environment())
+        terminal, stream = pty.openpty()
+        done = run([self.house / "tools/built", "high"], env=self.environment(), stderr=stream)
+        os.close(stream)
+        shown = read_terminal(terminal)
         self.assertEqual(done.returncode, 0)
         for functions in ("3", "5"):
-            self.assertRegex(done.stdout.decode(), rf"\r\x1b\[K2 of 3  middle  {functions} of 7 functions  \d+:\d\d")
+            self.assertRegex(shown, rf"\r\x1b\[K2 of 3  middle  {functions} of 7 functions  \d+:\d\d")
 
     def interrupt(self, target, crate, number=signal.SIGINT, **more):
         """Sends a signal to a build while `rt` works in this crate, and returns its status and what it printed."""

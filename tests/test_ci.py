@@ -87,20 +87,14 @@ class Pytest(Case):
         asked = house / "installed"
         return done, asked.read_text().split() if asked.exists() else []
 
-    def test_it_is_there(self):
-        done, packages = self.run_test("exit 1", is_there=True)
+    @each_row({"it is there": ("exit 1", True), "it is installed": ("touch has-pytest", False)})
+    def runs(self, install, is_there):
+        done, packages = self.run_test(install, is_there)
         self.expect(done, stdout=b"ran: -B -m tests test_c -x\n")
-        self.assertEqual(packages, [])
+        self.assertEqual("python3-pytest" in packages, not is_there)
+        self.assertLessEqual(set(packages), set((ROOT / ".ci/packages").read_text().split()))
 
-    def test_it_is_installed(self):
-        done, packages = self.run_test("touch has-pytest")
-        self.expect(done, stdout=b"ran: -B -m tests test_c -x\n")
-        listed = (ROOT / ".ci/packages").read_text().split()
-        self.assertIn("python3-pytest", packages)
-        self.assertEqual([it for it in packages if it not in listed], [])
-
-    def test_it_cannot_be_installed(self):
-        for install in ("exit 1", "exit 0"):
-            with self.subTest(install):
-                done, packages = self.run_test(install)
-                self.expect(done, 1, b"", Has(f"apt-get install {' '.join(packages)}\n".encode()))
+    @each_row({"it cannot be installed": ("exit 1",), "it is not there even then": ("exit 0",)})
+    def is_told(self, install):
+        done, packages = self.run_test(install)
+        self.expect(done, 1, b"", Has(f"apt-get install {' '.join(packages)}\n".encode()))

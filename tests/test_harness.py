@@ -11,7 +11,7 @@ import unittest.mock
 
 from tests import cases
 from tests.__main__ import NO_TOOLCHAIN, name_of
-from tests.support import ROOT, SKIP_NOTHING, Case, hear_signals, processors, put, run
+from tests.support import ROOT, SKIP_NOTHING, Case, each_row, hear_signals, processors, put, run
 from tools.progress import clock
 
 FAKES = ROOT / "tests/fakes/harness"
@@ -261,13 +261,12 @@ class Names(Case):
 class SilentProgram(Case):
     """`tools/try-silent-program` tries the classes that it is given, and names each that passes."""
 
-    def test_a_class_that_fails_over_a_silent_program(self):
-        self.expect(run([ROOT / "tools/try-silent-program", "test_beginnings"], timeout=300), stdout=b"1 passed, 0 failed\n")
-
-    def test_a_class_that_does_not_ask(self):
-        done = run([ROOT / "tools/try-silent-program", "test_wrong_bodies"], timeout=300)
-        self.assertEqual((done.returncode, done.stderr), (0, b""))
-        self.assertRegex(done.stdout, rb"^(does not ask: tests/test_wrong_bodies.py::\w+\n)+0 passed, 0 failed\n$")
-
-    def test_no_class(self):
-        self.expect(run([ROOT / "tools/try-silent-program", "test_nothing"], timeout=300), 1, b"", b"try-silent-program: no class has such a name\n")
+    @each_row({
+        "a class that fails over a silent program": ("test_beginnings", 0, rb"1 passed, 0 failed\n", b""),
+        "a class that does not ask": ("test_wrong_bodies", 0, rb"(does not ask: tests/test_wrong_bodies.py::\w+\n)+0 passed, 0 failed\n", b""),
+        "no class": ("test_nothing", 1, b"", b"try-silent-program: no class has such a name\n"),
+    })
+    def tries(self, word, status, said, told):
+        done = run([ROOT / "tools/try-silent-program", word], timeout=300)
+        self.expect(done, status, None, told)
+        self.assertRegex(done.stdout, rb"\A%s\Z" % said)
