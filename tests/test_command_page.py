@@ -17,11 +17,13 @@ DRAWN = {
     "Marks, braces and stacks": ("{0}{{x}}", "x{1}"), "Delimiters": (r"\left{0} x\right{0}", "{1}x{1}"), "Strokes": (r"\not{0}", "{1}"),
     "Words": (r"\text{{{0}}}", "{1}"), "Tables": (r"\begin{{matrix}}{0} a\end{{matrix}}", "a"),
 }
+# what the page says to follow the name of an environment
+BEHIND = re.compile(r"`(\[.\]|\{\w+\})`")
 # an arrow is before what is above it
 BELOW = "{1}x"
 
 # the arguments of macros that do not take every formula
-FIRST_ARGUMENTS = {"colorbox": "{red}", "raisebox": "{1em}"}
+FIRST_ARGUMENTS = {"\\colorbox": "red", "\\raisebox": "1em"}
 
 
 class Page(Case):
@@ -30,7 +32,7 @@ class Page(Case):
     def test_it_has_each_name(self):
         text = PAGE.read_text(encoding="utf-8")
         names = [*(f"\\{tables.value(name)}" for name, _ in tex_commands.commands()), *(f"\\{it.name}" for it in cases.commands()),
-                 *(name for name, *_ in tex_commands.environments()), *token_commands.environments()]
+                 *(tables.value(name) for name, *_ in tex_commands.environments()), *token_commands.environments()]
         self.assertGreater(len(names), 1000)
         self.assertEqual([it for it in names if f"`{it}`" not in text], [])
 
@@ -45,7 +47,8 @@ class Page(Case):
             ('{ name: "sqrt", meaning: Meaning::Root }', '{ meaning: Meaning::Root, name: "sqrt" }', "entries can be read"),
             ("character: '!', symbol: Symbol::Sign(Class::Closing", "character: '!', symbol: Symbol::Sign(Class::Curly",
              f"! {unlisted}Character(Sign(Curly, _))"),
-            ('"split", delimiters: None, layout: Layout::InPairs', '"split", delimiters: None, layout: Layout::InRed', "'InRed', of the environment split"),
+            ('"split", delimiters: None, layout: Layout::InPairs', '"split", delimiters: None, layout: Layout::InRed',
+             f"split {unlisted}Environment(_, InRed, InDisplay, Nothing, None)"),
             ("Some(Word::Def)", "Some(Word::Define)", f"\\def {unlisted}Define"),
             ("static NEGATED:", "static DENIED:", "delimiters.rt has no table NEGATED"),
         ):
@@ -102,13 +105,15 @@ class Read(Case):
         self.assertEqual({formula: [round(float(it) * 18) for it in widths] for formula, widths in found.items()}, due)
 
     def test_environments(self):
-        written = {"`[t]` (optional)": "[t]", "`[r]` (optional)": "[r]", "`{lcr}`": "{lcr}", "`{2}`": "{2}"}
-        self.draw({f"\\begin{{{name}}}{''.join(written[it] for it in behind.split(', ') if it)} a\\end{{{name}}}": f"{before}a{after}"
-                   for name, behind, _, _, before, after in tex_commands.environments()})
+        """With what is said to follow the name."""
+        listed = [it for it in tex_commands.listed() if it.place.section == "Environments"]
+        due = {"": "a", "{": "{a", "}": "a}"}
+        self.draw({f"\\begin{{{it.name}}}{''.join(BEHIND.findall(it.place.what))} a\\end{{{it.name}}}": due.get(it.draws, "a".join(it.draws))
+                   for it in listed})
 
     def test_macros(self):
-        self.are_read([f"\\{name}" + FIRST_ARGUMENTS.get(name, "{a}" * min(arity, 1)) + "{a}" * (arity - 1)
-                       for name, arity, _ in tex_commands.macros()])
+        names = [it.name for it in tex_commands.listed() if it.place.section == "Usual macros"]
+        self.are_read([re.sub("#[2-9]", "a", it.replace("#1", FIRST_ARGUMENTS.get(it.partition("{")[0], "a"))) for it in names])
 
     def test_environments_of_the_other_call(self):
         for name in token_commands.environments():

@@ -1,5 +1,4 @@
 """What `tex_to_mathml` reads, as docs/COMMANDS.md lists it."""
-import collections
 import functools
 import itertools
 import pathlib
@@ -12,14 +11,6 @@ from tools.tables import LITERAL, WrongForm, answers, arms, entries, value
 
 COMMANDS, UNITS = "latex2mathml_tex_commands/src", "latex2mathml_tex_units/src"
 PLACES = pathlib.Path(__file__).parent / "tex_commands.txt"
-
-# the words of the environments
-AFTER = {"Nothing": "", "Position": "`[t]` (optional)", "Alignment": "`[r]` (optional)",
-         "None": "", "Some(Argument::ColumnList)": "`{lcr}`", "Some(Argument::Number)": "`{2}`"}
-LAYOUTS = {"Centered": "centered", "LeftAligned": "left", "Dense": "centered, narrow", "InPairs": "pairs of right and left",
-           "AroundRelation": "right, centered, left; others centered"}
-STYLES = {"InDisplay": "a block", "InText": "a line of text", "InScript": "a script"}
-
 
 @dataclass(frozen=True)
 class Place:
@@ -66,6 +57,14 @@ def characters():
     return entries(f"{COMMANDS}/signs/table.rt", "ENTRIES", "character", "symbol")
 
 
+def environments():
+    return entries(f"{UNITS}/environments.rt", "ENVIRONMENTS", "name", "delimiters", "layout", "style", "bracket", "argument")
+
+
+def macros():
+    return entries(f"{UNITS}/macros/usual.rt", "ENTRIES", "name", "arity", "body")
+
+
 def forms():
     """Everything that is listed, and how the code writes what it is."""
     yield from ((f"\\{value(name)}", meaning) for name, meaning in commands())
@@ -75,6 +74,10 @@ def forms():
         yield from ((f"\\{value(name)}", f"{kind}({character})") for name, character in entries(path, name, "name", "character"))
     for kind, name in (("Delimiter", "delimiter_character"), ("Negated", "negated_character")):
         yield from ((character, f"{kind}({answer})") for character, answer in arms(f"{UNITS}/delimiters.rt", name))
+    for name, delimiters, *others in environments():
+        yield value(name), f'Environment("{"".join(map(value, re.findall(LITERAL, delimiters)))}", {", ".join(others)})'
+    for name, arity, body in macros():
+        yield f"\\{value(name)}" + "".join(f"{{#{number + 1}}}" for number in range(int(arity))), f"Usual({body})"
     yield from ((f"\\{name}", word) for name, word in answers(f"{UNITS}/macros/definitions.rt", "word_named", r"Word::(\w+)"))
     yield from ((f"\\{name}", deed) for name, deed in answers(f"{UNITS}/scanning.rt", "row_deed", r"Deed::(Passes)"))
 
@@ -102,35 +105,12 @@ def is_arrow(text):
     return "ARROW" in name or "HARPOON" in name
 
 
-def environments():
-    """The name of each environment, what follows that, its columns, its style, and the delimiters before and after it."""
-    fields = ("name", "delimiters", "layout", "style", "bracket", "argument")
-    for name, delimiters, layout, style, bracket, argument in entries(f"{UNITS}/environments.rt", "ENVIRONMENTS", *fields):
-        try:
-            columns = "those given" if "ColumnList" in argument else LAYOUTS[layout.partition("::")[2]]
-            behind = ", ".join(filter(None, (AFTER[bracket.partition("::")[2]], AFTER[argument])))
-            around = [value(it) if it != "None" else "" for it in re.findall(rf"None|{LITERAL}", delimiters)]
-            yield value(name), behind, columns, STYLES[style.partition("::")[2]], *(around if len(around) == 2 else ("", ""))
-        except KeyError as word:
-            raise WrongForm(f"tools/tex_commands.py does not know {word}, of the environment {value(name)}") from None
-
-
-def macros():
-    """The name of each usual macro, how many arguments it takes, and its body."""
-    for name, arity, body in entries(f"{UNITS}/macros/usual.rt", "ENTRIES", "name", "arity", "body"):
-        yield value(name), int(arity), value(body)
-
-
 def lines():
-    yield (f"It reads {len(commands())} commands, {len(list(environments()))} environments, {len(characters())} characters "
-           f"and {len(list(macros()))} usual macros.")
+    yield (f"It reads {len(commands())} commands, {len(environments())} environments, {len(characters())} characters "
+           f"and {len(macros())} usual macros.")
     for section, text in places()[0].items():
         yield from ("", f"### {section}", "", *([text, ""] if text else []))
         yield from section_lines([it for it in listed() if it.place.section == section])
-        if section == "Tables":
-            yield from ("", *environment_lines())
-    yield from ("", "### Usual macros", "", "`#1` is an argument of the macro. A definition of the same name takes precedence.", "")
-    yield from table(("Macro", "It expands to"), map(macro_cells, sorted(macros(), key=lambda macro: order(macro[0]))))
 
 
 def section_lines(here):
@@ -143,16 +123,3 @@ def section_lines(here):
         yield ""
     if rows:
         yield from table(("Commands", "As in", "Meaning"), rows)
-
-
-def environment_lines():
-    rows = collections.defaultdict(list)
-    for name, *cells, before, after in sorted(environments(), key=lambda environment: order(environment[0])):
-        rows[*cells, before and code(before), after and code(after)].append(code(name))
-    yield from table(("Environments", "After the name", "Columns", "Style", "Before it", "After it"),
-                     ((", ".join(names), *cells) for cells, names in rows.items()))
-
-
-def macro_cells(macro):
-    name, arity, body = macro
-    return code(f"\\{name}" + "".join(f"{{#{number + 1}}}" for number in range(arity))), code(body) if body else "nothing"
