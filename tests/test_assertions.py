@@ -1,13 +1,14 @@
-"""Tests the tests: what compares an answer notices each difference, and no case asserts nothing."""
+"""Tests the tests: what compares an answer notices each difference, no name hides another, and no case asserts nothing."""
 import ast
 import itertools
 import subprocess
+import sys
 import unittest
 import unittest.mock
 
 from tests import answers
 from tests.answers import AnswerCase, Code
-from tests.support import ROOT, Case, Has, each_row
+from tests.support import ROOT, Case, Has, each_row, requires, run
 from tests.texts import error
 
 # what a function asserts by, besides `assert`
@@ -68,6 +69,27 @@ def fails(assertion):
     except AssertionError:
         return True
     return False
+
+
+@requires("python:pyflakes")
+class Names(Case):
+    """pyflakes finds, among others, a name that is defined twice: it hides the first, such as a case that then never runs."""
+
+    def expect_names(self, status, told, *files, text=""):
+        self.expect(run([sys.executable, "-m", "pyflakes", *files], stdin=text.encode(), cwd=ROOT), status, told.encode())
+
+    def test_the_sources_have_no_such_name(self):
+        scripts = [it.relative_to(ROOT) for it in ROOT.glob("tools/*") if it.is_file() and it.read_bytes().startswith(b"#!/usr/bin/env python3")]
+        self.assertGreater(len(scripts), 3)
+        self.expect_names(0, "", "tests", "tools", "bench", "diff", "integrations", *scripts)
+
+    @each_row({
+        "twice": ("def f(): pass\nclass A:\n    def test_x(self): pass\n    def test_x(self): pass\ndef f(): pass\n",
+                  "<stdin>:4:5: redefinition of unused 'test_x' from line 3\n<stdin>:5:1: redefinition of unused 'f' from line 1\n"),
+        "in two classes": ("class A:\n    def f(self): pass\nclass B:\n    def f(self): pass\n", ""),
+    })
+    def defined(self, text, told):
+        self.expect_names(int(told != ""), told, text=text)
 
 
 class Assertions(unittest.TestCase):

@@ -174,7 +174,7 @@ class Building(House):
         logs = self.house / "out/build"
         self.assertIn(str(logs), said[0])
         for number, crate in enumerate(("low", "middle", "high"), 1):
-            self.assertRegex(said[number], rf"\A{number} of 3  {crate}  6 functions  \d+:\d\d\Z")
+            self.assertRegex(said[number], rf"\A{number} of 3  {crate}  6 functions  \d:\d\d:\d\d\Z")
         self.assertEqual(len(said), 5, said)
         self.assertIn("checked middle::f, 3 of 7\n", (logs / "middle.log").read_text())
         self.assertIn("the program ran\n", (logs / "high.log").read_text())
@@ -186,7 +186,7 @@ class Building(House):
         shown = read_terminal(terminal)
         self.assertEqual(done.returncode, 0)
         for functions in ("3", "5"):
-            self.assertRegex(shown, rf"\r\x1b\[K2 of 3  middle  {functions} of 7 functions  \d+:\d\d")
+            self.assertRegex(shown, rf"\r\x1b\[K2 of 3  middle  {functions} of 7 functions  \d:\d\d:\d\d")
 
     def interrupt(self, target, crate, number=signal.SIGINT, **more):
         """Sends a signal to a build while `rt` works in this crate, and returns its status and what it printed."""

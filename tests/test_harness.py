@@ -12,7 +12,6 @@ import unittest.mock
 from tests import cases
 from tests.__main__ import NO_TOOLCHAIN, name_of
 from tests.support import ROOT, SKIP_NOTHING, Case, each_row, hear_signals, processors, put, run
-from tools.progress import clock
 
 FAKES = ROOT / "tests/fakes/harness"
 
@@ -253,9 +252,6 @@ class Names(Case):
                 if text is not None:
                     quota.write_text(text)
                 self.assertEqual(processors(), count)
-
-    def test_clock(self):
-        self.assertEqual([clock(0), clock(59.9), clock(100), clock(3723)], ["0:00", "0:59", "1:40", "1:02:03"])
 
 
 class SilentProgram(Case):
