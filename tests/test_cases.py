@@ -3,7 +3,7 @@ import functools
 
 from tests import cases
 from tests.answers import WAYS, AnswerCase, Code, tex_by_library
-from tests.support import Case, build, put, run, show, tex_program
+from tests.support import Case, build, each_row, put, run, show, tex_program
 from tests.texts import math
 
 WHITE_SPACE = [space * count for space in (b" ", b"\t", b"\n", b"\r") for count in (1, 1000)]
@@ -95,15 +95,10 @@ KINDS = [
 ]
 
 
-def tests_of(name, check):
-    """The tests of a file: one per case."""
-    tests = {f"test_{case.first.number}": lambda self, case=case: check(self, case) for case in cases.read(name)}
-    return type(cases.class_name(name), (CaseOfFile,), {"__module__": __name__, "__doc__": f"cases/{name}", **tests})
-
-
-for pattern, kind in KINDS:
+for pattern, check in KINDS:
     for file in cases.files(pattern):
-        globals()[cases.class_name(file)] = tests_of(file, kind)
+        row = each_row({str(case.first.number): (case,) for case in cases.read(file)})
+        globals()[cases.class_name(file)] = type(cases.class_name(file), (CaseOfFile,), {"__doc__": f"cases/{file}", "check": row(check)})
 
 
 class Reader(Case):

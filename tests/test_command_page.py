@@ -40,7 +40,7 @@ class Page(Case):
         for part in ("docs", "tools", "tests", "cases", "crates"):
             shutil.copytree(ROOT / part, self.folder / part, ignore=shutil.ignore_patterns("out", "must-fail", "proofs", "__pycache__"))
         sources = [it for crate in ("commands", "units") for it in (self.folder / f"crates/latex2mathml_tex_{crate}/src").rglob("*.rt")]
-        unlisted = "is of a form that tools/tex_commands.txt does not list: "
+        unlisted = "is of a form that tools/tex_commands.toml does not list: "
         for old, new, told in (
             ("Meaning::Root }", "Meaning::Uproot }", f"\\sqrt {unlisted}Uproot"),
             ("Meaning::Root }", "meaning(Root) }", f"\\sqrt {unlisted}meaning(Root)"),

@@ -98,14 +98,11 @@ class Definitions(Case):
     def test_the_tables_link_each_file_after_those_that_it_uses(self):
         linked = list(dict.fromkeys(quotes.sources_of(self.document)))
         self.assertEqual(sorted(linked), sorted(it.path for it in self.files))
-        for here in self.files:
+        for at, here in enumerate(self.files):
             for below in specs.files_below(here):
                 with self.subTest(f"{here.name} uses {below.name}"):
+                    self.assertIn(below, self.files[:at])
                     self.assertLess(linked.index(below.path), linked.index(here.path))
-
-    def test_a_file_is_listed_after_those_that_it_uses(self):
-        for at, here in enumerate(self.files):
-            self.assertEqual([below.name for below in specs.files_below(here) if below not in self.files[:at]], [], here.name)
 
     def test_the_imports_of_a_file_are_all_of_its_imports(self):
         """No import of a file is missed: each line that begins with `use` is one."""
@@ -327,6 +324,11 @@ class Integrations(Case):
         source = read("integrations/python/src/latex2mathml_proved/markdown.py")
         self.assertEqual(re.findall(r"^\| `(\w+)` \| `(.*?)` \|", said, re.M), re.findall(r'^ +"(\w+)": \[(.*?), "', source, re.M))
 
+    def test_licences(self):
+        """Each package that people take out of the repository has its licence."""
+        for folder in ("integrations/node", "integrations/rust"):
+            self.assertEqual(read(f"{folder}/LICENSE"), read("LICENSE"), folder)
+
 
 class Figures(Case):
     """The figures of the READMEs match the files that the benchmarks write."""
@@ -362,11 +364,3 @@ class Figures(Case):
     def test_instructions_of_a_call(self):
         shown = re.findall(r"^\| (\d+) \| [\d,]+ \| [\d,]+ \| ([\d,]+) \| [\d,]+ \|$", read("bench/README.md"), re.M)
         self.assertEqual(shown, [(str(len(latex)), count) for count, latex in self.lines("bench/calls.txt")])
-
-
-class Licences(Case):
-    """Each package that people take out of the repository has its licence."""
-
-    def test_all_are_one(self):
-        for folder in ("integrations/node", "integrations/rust"):
-            self.assertEqual(read(f"{folder}/LICENSE"), read("LICENSE"), folder)

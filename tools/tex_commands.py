@@ -3,6 +3,7 @@ import functools
 import itertools
 import pathlib
 import re
+import tomllib
 import unicodedata
 from dataclasses import dataclass
 
@@ -10,7 +11,8 @@ from tools.listing import code, item, order, shown, table
 from tools.tables import LITERAL, WrongForm, answers, arms, entries, value
 
 COMMANDS, UNITS = "latex2mathml_tex_commands/src", "latex2mathml_tex_units/src"
-PLACES = pathlib.Path(__file__).parent / "tex_commands.txt"
+SECTIONS = tomllib.loads((pathlib.Path(__file__).parent / "tex_commands.toml").read_text(encoding="utf-8"))
+
 
 @dataclass(frozen=True)
 class Place:
@@ -33,20 +35,7 @@ class Entry:
         return self.place.example.replace("@", self.name)
 
 
-@functools.cache
-def places():
-    """The text of each section, and the place of each form."""
-    texts, found = {}, {}
-    for line in PLACES.read_text(encoding="utf-8").splitlines():
-        if line.startswith("## "):
-            section = line[3:]
-            texts[section] = ""
-        elif "  " in line and not line.startswith("#"):
-            form, *columns = re.split(" {2,}", line)
-            found[form] = Place(section, *columns)
-        elif line and not line.startswith("#"):
-            texts[section] = line
-    return texts, found
+PLACES = {form: Place(section, *said) for section, forms in SECTIONS.items() for form, said in forms.items() if form != "text"}
 
 
 def commands():
@@ -90,13 +79,13 @@ def listed():
 
 def entry_of(name, written):
     draws = "".join(map(value, re.findall(LITERAL, written)))
-    form, found = re.sub(r"\w+::", "", re.sub(LITERAL, "_", written)), places()[1]
+    form = re.sub(r"\w+::", "", re.sub(LITERAL, "_", written))
     arrow = form.replace("_", "arrow")
-    if is_arrow(draws) and arrow in found:
+    if is_arrow(draws) and arrow in PLACES:
         form = arrow
-    if form not in found:
-        raise WrongForm(f"{name} is of a form that tools/tex_commands.txt does not list: {form}")
-    return Entry(name, found[form], draws)
+    if form not in PLACES:
+        raise WrongForm(f"{name} is of a form that tools/tex_commands.toml does not list: {form}")
+    return Entry(name, PLACES[form], draws)
 
 
 def is_arrow(text):
@@ -108,14 +97,14 @@ def is_arrow(text):
 def lines():
     yield (f"It reads {len(commands())} commands, {len(environments())} environments, {len(characters())} characters "
            f"and {len(macros())} usual macros.")
-    for section, text in places()[0].items():
-        yield from ("", f"### {section}", "", *([text, ""] if text else []))
+    for section, forms in SECTIONS.items():
+        yield from ("", f"### {section}", "", *([forms["text"], ""] if "text" in forms else []))
         yield from section_lines([it for it in listed() if it.place.section == section])
 
 
 def section_lines(here):
-    """The lists of what is in a section, and then the table, in the order of tex_commands.txt."""
-    found = {place: [it for it in here if it.place == place] for place in places()[1].values() if any(it.place == place for it in here)}
+    """The lists of what is in a section, and then the table, in the order of tex_commands.toml."""
+    found = {place: [it for it in here if it.place == place] for place in PLACES.values() if place.section == here[0].place.section}
     lists = [item(place.what, [shown(it.name, it.draws) for it in them]) for place, them in found.items() if not place.example]
     rows = [(", ".join(code(it.name) for it in them), code(them[0].example), place.what) for place, them in found.items() if place.example]
     yield from itertools.chain(*lists)
