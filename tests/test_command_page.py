@@ -90,11 +90,9 @@ class Read(Case):
         self.draw({formula.format(it.name): (BELOW if it.place.what.startswith("Arrows as long") else due).format(it.name, it.draws)
                    for it in listed})
 
-    def test_sizes(self):
-        self.draw({it.example: "(" for it in tex_commands.listed() if it.place.section == "Sizes"})
-
-    def test_no_delimiter(self):
-        self.draw({r"\left. x\right.": "x"})
+    def test_other_delimiters(self):
+        """Those with a size, and none."""
+        self.draw({it.example: "(" for it in tex_commands.listed() if it.place.section == "Sizes"} | {r"\left. x\right.": "x"})
 
     def test_examples(self):
         self.are_read([it.example for it in tex_commands.listed() if it.place.example])

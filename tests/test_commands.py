@@ -52,22 +52,14 @@ class Table(unittest.TestCase):
 
 
 class Entries(AnswerCase):
-    """Each entry is a test, named by its line."""
+    """Each entry is a test, named by its line: the command alone is a formula, and a refusal names its token."""
 
     @each_row({str(entry.line.number): (entry,) for entry in ENTRIES})
     def is_right(self, entry):
-        self.alone(entry)
-        self.token(entry)
-
-    def alone(self, entry):
-        """The command alone is a formula."""
         for word in ("inline", "block"):
-            code, wanted = Code.REFUSED, entry.alone.encode()
-            if entry.alone.startswith("<"):
-                code, wanted = Code.DONE, math(wanted, word)
-            self.comes_to(entry.line.place, word, entry.formula, code, wanted)
-
-    def token(self, entry):
+            is_answer = entry.alone.startswith("<")
+            code, due = (Code.DONE, math(entry.alone, word)) if is_answer else (Code.REFUSED, entry.alone.encode())
+            self.comes_to(entry.line.place, word, entry.formula, code, due)
         shows = SHOWS_PARENTHESIS if entry.token.startswith("Paren(") else SHOWS_TOKEN
         given = shows.format(entry.formula.decode()).encode()
         for name, way in WAYS:

@@ -1,11 +1,11 @@
 """What `tex_to_mathml` reads, as docs/COMMANDS.md lists it."""
+import collections
 import functools
 import itertools
 import pathlib
 import re
 import tomllib
 import unicodedata
-from dataclasses import dataclass
 
 from tools.listing import code, item, order, shown, table
 from tools.tables import LITERAL, WrongForm, answers, arms, entries, value
@@ -14,20 +14,12 @@ COMMANDS, UNITS = "latex2mathml_tex_commands/src", "latex2mathml_tex_units/src"
 SECTIONS = tomllib.loads((pathlib.Path(__file__).parent / "tex_commands.toml").read_text(encoding="utf-8"))
 
 
-@dataclass(frozen=True)
-class Place:
-    """Where entries of a form are listed: the section, what they are, and an example in which @ is the command."""
-    section: str
-    what: str
-    example: str = ""
+# where entries of a form are listed: the section, what they are, and an example in which @ is the command
+Place = collections.namedtuple("Place", "section what example", defaults=[""])
 
 
-@dataclass(frozen=True)
-class Entry:
+class Entry(collections.namedtuple("Entry", "name place draws")):
     """What is listed, where, and the character, text or number of its entry."""
-    name: str
-    place: Place
-    draws: str
 
     @property
     def example(self):
