@@ -4,7 +4,7 @@ import functools
 from tests import cases
 from tests.answers import WAYS, AnswerCase, Code, tex_by_library
 from tests.support import Case, build, each_row, put, run, show, tex_program
-from tests.texts import math
+from tests.texts import NO_TEXT, math
 
 WHITE_SPACE = [space * count for space in (b" ", b"\t", b"\n", b"\r") for count in (1, 1000)]
 NO_WHITE_SPACE = ["\u000c".encode(), "\u00a0".encode()]
@@ -73,11 +73,7 @@ def tex_run(case, display):
 
 def code_of(case):
     """The code of the library for C for a refused text."""
-    try:
-        case.input.decode()
-    except UnicodeDecodeError:
-        return Code.NOT_UTF8
-    return Code.REFUSED
+    return Code.NOT_UTF8 if case.answer == NO_TEXT.encode() else Code.REFUSED
 
 
 # The files by their kind. A class of tests is made for each file.

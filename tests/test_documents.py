@@ -30,11 +30,9 @@ def without_code(text):
 
 def anchors(text):
     """The anchors of a document's headings, as GitHub makes them."""
-    found = set()
-    for heading in re.findall(r"^#+ +(.*?)\s*$", re.sub(r"^```.*?^```$", "", text, flags=re.M | re.S), re.M):
-        plain = re.sub(r"\[([^\]]*)\]\([^)]*\)", r"\1", heading).lower()
-        found.add(re.sub(r"[^\w\- ]", "", plain).replace(" ", "-"))
-    return found
+    headings = re.findall(r"^#+ +(.*?)\s*$", re.sub(r"^```.*?^```$", "", text, flags=re.M | re.S), re.M)
+    plain = [re.sub(r"\[([^\]]*)\]\([^)]*\)", r"\1", it).lower() for it in headings]
+    return {re.sub(r"[^\w\- ]", "", it).replace(" ", "-") for it in plain}
 
 
 def leads_somewhere(document, target):
@@ -60,16 +58,15 @@ class Quotes(Case):
         for part in ("docs", "tools", "tests", "cases", "crates"):
             shutil.copytree(ROOT / part, folder / part, ignore=shutil.ignore_patterns("out", "must-fail", "proofs"))
         source, document = folder / "crates/latex2mathml/specs/Documents.antt", folder / "docs/PROMISES.md"
-        old, link = document.read_text(), "specs/Documents.antt#L{})"
+        old, renew = document.read_text(), folder / "tools/renew-documents"
         line = source.read_text().split("\n").index("pub data Piece : Type 0 where") + 1
-        self.assertIn(f"[`Piece`](../crates/latex2mathml/{link.format(line)}", old)
+        link, moved = (f"[`Piece`](../crates/latex2mathml/specs/Documents.antt#L{it})" for it in (line, line + 1))
+        self.assertIn(link, old)
         source.write_text(f"-- one more line\n{source.read_text()}")
-        renew = folder / "tools/renew-documents"
-        changed = f"+| [`Piece`](../crates/latex2mathml/{link.format(line + 1)}"
-        self.expect(run([renew, "--check"]), 1, Has(changed.encode()))
+        self.expect(run([renew, "--check"]), 1, Has(moved.encode()))
         self.assertEqual(document.read_text(), old)
         self.expect(run([renew]), stdout=b"")
-        self.assertIn(f"[`Piece`](../crates/latex2mathml/{link.format(line + 1)}", document.read_text())
+        self.assertIn(moved, document.read_text())
         self.expect(run([renew, "--check"]), stdout=b"")
         with self.subTest("it is gone"):
             text = document.read_text()

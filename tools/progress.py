@@ -43,9 +43,6 @@ class Screen:
             self.stream.write(f"{text}\n{self.renewed}")
             self.stream.flush()
 
-    def clear(self):
-        self.renew("")
-
 
 def follow(words, log, *, on_start=lambda process: None, on_line=lambda line: None, on_second=lambda: None, **how):
     """Runs a command to its end and returns its status. Everything that it prints goes to the file `log`. `on_start` is called with
