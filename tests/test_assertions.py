@@ -144,7 +144,8 @@ def is_empty(node):
 
 
 def is_always_true(node):
-    return isinstance(node, (ast.Tuple, ast.List, ast.Dict, ast.JoinedStr, ast.Lambda, ast.Constant)) or isinstance(node, ast.Compare) and is_empty(node)
+    is_literal = isinstance(node, (ast.Tuple, ast.List, ast.Dict, ast.JoinedStr, ast.Lambda, ast.Constant))
+    return is_literal or isinstance(node, ast.Compare) and is_empty(node)
 
 
 def is_met(relation, left, right):

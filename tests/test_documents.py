@@ -227,19 +227,15 @@ class Language(Case):
     """The tables of LANGUAGE.md that the program can show, and the texts of faults."""
 
     def test_documents(self):
+        """In an answer, code is taken as it is, and M(x) is markup."""
         for shown, answer in rows(read("docs/LANGUAGE.md"), "Document"):
             with self.subTest(shown):
                 done = run([program(), "document"], stdin=shown.strip("`").encode())
+                parts = re.findall(r"M\(`([^`]*)`\)|`([^`]*)`", answer.partition(",")[0].partition(":")[0])
                 if answer.startswith("refused"):
                     self.expect(done, 1, b"", None)
                 else:
-                    self.expect(done, stdout="".join(self.parts(answer.partition(",")[0].partition(":")[0])).encode())
-
-    @staticmethod
-    def parts(answer):
-        """The texts of an answer: its code is taken as it is, and M(x) is markup."""
-        for formula, code in re.findall(r"M\(`([^`]*)`\)|`([^`]*)`", answer):
-            yield answer_of(formula) if formula else code
+                    self.expect(done, stdout="".join(answer_of(formula) if formula else code for formula, code in parts).encode())
 
     def test_faults(self):
         """The definition of a fault's text is in quotation marks, with the number of bytes between two of them."""
@@ -350,8 +346,9 @@ class Figures(Case):
 
     def test_tex_ratios(self):
         """How many times as many instructions `tex_to_mathml` executes as `latex_to_mathml`, for the same formulas."""
+        both = [(count, self.counted[name.removeprefix("tex2mathml ")]) for name, count in self.counted.items() if name.startswith("tex2mathml ")]
         self.ranges(r"`tex_to_mathml` executes (\d\.\d) to (\d\.\d) times as many instructions as `latex_to_mathml`",
-                    [count / self.counted[name.removeprefix("tex2mathml ")] for name, count in self.counted.items() if name.startswith("tex2mathml ")])
+                    [tex / latex for tex, latex in both])
 
     def test_instructions(self):
         shown = re.findall(r"^\| (?:a document of )?`?([^|`]+?)`?(?:, over and over)? \| (\d+) million, ", self.text, re.M)

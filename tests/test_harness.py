@@ -190,6 +190,11 @@ class Whole(Harness):
         self.comes_to(5, 0, "proofs")
         self.assertFalse(self.order.exists())
 
+    def test_a_mark_that_is_misspelled(self):
+        path = self.house / "tests/test_order.py"
+        path.write_text(path.read_text().replace("mark.long", "mark.lnog"))
+        self.assertIn("'lnog' not found", self.comes_to(0, 1, "test_order"))
+
     def test_nothing_is_tried_over_what_is_not_proved(self):
         for more, passed in [({"STATUS": "1", "SAYS": "2 passed, 1 failed (it)"}, 3), ({"STATUS": "1"}, 4),
                              ({"SAYS": "no line"}, 1), ({"LIBRARY": "1"}, 4)]:
