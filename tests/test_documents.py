@@ -11,8 +11,6 @@ from tools import quotes, specs, token_commands
 # the most words that a sentence may have
 LONGEST = 35
 
-README_LINES = 155
-
 
 def documents():
     """The documents that git keeps; or all, if git is missing or knows of none, as in a copy without its folder."""
@@ -174,7 +172,7 @@ class Readme(Case):
         return run(["sh", "-c", command], cwd=self.folder)
 
     def test_is_short(self):
-        self.assertLessEqual(self.text.count("\n"), README_LINES)
+        self.assertLessEqual(self.text.count("\n"), 155)
 
     def test_its_commands_print_what_is_shown(self):
         """So do those of TEX.md. A line that begins with the name of a program is a refusal, on standard error."""

@@ -91,7 +91,8 @@ class Pages(unittest.TestCase):
         listed = CODE.findall(section(MAINTAINING, "A release").partition("\n1. ")[0])
         files = [path for part in ("crates", "integrations", "packaging") for path in (ROOT / part).rglob("*")
                  if path.suffix in (".h", ".rt", ".toml", ".json", ".md", ".in") and not MADE.intersection(path.parts)]
-        with_it = {str(path.relative_to(ROOT)) for path in files if newest_version() in path.read_text(encoding="utf-8")}
+        version = re.compile(rf"(?<![\d.]){re.escape(newest_version())}(?!\d)")
+        with_it = {str(path.relative_to(ROOT)) for path in files if version.search(path.read_text(encoding="utf-8"))}
         self.assertEqual(with_it, {it for it in listed if "/" in it})
 
 
