@@ -39,7 +39,7 @@ class Total:
         self.screen.say(name)
         watch, before = Stopwatch(), spent()
         passed, failed = step(self.screen)
-        self.screen.clear()
+        self.screen.renew("")
         self.passed, self.failed = self.passed + passed, self.failed + failed
         self.lines.append(f"{name}: {passed} passed, {failed} failed, {watch} ({clock(spent() - before)} of a processor)")
         self.screen.say(f"    {self.lines[-1]}")
@@ -192,8 +192,8 @@ def main(words):
         os.environ[SCREEN] = f"/proc/{os.getpid()}/fd/{os.dup(2)}"
         if proves:
             begun = time.time()
-            is_well = total.do("layout", look_at_layout) and total.do("rt ci", lambda it: prove(it, begun)) \
-                and total.do("the library for C", lambda it: build_c_library(it, begun))
+            steps = {"layout": look_at_layout, "rt ci": lambda it: prove(it, begun), "the library for C": lambda it: build_c_library(it, begun)}
+            is_well = all(total.do(*step) for step in steps.items())
             if is_well and not words:
                 # from here on, the tests use only what was proved and built
                 os.environ[BUILD_NOTHING] = "1"

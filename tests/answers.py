@@ -6,11 +6,8 @@ import functools
 import os.path
 import re
 
-from tests.support import Case, c_library, program, run
+from tests.support import SHOWN, Case, c_library, program, run, show
 from tests.texts import ERROR, NO_TEXT
-
-# The most characters of an input or of a difference that a failure shows.
-LIMIT = 2000
 
 
 class Code(enum.IntEnum):
@@ -80,20 +77,11 @@ def pieces(answer):
 
 
 def difference(wanted, came):
-    if len(wanted) + len(came) > 10 * LIMIT:
+    if len(wanted) + len(came) > 10 * SHOWN:
         start = max(len(os.path.commonprefix([wanted, came])) - 40, 0)
-        return f"from byte {start} on\n- {wanted[start:start + LIMIT]}\n+ {came[start:start + LIMIT]}"
+        return f"from byte {start} on\n- {wanted[start:start + SHOWN]}\n+ {came[start:start + SHOWN]}"
     lines = difflib.unified_diff(pieces(wanted), pieces(came), "wanted", "came", n=2, lineterm="")
     return "\n".join(lines)
-
-
-def name_of(code):
-    return code.name if isinstance(code, Code) else code
-
-
-def show(given):
-    text = repr(given.decode(errors="backslashreplace"))
-    return text if len(text) <= LIMIT else f"{text[:LIMIT]}.. ({len(given)} bytes)"
 
 
 class AnswerCase(Case):
@@ -104,5 +92,6 @@ class AnswerCase(Case):
         for name, way in WAYS:
             found, came = way(word, given)
             if (found, came) != (code, wanted):
-                differs = f": {name_of(found)} where {name_of(code)} is due" if found != code else ""
-                self.fail(f"\n{place}: {word} of {show(given)}\nby {name}{differs}\n{difference(wanted, came)}")
+                differs = f": {found!r} where {code!r} is due" if found != code else ""
+                text = show(given.decode(errors="backslashreplace"))
+                self.fail(f"\n{place}: {word} of {text}\nby {name}{differs}\n{difference(wanted, came)}")

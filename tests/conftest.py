@@ -47,6 +47,12 @@ class Classes(LoadScopeScheduling):
                 self._reschedule(other)
         return under_way
 
+    def _reschedule(self, node):
+        """A process begins a case once it knows the next one, or that there is none. So one case is not enough for it to begin."""
+        super()._reschedule(node)
+        while self.workqueue and not node.shutting_down and self._pending_of(self.assigned_work[node]) < 2:
+            super()._reschedule(node)
+
 
 def pytest_xdist_make_scheduler(config, log):
     return Classes(config, log)

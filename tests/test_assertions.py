@@ -1,14 +1,14 @@
-"""Tests the tests: what compares an answer notices each difference, and no case asserts nothing."""
+"""Tests the tests: what compares an answer notices each difference, no name hides another, and no case asserts nothing."""
 import ast
-import ctypes
 import itertools
 import subprocess
+import sys
 import unittest
 import unittest.mock
 
 from tests import answers
 from tests.answers import AnswerCase, Code
-from tests.support import ROOT, Case, Has, each_row
+from tests.support import ROOT, Case, Has, each_row, requires, run
 from tests.texts import error
 
 # what a function asserts by, besides `assert`
@@ -30,20 +30,23 @@ class Differences(unittest.TestCase):
             self.assertEqual(fails(lambda: Case().expect(done, 1, Has(part), b"c")), not met)
             self.assertEqual(fails(lambda: Case().expect(done, 0, Has(part), b"c")), True)
 
+    def test_of_a_program(self):
+        """An answer, a refusal, or neither: its status and both of its streams count."""
+        for done, due in (((0, b"x\n", b""), (Code.DONE, b"x")), ((0, b"y\n", b""), (Code.DONE, b"y")), ((1, b"", error("r")), (Code.REFUSED, b"r")),
+                          ((1, b"x\n", b""), None), ((0, b"x\n", b"e"), None), ((1, b"x", error("r")), None)):
+            done = subprocess.CompletedProcess(["a"], *done)
+            with self.subTest(done), unittest.mock.patch.multiple(answers, run=lambda *_, **__: done, program=str):
+                found = answers.by_program("inline", b"x")
+                self.assertEqual(found if isinstance(found[0], Code) else None, due)
+
     def test_of_a_case(self):
-        """The answers of the program and of the library for C are compared, each with its status or code, and with standard error."""
-        told = error("r")
-        programs = {"right": (0, b"x\n", b""), "another answer": (0, b"y\n", b""), "another status": (1, b"x\n", b""),
-                    "something told": (0, b"x\n", b"e"), "refused": (1, b"", told), "refused and written": (1, b"x", told)}
-        libraries = {"right": (Code.DONE, b"x"), "another answer": (Code.DONE, b"y"), "another code": (Code.REFUSED, b"x"),
-                     "refused": (Code.REFUSED, b"r")}
-        for (program, (status, *streams)), (library, by_library) in itertools.product(programs.items(), libraries.items()):
-            done = subprocess.CompletedProcess(["a"], status, *streams)
-            with self.subTest(program=program, library=library), \
-                    unittest.mock.patch.multiple(answers, run=lambda *_, **__: done, program=str, library=lambda: Library(*by_library)):
-                for name, code, answer in (("right", Code.DONE, b"x"), ("refused", Code.REFUSED, b"r")):
-                    differs = fails(lambda: AnswerCase().comes_to("here", "inline", b"x", code, answer))
-                    self.assertEqual(differs, (program, library) != (name, name))
+        """The results of the program and of the library for C are compared, each with its code."""
+        results = list(itertools.product((Code.DONE, Code.REFUSED, "status 1"), (b"x", b"y")))
+        for due, *found in itertools.product(results, repeat=3):
+            ways = [(f"way {number}", lambda *_, result=result: result) for number, result in enumerate(found)]
+            with self.subTest(due=due, found=found), unittest.mock.patch.object(answers, "WAYS", ways):
+                differs = fails(lambda: AnswerCase().comes_to("here", "inline", b"x", *due))
+                self.assertEqual(differs, found != [due, due])
 
 
 class Rows(Case):
@@ -60,26 +63,33 @@ class Rows(Case):
                 type("Twice", (made,), {"add": each_row(table)(add)})
 
 
-class Library:
-    """A library for C that always has the same answer."""
-
-    def __init__(self, code, text):
-        self.code, self.text = code, text
-
-    def latex2mathml_formula(self, given, length, block, room, size, needed):
-        needed._obj.value = len(self.text)
-        if size < len(self.text):
-            return Code.TOO_SMALL
-        ctypes.memmove(room, self.text, len(self.text))
-        return self.code
-
-
 def fails(assertion):
     try:
         assertion()
     except AssertionError:
         return True
     return False
+
+
+@requires("python:pyflakes")
+class Names(Case):
+    """pyflakes finds, among others, a name that is defined twice: it hides the first, such as a case that then never runs."""
+
+    def expect_names(self, status, told, *files, text=""):
+        self.expect(run([sys.executable, "-m", "pyflakes", *files], stdin=text.encode(), cwd=ROOT), status, told.encode())
+
+    def test_the_sources_have_no_such_name(self):
+        scripts = [it.relative_to(ROOT) for it in ROOT.glob("tools/*") if it.is_file() and it.read_bytes().startswith(b"#!/usr/bin/env python3")]
+        self.assertGreater(len(scripts), 3)
+        self.expect_names(0, "", "tests", "tools", "bench", "diff", "integrations", *scripts)
+
+    @each_row({
+        "twice": ("def f(): pass\nclass A:\n    def test_x(self): pass\n    def test_x(self): pass\ndef f(): pass\n",
+                  "<stdin>:4:5: redefinition of unused 'test_x' from line 3\n<stdin>:5:1: redefinition of unused 'f' from line 1\n"),
+        "in two classes": ("class A:\n    def f(self): pass\nclass B:\n    def f(self): pass\n", ""),
+    })
+    def defined(self, text, told):
+        self.expect_names(int(told != ""), told, text=text)
 
 
 class Assertions(unittest.TestCase):
@@ -118,52 +128,48 @@ def empty_assertions(module):
 
 
 def is_empty(node):
-    if isinstance(node, ast.Assert):
-        return is_always_true(node.test)
-    if isinstance(node, ast.Compare):
-        return is_always_true(node)
-    if isinstance(node, ast.Call) and name_of(node.func) == "Has":
-        return is_of_any("assertIn", *node.args, None)
-    if not isinstance(node, ast.Call) or not isinstance(node.func, ast.Attribute) or not node.func.attr.startswith("assert"):
-        return False
-    name, operands = node.func.attr, node.args
-    if name in ("assertTrue", "assertFalse"):
-        # what is intended as an operand would be the message
-        return is_always_true(operands[0]) or any(not is_message(it, operands[0]) for it in operands[1:])
-    return len(operands) > 1 and (is_same(*operands[:2]) or is_of_any(name, *operands[:2]))
+    match node:
+        case ast.Assert(test=test):
+            return is_always_true(test)
+        case ast.Compare(left=left, ops=[relation], comparators=[right]):
+            return is_met(type(relation).__name__, left, right)
+        case ast.Call(func=ast.Name(id="Has"), args=[part]):
+            return is_met("In", part, None)
+        case ast.Call(func=ast.Attribute(attr="assertTrue" | "assertFalse"), args=[operand, *messages]):
+            # what is intended as an operand would be the message
+            return is_always_true(operand) or not all(is_message(it, operand) for it in messages)
+        case ast.Call(func=ast.Attribute(attr=name), args=[left, right, *_]) if name.startswith("assert"):
+            return is_met(name.removeprefix("assert"), left, right)
+    return False
+
+
+def is_always_true(node):
+    is_literal = isinstance(node, (ast.Tuple, ast.List, ast.Dict, ast.JoinedStr, ast.Lambda, ast.Constant))
+    return is_literal or isinstance(node, ast.Compare) and is_empty(node)
+
+
+def is_met(relation, left, right):
+    """Whether a relation is between the same, or one of any text or any length."""
+    match relation, left, right:
+        case "In", ast.Constant(value="" | b""), _:
+            return True
+        case "GreaterEqual" | "GtE", ast.Call(func=ast.Name(id="len")), ast.Constant(value=0):
+            return True
+    return right is not None and is_same(left, right)
 
 
 def is_message(node, operand):
     """Whether it is one, as after a condition, or if it shows what should be true. Otherwise it may be meant as an operand."""
-    if isinstance(operand, (ast.Compare, ast.BoolOp)):
-        return True
-    if isinstance(operand, ast.Call) and name_of(operand.func) in CONDITIONS:
-        return True
-    return any(is_same(operand, it) for it in ast.walk(node) if it is not node)
-
-
-def name_of(node):
-    return getattr(node, "attr", None) or getattr(node, "id", None)
+    is_condition = isinstance(operand, (ast.Compare, ast.BoolOp)) or isinstance(operand, ast.Call) and name_of(operand.func) in CONDITIONS
+    return is_condition or any(is_same(operand, it) for it in ast.walk(node) if it is not node)
 
 
 def is_same(left, right):
     return ast.dump(left) == ast.dump(right)
 
 
-def is_of_any(name, left, right):
-    """Whether a comparison is of any text, or of any length."""
-    if name == "assertIn":
-        return isinstance(left, ast.Constant) and not left.value and isinstance(left.value, (str, bytes))
-    is_length = isinstance(left, ast.Call) and isinstance(left.func, ast.Name) and left.func.id == "len"
-    return name == "assertGreaterEqual" and is_length and isinstance(right, ast.Constant) and right.value == 0
-
-
-def is_always_true(node):
-    if isinstance(node, ast.Compare) and len(node.ops) == 1:
-        left, right = node.left, node.comparators[0]
-        names = {ast.In: "assertIn", ast.GtE: "assertGreaterEqual"}
-        return is_same(left, right) or is_of_any(names.get(type(node.ops[0])), left, right)
-    return isinstance(node, (ast.Tuple, ast.List, ast.Dict, ast.JoinedStr, ast.Lambda, ast.Constant))
+def name_of(node):
+    return getattr(node, "attr", None) or getattr(node, "id", None)
 
 
 def cases_without_an_assertion(modules):
@@ -178,15 +184,10 @@ def cases_without_an_assertion(modules):
 
 def is_case(function):
     """Whether it is one, or makes one from each row of a table."""
-    is_of_rows = any(isinstance(it, ast.Call) and name_of(it.func) == "each_row" for it in function.decorator_list)
-    return is_of_rows or function.name.startswith("test_")
+    return function.name.startswith("test_") or any(name_of(getattr(it, "func", it)) == "each_row" for it in function.decorator_list)
 
 
 def asserts(function, asserting):
-    for node in ast.walk(function):
-        if isinstance(node, ast.Assert) or isinstance(node, ast.keyword) and node.arg == "check":
-            return True
-        name = name_of(node)
-        if name and (name.startswith("assert") or name in asserting):
-            return True
-    return False
+    names = {name_of(it) or "" for it in ast.walk(function)}
+    return any(name in asserting or name.startswith("assert") for name in names) or any(
+        isinstance(it, ast.Assert) or isinstance(it, ast.keyword) and it.arg == "check" for it in ast.walk(function))

@@ -9,19 +9,17 @@ FILES = [name for name in cases.files("formulas/*.txt") if name != "formulas/lar
 STRETCHED = re.compile(r"\\(?:left|middle|right)(?::=|\\[a-z])")
 FORMULAS = {case.input.decode() for name in FILES for case in cases.read(name) if not STRETCHED.search(case.input.decode())}
 
-START = b'<math xmlns="http://www.w3.org/1998/Math/MathML" display="inline">'
+ANSWER = re.compile(rb'<math xmlns="http://www\.w3\.org/1998/Math/MathML" display="inline">.*</math>\n', re.DOTALL)
 
 
 def is_answered(done):
-    return done.returncode == 0 and done.stdout.startswith(START) and done.stdout.endswith(b"</math>\n") and not done.stderr
+    return done.returncode == 0 and ANSWER.fullmatch(done.stdout) and not done.stderr
 
 
 def ends_too_soon(done, beginning):
     """Whether it is refused for its end, or for a command whose name was cut off after the backslash."""
-    lines = done.stderr.splitlines()
-    found = [b'"EOF" is found.'] + ([b'"Command("")" is found.'] if beginning.endswith("\\") else [])
-    return (done.returncode == 1 and not done.stdout and len(lines) == 1
-            and lines[0].startswith(b"LaTeX2MathML Error: ") and any(end in lines[0] for end in found))
+    end = rb'(?:EOF|Command\(""\))' if beginning.endswith("\\") else b"EOF"
+    return done.returncode == 1 and not done.stdout and re.fullmatch(rb'LaTeX2MathML Error: .*"%s" is found\..*\n' % end, done.stderr)
 
 
 class Beginnings(Case):

@@ -33,8 +33,8 @@ class House(Case):
         for crate in CRATES:
             put(self.house / "crates" / crate, {**dict.fromkeys(sources, ""), "args": "inline\n"})
         self.in_the_past(3600)
-        self.calls = self.folder / "calls"
-        put(self.folder, {"calls": "", "bin/rt": (FAKES / "rt").read_text()})
+        self.calls, self.process = self.folder / "calls", self.folder / "process"
+        put(self.folder, {"calls": "", "met": "", "bin/rt": (FAKES / "rt").read_text()})
 
     def in_the_past(self, seconds):
         """Makes everything there older by this much."""
@@ -47,12 +47,15 @@ class House(Case):
 
     def environment(self, **more):
         return {**os.environ, BUILD_NOTHING: "", "PATH": f"{self.folder / 'bin'}:{os.environ['PATH']}", "CALLS": str(self.calls),
-                "MET": str(self.folder / "met"), "PROCESS": str(self.folder / "process"), **more}
+                "MET": str(self.folder / "met"), "PROCESS": str(self.process), **more}
 
-    def expect_calls(self, count):
-        """Expects that the program `high` was built this many times."""
-        calls = self.calls.read_text()
-        self.assertEqual(sum(line.startswith("high ") for line in calls.splitlines()), count, calls)
+    def builds(self, *counts, **more):
+        """Expects that the program `high`, which is asked for again and again, is built this many times each time."""
+        for count in counts:
+            self.calls.write_text("")
+            self.expect(self.build(**more), stdout=None, stderr=None)
+            calls = self.calls.read_text()
+            self.assertEqual(sum(line.startswith("high ") for line in calls.splitlines()), count, calls)
 
     def made(self, crate):
         """The names in the crate's `out/`."""
@@ -71,14 +74,13 @@ class Building(House):
                 self.assertEqual(self.calls.read_text(), f"low lib\nmiddle lib\n{crate} {words}\n")
 
     def test_several_are_built_together(self):
-        paths = [self.house / "crates/high/out/high", self.house / "crates/tool/out/libtool.a"]
+        paths = f"{self.house}/crates/high/out/high\n{self.house}/crates/tool/out/libtool.a\n".encode()
         for said in (None, b""):
-            self.expect(self.build("high tool"), stdout="".join(f"{path}\n" for path in paths).encode(), stderr=said)
-        built = [line.split()[0] for line in self.calls.read_text().splitlines()]
-        self.assertEqual(sorted(built), ["high", "low", "middle", "tool"])
+            self.expect(self.build("high tool"), stdout=paths, stderr=said)
+        self.assertEqual(sorted(line.split()[0] for line in self.calls.read_text().splitlines()), ["high", "low", "middle", "tool"])
         (self.house / "crates/tool/src/lib.rt").touch()
-        self.expect(self.build("high tool"), stdout="".join(f"{path}\n" for path in paths).encode(), stderr=None)
-        self.expect_calls(1)
+        self.expect(self.build("high tool"), stdout=paths, stderr=None)
+        self.builds(0)
 
     def test_what_was_made_is_kept(self):
         """The next build of a crate begins with what the last one left, even one that failed."""
@@ -105,14 +107,9 @@ class Building(House):
             with self.subTest(name):
                 self.build()
                 self.in_the_past(1800)
-                self.calls.write_text("")
-                self.expect(self.build(), stdout=None, stderr=None)
-                self.expect_calls(0)
+                self.builds(0)
                 change(self.house / name)
-                self.expect(self.build(), stdout=None, stderr=None)
-                self.expect_calls(1)
-                self.expect(self.build(), stdout=None, stderr=None)
-                self.expect_calls(1)
+                self.builds(1, 0)
 
     def test_nothing_is_left_in_the_folder_of_temporary_files(self):
         folder = self.folder / "temporary"
@@ -130,27 +127,23 @@ class Building(House):
         self.build()
         (self.house / "crates/other/src/lib.rt").touch()
         (self.house / "crates/tool/src/lib.rt").touch()
-        self.expect(self.build(), stdout=None)
-        self.expect_calls(1)
+        self.builds(0)
 
     def test_an_edit_while_it_is_built(self):
         """It is newer than what was built from the text before it."""
-        self.build(EDITS=str(self.house / "crates/low/src/lib.rt"))
-        self.build()
-        self.expect_calls(2)
-        self.build()
-        self.expect_calls(2)
+        self.builds(1, EDITS=str(self.house / "crates/low/src/lib.rt"))
+        self.builds(1, 0)
 
     def test_nothing_is_built_behind_the_proofs(self):
         with self.subTest("nothing is there"):
             self.expect(self.build(**{BUILD_NOTHING: "1"}), 1, b"", None)
         self.build()
         with self.subTest("it is new"):
-            self.expect(self.build(**{BUILD_NOTHING: "1"}), stdout=None)
+            self.builds(0, **{BUILD_NOTHING: "1"})
         (self.house / "crates/low/specs/Lib.antt").touch()
         with self.subTest("it is stale"):
             self.expect(self.build(**{BUILD_NOTHING: "1"}), 1, b"", None)
-        self.expect_calls(1)
+        self.assertEqual(self.calls.read_text(), "")
 
     def test_another_search_for_folders(self):
         """CDPATH makes `cd` print the folder that it found, and may make it find another."""
@@ -162,11 +155,9 @@ class Building(House):
                 done = run(["tools/built", "high"], cwd=self.house, env=environment)
                 self.expect(done, stdout=f"{self.house}/crates/high/out/high\n".encode())
 
-    def test_no_crate(self):
-        self.expect(self.build(""), 1, b"", b"built: name the crates to build\n")
-
     def test_no_such_crate(self):
-        self.expect(self.build("nothing"), 1, b"", b"built: crates.txt names no crate nothing\n")
+        for crate, said in (("", "name the crates to build"), ("nothing", "crates.txt names no crate nothing")):
+            self.expect(self.build(crate), 1, b"", f"built: {said}\n".encode())
 
     def test_no_toolchain(self):
         tools = self.folder / "tools"
@@ -183,33 +174,29 @@ class Building(House):
         logs = self.house / "out/build"
         self.assertIn(str(logs), said[0])
         for number, crate in enumerate(("low", "middle", "high"), 1):
-            self.assertRegex(said[number], rf"\A{number} of 3  {crate}  6 functions  \d+:\d\d\Z")
+            self.assertRegex(said[number], rf"\A{number} of 3  {crate}  6 functions  \d:\d\d:\d\d\Z")
         self.assertEqual(len(said), 5, said)
         self.assertIn("checked middle::f, 3 of 7\n", (logs / "middle.log").read_text())
         self.assertIn("the program ran\n", (logs / "high.log").read_text())
 
     def test_a_line_that_is_renewed(self):
         terminal, stream = pty.openpty()
-        try:
-            done = run([self.house / "tools/built", "high"], env=self.environment(), stderr=stream)
-        finally:
-            os.close(stream)
+        done = run([self.house / "tools/built", "high"], env=self.environment(), stderr=stream)
+        os.close(stream)
         shown = read_terminal(terminal)
         self.assertEqual(done.returncode, 0)
         for functions in ("3", "5"):
-            self.assertRegex(shown, rf"\r\x1b\[K2 of 3  middle  {functions} of 7 functions  \d+:\d\d")
+            self.assertRegex(shown, rf"\r\x1b\[K2 of 3  middle  {functions} of 7 functions  \d:\d\d:\d\d")
 
     def interrupt(self, target, crate, number=signal.SIGINT, **more):
         """Sends a signal to a build while `rt` works in this crate, and returns its status and what it printed."""
-        process = self.folder / "process"
-        process.unlink(missing_ok=True)
-        words = [sys.executable, self.house / "tools/build", target]
-        environment = self.environment(LASTS=crate, **more)
+        self.process.unlink(missing_ok=True)
+        words, environment = [sys.executable, self.house / "tools/build", target], self.environment(LASTS=crate, **more)
         with subprocess.Popen(words, env=environment, stderr=subprocess.PIPE, preexec_fn=hear_signals) as building:
-            self.wait_for(process.exists)
+            self.wait_for(self.process.exists)
             building.send_signal(number)
             said = building.communicate(timeout=30)[1]
-        running = pathlib.Path("/proc", process.read_text().strip())
+        running = pathlib.Path("/proc", self.process.read_text().strip())
         self.wait_for(lambda: not running.exists())
         return building.returncode, said.decode()
 
@@ -249,31 +236,27 @@ class SideBySide(House):
                 self.assertRegex(calls, r"(?m)^low lib$")
 
     def test_no_more_than_there_are_processors(self):
-        (self.folder / "met").write_text("")
         one = {min(os.sched_getaffinity(0))}
         words = [sys.executable, self.house / "tools/build", "both"]
         done = run(words, env=self.environment(MEETS="left right"), preexec_fn=lambda: os.sched_setaffinity(0, one))
         self.expect(done, 1, b"", Has(b"the other did not begin"))
 
     def test_no_more_than_there_is_memory_for(self):
-        (self.folder / "met").write_text("")
         self.memory.write_text("MemAvailable: 8000000 kB\n")
         self.expect(self.build("both", MEETS="left right"), 1, b"", Has(b"the other did not begin"))
 
+    def fails(self, target, **more):
+        """What a build says that fails."""
+        done = self.build(target, **more)
+        self.expect(done, 1, b"", Has(b"fn f: not proved"))
+        return done.stderr.decode()
+
     def test_a_failure_ends_the_rest(self):
-        (self.folder / "met").write_text("")
-        done = self.build("both", MEETS="left right", FAILS="left", LASTS="right")
-        self.expect(done, 1, b"", None)
-        said = done.stderr.decode()
-        self.assertIn("fn f: not proved", said)
+        said = self.fails("both", MEETS="left right", FAILS="left", LASTS="right")
         self.assertIn("build: left could not be built", said)
         self.assertNotIn("build: right", said)
         self.assertEqual((self.made("low"), self.made("right"), self.made("both")), (["kept", "rlib"], [], []))
 
     def test_a_building_that_fails(self):
-        done = self.build(FAILS="middle")
-        self.expect(done, 1, b"", None)
-        said = done.stderr.decode()
-        self.assertIn("1 of 3  low  6 functions", said)
-        self.assertIn("fn f: not proved", said)
-        self.assertFalse((self.house / "crates/high/out/high").exists())
+        self.assertIn("1 of 3  low  6 functions", self.fails("high", FAILS="middle"))
+        self.assertEqual(self.made("high"), [])

@@ -2,9 +2,9 @@
 import functools
 
 from tests import cases
-from tests.answers import WAYS, AnswerCase, Code, show, tex_by_library
-from tests.support import Case, build, put, run, tex_program
-from tests.texts import math
+from tests.answers import WAYS, AnswerCase, Code, tex_by_library
+from tests.support import Case, build, each_row, put, run, show, tex_program
+from tests.texts import NO_TEXT, math
 
 WHITE_SPACE = [space * count for space in (b" ", b"\t", b"\n", b"\r") for count in (1, 1000)]
 NO_WHITE_SPACE = ["\u000c".encode(), "\u00a0".encode()]
@@ -57,38 +57,23 @@ class CaseOfFile(AnswerCase):
     def tex_formula(self, case, displays=("inline", "block")):
         for display in displays:
             markup = math(case.answer, display)
-            self.assertEqual(tex_reply(case, display), b"mathml\n" + markup, case.place)
+            self.expect(tex_run(case, display), stdout=markup + b"\n")
             self.assertEqual(tex_by_library(display, case.input), (Code.DONE, markup, 0), case.place)
 
     def tex_refusal(self, case):
         place = int(case.answer.rpartition(b" at ")[2])
         for display in ("inline", "block"):
-            self.assertEqual(tex_reply(case, display), b"error\n" + case.answer, case.place)
+            self.expect(tex_run(case, display), 1, b"", b"tex2mathml: %s\n" % case.answer)
             self.assertEqual(tex_by_library(display, case.input), (Code.REFUSED, case.answer, place), case.place)
 
 
-@functools.cache
-def tex_replies(name, display):
-    """The reply of `tex2mathml` to each formula of a file of cases; it is given all of them at once."""
-    formulas = [case.input for case in cases.read(name)]
-    done = run([tex_program(), "--null", "--display", display], stdin=b"".join(it + b"\0" for it in formulas))
-    *replies, rest = done.stdout.split(b"\0")
-    if done.returncode or done.stderr or rest or len(replies) != len(formulas):
-        raise RuntimeError(f"status {done.returncode}, {len(replies)} replies to {len(formulas)} formulas: {done.stderr.decode()}")
-    return dict(zip(formulas, replies))
-
-
-def tex_reply(case, display):
-    return tex_replies(str(case.first.path.relative_to(cases.CASES)), display)[case.input]
+def tex_run(case, display):
+    return run([tex_program(), "--display", display], stdin=case.input)
 
 
 def code_of(case):
     """The code of the library for C for a refused text."""
-    try:
-        case.input.decode()
-    except UnicodeDecodeError:
-        return Code.NOT_UTF8
-    return Code.REFUSED
+    return Code.NOT_UTF8 if case.answer == NO_TEXT.encode() else Code.REFUSED
 
 
 # The files by their kind. A class of tests is made for each file.
@@ -106,15 +91,10 @@ KINDS = [
 ]
 
 
-def tests_of(name, check):
-    """The tests of a file: one per case."""
-    tests = {f"test_{case.first.number}": lambda self, case=case: check(self, case) for case in cases.read(name)}
-    return type(cases.class_name(name), (CaseOfFile,), {"__module__": __name__, "__doc__": f"cases/{name}", **tests})
-
-
-for pattern, kind in KINDS:
+for pattern, check in KINDS:
     for file in cases.files(pattern):
-        globals()[cases.class_name(file)] = tests_of(file, kind)
+        row = each_row({str(case.first.number): (case,) for case in cases.read(file)})
+        globals()[cases.class_name(file)] = type(cases.class_name(file), (CaseOfFile,), {"__doc__": f"cases/{file}", "check": row(check)})
 
 
 class Reader(Case):

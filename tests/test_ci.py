@@ -4,9 +4,10 @@
 """
 import shutil
 
-from tests.support import Case, Has, ROOT, put, run, scratch
+from tests.support import Case, Has, ROOT, each_row, put, run, scratch
 
 PACKAGES = "# a remark\nhere\nmissing # behind a package too\n\nlost\n"
+INSTALL = "install --no-install-recommends"
 
 STUBS = {
     "id": "echo ${USER_ID:-0}",
@@ -29,48 +30,34 @@ class Run(Case):
         for name in ("sh", "dirname", "sed", "grep", "timeout", "date"):
             (self.folder / "bin" / name).symlink_to(shutil.which(name))
 
-    def run_ci(self, **environment):
+    def run_ci(self, stdout, stderr=None, status=0, **environment):
+        """What `.ci/run` calls apt-get for, where its status and its streams are these."""
         calls = self.folder / "calls"
         calls.write_text("")
         done = run([self.house / ".ci/run"], env={"PATH": str(self.folder / "bin"), "CALLS": str(calls), **environment})
-        return done, calls.read_text().splitlines()
+        self.expect(done, status, stdout, stderr)
+        return calls.read_text().splitlines()
 
-    def test_what_is_missing_is_installed(self):
-        done, calls = self.run_ci()
-        self.expect(done, stdout=b"skips nothing: 1\n", stderr=None)
-        self.assertEqual(calls, ["update", "install --no-install-recommends missing lost"])
+    @each_row({
+        "what is missing": (PACKAGES, {}, b"1", None, ["update", f"{INSTALL} missing lost"]),
+        "nothing is missing": ("here\n", {}, b"1", b"", []),
+        # another package brought the file of the first
+        "a file that is there": ("missing {0}/test\nlost {0}/nothing\n", {}, b"1", None, ["update", f"{INSTALL} lost"]),
+        # `./test` runs, in which whatever needs it fails
+        "one cannot be installed": (PACKAGES, {"NOT_THERE": "lost"}, b"1", Has(b"lost could not be installed"),
+                                    ["update", f"{INSTALL} missing lost", f"{INSTALL} missing", f"{INSTALL} lost"]),
+        # cases whose tool is missing are skipped and listed by name
+        "by no root": (PACKAGES, {"USER_ID": "1000"}, b"", None, []),
+        "without a network": (PACKAGES, {"NOT_THERE": "install"}, b"", None,
+                              ["update", f"{INSTALL} missing lost", f"{INSTALL} missing", f"{INSTALL} lost"]),
+    })
+    def installs(self, packages, environment, skips_nothing, stderr, calls):
+        (self.house / ".ci/packages").write_text(packages.format(self.house))
+        self.assertEqual(self.run_ci(b"skips nothing: %s\n" % skips_nothing, stderr, **environment), calls)
 
-    def test_nothing_is_missing(self):
-        (self.house / ".ci/packages").write_text("here\n")
-        done, calls = self.run_ci()
-        self.expect(done, stdout=b"skips nothing: 1\n")
-        self.assertEqual(calls, [])
-
-    def test_a_file_that_another_package_brought(self):
-        (self.house / ".ci/packages").write_text(f"missing {self.house}/test\nlost {self.house}/nothing\n")
-        done, calls = self.run_ci()
-        self.expect(done, stdout=b"skips nothing: 1\n", stderr=None)
-        self.assertEqual(calls[1:], ["install --no-install-recommends lost"])
-
-    def test_one_cannot_be_installed(self):
-        """The others are, and `./test` runs, in which whatever needs it fails."""
-        done, calls = self.run_ci(NOT_THERE="lost")
-        self.expect(done, stdout=b"skips nothing: 1\n", stderr=Has(b"lost could not be installed"))
-        self.assertEqual(calls[2:], ["install --no-install-recommends missing", "install --no-install-recommends lost"])
-
-    def test_nothing_can_be_installed(self):
-        """Then cases whose tool is missing are skipped and listed by name."""
-        with self.subTest("by no root"):
-            done, calls = self.run_ci(USER_ID="1000")
-            self.expect(done, stdout=b"skips nothing: \n", stderr=None)
-            self.assertEqual(calls, [])
-        with self.subTest("without a network"):
-            done, calls = self.run_ci(NOT_THERE="install")
-            self.expect(done, stdout=b"skips nothing: \n", stderr=None)
-            self.assertEqual(len(calls), 4)
-        with self.subTest("without apt-get"):
-            (self.folder / "bin/apt-get").unlink()
-            self.expect(self.run_ci()[0], stdout=b"skips nothing: \n", stderr=None)
+    def test_without_apt_get(self):
+        (self.folder / "bin/apt-get").unlink()
+        self.assertEqual(self.run_ci(b"skips nothing: \n"), [])
 
     def test_a_network_that_never_answers(self):
         """Once a quarter of an hour is over, no other package is tried alone."""
@@ -79,12 +66,11 @@ class Run(Case):
             echo >>"$CALLS.dates"
             while read -r _; do now=$((now + 600)); done <"$CALLS.dates"
             echo $now\n"""})
-        done, calls = self.run_ci(NOT_THERE="install")
-        self.expect(done, stdout=b"skips nothing: \n", stderr=Has(b"lost could not be installed"))
-        self.assertEqual(calls[2:], ["install --no-install-recommends missing"])
+        calls = self.run_ci(b"skips nothing: \n", Has(b"lost could not be installed"), NOT_THERE="install")
+        self.assertEqual(calls[2:], [f"{INSTALL} missing"])
 
     def test_the_status(self):
-        self.expect(self.run_ci(STATUS="1")[0], 1, None, None)
+        self.run_ci(None, status=1, STATUS="1")
 
 
 class Pytest(Case):
@@ -101,20 +87,14 @@ class Pytest(Case):
         asked = house / "installed"
         return done, asked.read_text().split() if asked.exists() else []
 
-    def test_it_is_there(self):
-        done, packages = self.run_test("exit 1", is_there=True)
+    @each_row({"it is there": ("exit 1", True), "it is installed": ("touch has-pytest", False)})
+    def runs(self, install, is_there):
+        done, packages = self.run_test(install, is_there)
         self.expect(done, stdout=b"ran: -B -m tests test_c -x\n")
-        self.assertEqual(packages, [])
+        self.assertEqual("python3-pytest" in packages, not is_there)
+        self.assertLessEqual(set(packages), set((ROOT / ".ci/packages").read_text().split()))
 
-    def test_it_is_installed(self):
-        done, packages = self.run_test("touch has-pytest")
-        self.expect(done, stdout=b"ran: -B -m tests test_c -x\n")
-        listed = (ROOT / ".ci/packages").read_text().split()
-        self.assertIn("python3-pytest", packages)
-        self.assertEqual([it for it in packages if it not in listed], [])
-
-    def test_it_cannot_be_installed(self):
-        for install in ("exit 1", "exit 0"):
-            with self.subTest(install):
-                done, packages = self.run_test(install)
-                self.expect(done, 1, b"", Has(f"apt-get install {' '.join(packages)}\n".encode()))
+    @each_row({"it cannot be installed": ("exit 1",), "it is not there even then": ("exit 0",)})
+    def is_told(self, install):
+        done, packages = self.run_test(install)
+        self.expect(done, 1, b"", Has(f"apt-get install {' '.join(packages)}\n".encode()))

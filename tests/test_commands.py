@@ -1,12 +1,14 @@
-"""Checks each entry of cases/commands.txt against the program, the library for C, docs/COMMANDS.md and the definitions."""
+"""Checks each entry of cases/commands.txt against the program, the library for C and the definitions."""
 import re
 import unittest
 
 from tests import cases
 from tests.answers import WAYS, AnswerCase, Code
-from tests.command_table import DEFINITIONS, PAGE, in_the_definitions, on_the_page
-from tests.support import each_row
+from tests.support import ROOT, each_row
 from tests.texts import math
+from tools.tables import LITERAL, value
+
+DEFINITIONS = ROOT / "crates/latex2mathml_tokens/specs/Commands.antt"
 
 # Commands that name the next token in a refusal. No parenthesis is missing if one follows a \\left.
 SHOWS_TOKEN = "\\left{}"
@@ -16,46 +18,50 @@ TOKEN = re.compile(rb'There must be a parenthesis after "\w+", but not found\. I
 ENTRIES = cases.commands()
 
 
+def line_of(entry):
+    """The line of an entry in the definitions. A character, which is its code there, is repeated in a comment."""
+    kind, _, arguments = entry.token.removesuffix(")").partition("(")
+    terms = [f"({it.replace('(', ' ')}" if it.startswith("Some(") else re.sub(LITERAL, term, it) for it in arguments.split(", ") if it]
+    name = re.sub(r'(["\\])', r"\\\1", entry.name)
+    shown = [value(it) for it in re.findall(LITERAL, entry.token) if it[0] == "'" or not it.isascii()]
+    return f'    (codes "{name}", {" ".join([kind, *terms])}) ∷' + "".join(f"  -- {it}" for it in shown)
+
+
+def term(literal):
+    """How the definitions write a character, a text or a number."""
+    text = value(literal[0])
+    if literal[0][0] == "'":
+        return f"0x{ord(text):0{2 if ord(text) < 0x100 else 4}X}"
+    if literal[0][0] == '"':
+        return f'(codes "{text}")' if text.isascii() else f"(encode_utf8 0x{ord(text):04X})"
+    return f"(pos {text})" if int(text) >= 0 else f"(negsuc {-1 - int(text)})"
+
+
 class Table(unittest.TestCase):
     """The table as a whole."""
+    maxDiff = None
 
     def test_names_ascend(self):
         """So no name has two entries."""
         names = [entry.name.encode() for entry in ENTRIES]
         self.assertEqual(names, sorted(set(names)))
 
-    def test_the_page_says_how_many_entries_there_are(self):
-        said = re.search(r"The command table has (\d+) entries", PAGE.read_text(encoding="utf-8"))[1]
-        self.assertEqual(int(said), len(ENTRIES))
-
-    def test_the_page_has_these_names(self):
-        self.assertEqual(sorted(on_the_page()), sorted(entry.name for entry in ENTRIES))
-
-    def test_the_definitions_have_these_names_in_this_order(self):
-        self.assertEqual(list(in_the_definitions()), [entry.name for entry in ENTRIES])
+    def test_the_definitions_have_these_entries_in_this_order(self):
+        table = re.search(r"^command_entries =\n(.*?)\n    \[\]$", DEFINITIONS.read_text(encoding="utf-8"), re.M | re.S)[1]
+        self.assertEqual(table.split("\n"), [line_of(entry) for entry in ENTRIES])
 
 
 class Entries(AnswerCase):
-    """Each entry is a test, named by its line."""
+    """Each entry is a test, named by its line: the command alone is a formula, and a refusal names its token."""
 
     @each_row({str(entry.line.number): (entry,) for entry in ENTRIES})
     def is_right(self, entry):
-        self.alone(entry)
-        self.token(entry)
-
-    def alone(self, entry):
-        """The command alone is a formula."""
         for word in ("inline", "block"):
-            code, wanted = Code.REFUSED, entry.alone.encode()
-            if entry.alone.startswith("<"):
-                code, wanted = Code.DONE, math(wanted, word)
-            self.comes_to(entry.line.place, word, entry.formula, code, wanted)
-
-    def token(self, entry):
+            is_answer = entry.alone.startswith("<")
+            code, due = (Code.DONE, math(entry.alone, word)) if is_answer else (Code.REFUSED, entry.alone.encode())
+            self.comes_to(entry.line.place, word, entry.formula, code, due)
         shows = SHOWS_PARENTHESIS if entry.token.startswith("Paren(") else SHOWS_TOKEN
         given = shows.format(entry.formula.decode()).encode()
         for name, way in WAYS:
             told = TOKEN.fullmatch(way("inline", given)[1])
             self.assertEqual(told and told[1].decode(), entry.token, f"{entry.line.place}: the token by {name}")
-        self.assertEqual(on_the_page().get(entry.name), entry.token, f"{entry.line.place}: the token by {PAGE.name}")
-        self.assertEqual(in_the_definitions().get(entry.name), entry.token, f"{entry.line.place}: the token by {DEFINITIONS.name}")

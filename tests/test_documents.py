@@ -3,15 +3,13 @@ and sentences are short."""
 import re
 import shutil
 
-from tests import cases
 from tests.integration import answer_of
-from tests.support import ROOT, Case, Has, newest_version, program, put, requires, run, tex_program
-from tools import quotes, specs
+from tests.pages import CODE, column, read, rows, section, tables
+from tests.support import ROOT, Case, Has, each_row, program, put, requires, run, tex_program
+from tools import quotes, specs, token_commands
 
 # the most words that a sentence may have
 LONGEST = 35
-
-README_LINES = 155
 
 
 def documents():
@@ -30,52 +28,43 @@ def without_code(text):
 
 def anchors(text):
     """The anchors of a document's headings, as GitHub makes them."""
-    found = set()
-    for heading in re.findall(r"^#+ +(.*?)\s*$", re.sub(r"^```.*?^```$", "", text, flags=re.M | re.S), re.M):
-        plain = re.sub(r"\[([^\]]*)\]\([^)]*\)", r"\1", heading).lower()
-        found.add(re.sub(r"[^\w\- ]", "", plain).replace(" ", "-"))
-    return found
+    headings = re.findall(r"^#+ +(.*?)\s*$", re.sub(r"^```.*?^```$", "", text, flags=re.M | re.S), re.M)
+    plain = [re.sub(r"\[([^\]]*)\]\([^)]*\)", r"\1", it).lower() for it in headings]
+    return {re.sub(r"[^\w\- ]", "", it).replace(" ", "-") for it in plain}
+
+
+def leads_somewhere(document, target):
+    path, _, anchor = target.partition("#")
+    led = document.parent / path if path else document
+    return led.exists() and (not anchor or led.suffix != ".md" or anchor in anchors(led.read_text()))
 
 
 class Links(Case):
-    longMessage = False
-
     def test_each_leads_somewhere(self):
-        broken = []
-        for document in documents():
-            for target in re.findall(r"\]\(([^)\s]+)\)", without_code(document.read_text())):
-                if re.match(r"[a-z]+:", target):
-                    continue
-                path, _, anchor = target.partition("#")
-                led = (document.parent / path).resolve() if path else document
-                if not led.exists():
-                    broken.append(f"{document.relative_to(ROOT)}: {target}: there is no such file")
-                elif anchor and led.suffix == ".md" and anchor not in anchors(led.read_text()):
-                    broken.append(f"{document.relative_to(ROOT)}: {target}: there is no such heading")
-        self.assertFalse(broken, "\n".join(broken))
+        links = [(document, target) for document in documents() for target in re.findall(r"\]\(([^)\s]+)\)", without_code(document.read_text()))]
+        self.assertTrue(links)
+        self.assertEqual([f"{document.relative_to(ROOT)}: {target}" for document, target in links
+                          if not re.match(r"[a-z]+:", target) and not leads_somewhere(document, target)], [])
 
 
 class Quotes(Case):
-    longMessage = False
-
     def test_nothing_is_to_be_renewed(self):
         self.expect(run([ROOT / "tools/renew-documents", "--check"]), stdout=b"")
 
     def test_a_line_that_moved_is_renewed(self):
         folder = self.folder
-        for part in ("docs", "tools", "crates"):
+        for part in ("docs", "tools", "tests", "cases", "crates"):
             shutil.copytree(ROOT / part, folder / part, ignore=shutil.ignore_patterns("out", "must-fail", "proofs"))
         source, document = folder / "crates/latex2mathml/specs/Documents.antt", folder / "docs/PROMISES.md"
-        old, link = document.read_text(), "specs/Documents.antt#L{})"
+        old, renew = document.read_text(), folder / "tools/renew-documents"
         line = source.read_text().split("\n").index("pub data Piece : Type 0 where") + 1
-        self.assertIn(f"[`Piece`](../crates/latex2mathml/{link.format(line)}", old)
+        link, moved = (f"[`Piece`](../crates/latex2mathml/specs/Documents.antt#L{it})" for it in (line, line + 1))
+        self.assertIn(link, old)
         source.write_text(f"-- one more line\n{source.read_text()}")
-        renew = folder / "tools/renew-documents"
-        changed = f"+| [`Piece`](../crates/latex2mathml/{link.format(line + 1)}"
-        self.expect(run([renew, "--check"]), 1, Has(changed.encode()))
+        self.expect(run([renew, "--check"]), 1, Has(moved.encode()))
         self.assertEqual(document.read_text(), old)
         self.expect(run([renew]), stdout=b"")
-        self.assertIn(f"[`Piece`](../crates/latex2mathml/{link.format(line + 1)}", document.read_text())
+        self.assertIn(moved, document.read_text())
         self.expect(run([renew, "--check"]), stdout=b"")
         with self.subTest("it is gone"):
             text = document.read_text()
@@ -89,12 +78,11 @@ class Quotes(Case):
         self.assertEqual(sorted(renewed), sorted(str(it.relative_to(ROOT)) for it in quoting))
         for document in quoting:
             links = document.read_text().count(".antt#L")
-            self.assertEqual(len(list(quotes.definitions(document))), links, f"{document.name} links a line without a definition's name")
+            self.assertEqual(len(quotes.sources_of(document)), links, f"{document.name} links a line without a definition's name")
 
     def test_each_public_call_is_quoted(self):
-        text = "".join((ROOT / "docs" / name).read_text() for name in ("CALLING.md", "CALLING_TEX.md"))
-        missing = [name for name in quotes.public_calls() if f"fn {name}" not in text]
-        self.assertFalse(missing, f"docs/CALLING.md and CALLING_TEX.md do not quote: {', '.join(missing)}")
+        text = read("docs/CALLING.md") + read("docs/CALLING_TEX.md")
+        self.assertEqual([name for name in quotes.public_calls() if f"fn {name}" not in text], [])
 
 
 class Definitions(Case):
@@ -103,16 +91,13 @@ class Definitions(Case):
     files = specs.in_order(specs.named(quotes.public_sources()))
 
     def test_the_tables_link_each_file_after_those_that_it_uses(self):
-        linked = list(dict.fromkeys(link.source for link in quotes.definitions(self.document)))
+        linked = list(dict.fromkeys(quotes.sources_of(self.document)))
         self.assertEqual(sorted(linked), sorted(it.path for it in self.files))
-        for here in self.files:
+        for at, here in enumerate(self.files):
             for below in specs.files_below(here):
                 with self.subTest(f"{here.name} uses {below.name}"):
+                    self.assertIn(below, self.files[:at])
                     self.assertLess(linked.index(below.path), linked.index(here.path))
-
-    def test_a_file_is_listed_after_those_that_it_uses(self):
-        for at, here in enumerate(self.files):
-            self.assertEqual([below.name for below in specs.files_below(here) if below not in self.files[:at]], [], here.name)
 
     def test_the_imports_of_a_file_are_all_of_its_imports(self):
         """No import of a file is missed: each line that begins with `use` is one."""
@@ -124,11 +109,11 @@ class Definitions(Case):
         contracts = clauses_of_functions()
         # what a function belongs to: a program, or a crate; and what `Display` prints
         others = {"latex2mathml", "tex2mathml", "output", *(it.name for it in (ROOT / "crates").iterdir())}
-        tables = re.findall(r"^\| Promise \| Contract \|\n.*?\n\n", self.document.read_text(), re.M | re.S)
-        self.assertGreater(len(tables), 5)
-        for row in (row for table in tables for row in table.strip().split("\n")[2:]):
+        promises = [contract for head, rows in tables(self.document.read_text()) if head == ["Promise", "Contract"] for _, contract in rows]
+        self.assertGreater(len(promises), 20)
+        for contract in promises:
             functions = []
-            for part in row.rstrip("| ").rpartition(" | ")[2].split("; "):
+            for part in contract.split("; "):
                 before, word, behind = re.match(r"(.*?)(?:,? ?\b(clauses?|fields?) (.*))?$", part).groups(default="")
                 functions = [it.rpartition("::")[2] for it in re.findall(r"`([\w:]+)`", before)] or functions
                 here = [it for it in functions if it in contracts]
@@ -157,15 +142,10 @@ def clauses_of_functions():
 
 
 class Sentences(Case):
-    longMessage = False
-
     def test_none_is_long(self):
-        long = []
-        for document in documents():
-            for sentence in sentences(without_code(document.read_text())):
-                if len(sentence.split()) > LONGEST:
-                    long.append(f"{document.relative_to(ROOT)}: {len(sentence.split())} words: {sentence}")
-        self.assertFalse(long, "\n".join(long))
+        found = [(document, sentence) for document in documents() for sentence in sentences(without_code(document.read_text()))]
+        self.assertTrue(found)
+        self.assertEqual([f"{document.relative_to(ROOT)}: {sentence}" for document, sentence in found if len(sentence.split()) > LONGEST], [])
 
 
 def sentences(text):
@@ -174,7 +154,7 @@ def sentences(text):
     prose = re.sub(r"^\s*(?:[-*]|\d+\.) +", "\n\n", "\n".join(kept), flags=re.M)
     prose = re.sub(r"``.*?``|`[^`]*`", "code", prose, flags=re.S)
     # an enumeration of code, with the sign of each command after it, counts as one word
-    item = r"code(?:\s+(?:code|[^\s,]{1,2})(?:\s+\(U\+\w+\))?)?"
+    item = r"code(?:\s+(?:code|[^\s,(]{1,2}))?(?:\s+\(U\+\w+\))?"
     prose = re.sub(rf"{item}(?:,\s+(?:and\s+)?{item})+", "code", prose)
     prose = re.sub(r"\]\([^)]*\)", "]", prose)
     for paragraph in re.split(r"\n\s*\n", prose):
@@ -182,7 +162,7 @@ def sentences(text):
 
 
 class Readme(Case):
-    text = (ROOT / "README.md").read_text()
+    text = read("README.md")
 
     def run_shown(self, command):
         """Runs a command that is shown, in a folder with the programs."""
@@ -192,13 +172,12 @@ class Readme(Case):
         return run(["sh", "-c", command], cwd=self.folder)
 
     def test_is_short(self):
-        self.assertLessEqual(self.text.count("\n"), README_LINES)
+        self.assertLessEqual(self.text.count("\n"), 155)
 
     def test_its_commands_print_what_is_shown(self):
         """So do those of TEX.md. A line that begins with the name of a program is a refusal, on standard error."""
         for document, refused in (("README.md", [0, 0, 1, 1]), ("docs/TEX.md", [0, 1, 1, 1])):
-            text = (ROOT / document).read_text()
-            shown = re.findall(r"^    (?:\$ )?(printf .*)\n(?:\nprints\n\n)?    (.*)\n", text, re.M)
+            shown = re.findall(r"^    (?:\$ )?(printf .*)\n(?:\nprints\n\n)?    (.*)\n", read(document), re.M)
             self.assertEqual(sorted(not line.startswith("<math ") for _, line in shown), refused)
             for command, line in shown:
                 with self.subTest(command):
@@ -206,8 +185,7 @@ class Readme(Case):
                     self.expect(self.run_shown(command), *printed)
 
     def test_the_file_of_definitions_that_is_shown_is_read(self):
-        text = (ROOT / "docs/TEX.md").read_text()
-        shown = re.search(r"^    % macros\.tex\n((?:    .*\n)+)", text, re.M)[0]
+        shown = re.search(r"^    % macros\.tex\n((?:    .*\n)+)", read("docs/TEX.md"), re.M)[0]
         put(self.folder, {"macros.tex": shown})
         done = self.run_shown("printf '\\\\R' | ./tex2mathml --definitions macros.tex")
         self.assertEqual((done.returncode, done.stdout.count("<mi>ℝ</mi>".encode())), (0, 1), done)
@@ -245,77 +223,51 @@ class Readme(Case):
 
 class Language(Case):
     """The tables of LANGUAGE.md that the program can show, and the texts of faults."""
-    text = (ROOT / "docs/LANGUAGE.md").read_text()
-
-    def table(self, head):
-        """The cells of the rows of the table with this head."""
-        rows = self.text.partition(f"\n| {head} |\n")[2].partition("\n\n")[0].split("\n")[1:]
-        self.assertTrue(rows, msg=head)
-        return [[cell.strip() for cell in row.strip("|").split("|")] for row in rows]
 
     def test_documents(self):
-        for shown, answer in self.table("Document | Answer, where M(x) is the `math` element of x"):
+        """In an answer, code is taken as it is, and M(x) is markup."""
+        for shown, answer in rows(read("docs/LANGUAGE.md"), "Document"):
             with self.subTest(shown):
                 done = run([program(), "document"], stdin=shown.strip("`").encode())
+                parts = re.findall(r"M\(`([^`]*)`\)|`([^`]*)`", answer.partition(",")[0].partition(":")[0])
                 if answer.startswith("refused"):
                     self.expect(done, 1, b"", None)
                 else:
-                    self.expect(done, stdout="".join(self.parts(answer.partition(",")[0].partition(":")[0])).encode())
-
-    @staticmethod
-    def parts(answer):
-        """The texts of an answer: its code is taken as it is, and M(x) is markup."""
-        for formula, code in re.findall(r"M\(`([^`]*)`\)|`([^`]*)`", answer):
-            yield answer_of(formula) if formula else code
+                    self.expect(done, stdout="".join(answer_of(formula) if formula else code for formula, code in parts).encode())
 
     def test_faults(self):
         """The definition of a fault's text is in quotation marks, with the number of bytes between two of them."""
-        definitions = (ROOT / "crates/latex2mathml/specs/Faults.antt").read_text()
-        texts = {"List" if name == "Unlisted" else name: "N".join(re.findall(r'codes "([^"]*)"', text))
-                 for name, text in re.findall(r"^fault_text \(?(\w+).*? = (.*)", definitions, re.M)}
+        texts = {"List" if name == "Unlisted" else name: "N".join(re.findall(r'codes "([^"]*)"', text)) for name, text
+                 in re.findall(r"^fault_text \(?(\w+).*? = (.*)", read("crates/latex2mathml/specs/Faults.antt"), re.M)}
         texts["Refused"] = "the text of the refusal"
-        self.assertEqual({fault.strip("`"): text.strip("`") for fault, _, text in self.table("Fault | When | Text")}, texts)
+        said = rows(read("docs/LANGUAGE.md"), "Fault", "When", "Text")
+        self.assertEqual({fault.strip("`"): text.strip("`") for fault, _, text in said}, texts)
 
 
-class Numbers(Case):
-    """The numbers and names that documents take from the sources."""
+class Sources(Case):
+    """What documents take from the sources."""
 
-    def says(self, document, text):
-        self.assertIn(text, " ".join((ROOT / document).read_text().split()), document)
-
-    def test_commands(self):
-        count = len(cases.commands())
-        for document, noun in (("README.md", "commands"), ("docs/COMMANDS.md", "entries"), ("docs/DECISIONS.md", "texts"),
-                               ("docs/ARCHITECTURE.md", "entries")):
-            self.says(document, f" {count} {noun}")
+    @each_row({
+        "entries": ("docs/COMMANDS.md", r"It reads (\d+) commands, and the environments", {
+            "README.md": " {} commands", "docs/DECISIONS.md": " {} texts", "docs/ARCHITECTURE.md": " {} entries"}),
+        "comparisons": ("crates/latex2mathml_grammar/specs/Counts.antt", r"n ≤ (\d+) \* backslashes", {
+            "README.md": "at most {} compared names per command", "docs/PROMISES.md": "1 to {} names for each token",
+            "cases/counts.txt": "A command is compared with 1 to {} names"}),
+        "levels": ("crates/latex2mathml/specs/Files.antt", r"(?m)^levels_read = (\d+)$", {
+            "docs/PROMISES.md": "at most {} levels are read", "docs/DIFFERENCES.md": "to {} levels", "docs/DECISIONS.md": "at most {} levels"}),
+    })
+    def numbers(self, source, number, said):
+        found = re.search(number, read(source))[1]
+        for document, text in said.items():
+            self.assertIn(text.format(found), " ".join(read(document).split()), document)
 
     def test_environments(self):
-        definition = (ROOT / "crates/latex2mathml_trees/specs/Productions.antt").read_text().partition("\nenvironment_tree name")[2]
-        names = set(re.findall(r'bytes_eq name \(codes "(\w+)"\)', definition))
-        said = re.search(r"the environments ((?:`\w+`(?:, | and )?)+)", (ROOT / "README.md").read_text())
-        self.assertEqual(set(re.findall(r"`(\w+)`", said[1])), names)
+        said = re.search(r"the environments ((?:`\w+`(?:, | and )?)+)", read("README.md"))[1]
+        self.assertEqual(sorted(CODE.findall(said)), sorted(token_commands.environments()))
 
-    def test_comparisons(self):
-        definition = (ROOT / "crates/latex2mathml_grammar/specs/Counts.antt").read_text()
-        most = re.search(r"n ≤ (\d+) \* backslashes", definition)[1]
-        self.says("README.md", f"at most {most} compared names per command")
-        self.says("docs/PROMISES.md", f"1 to {most} names for each token")
-        self.says("cases/counts.txt", f"A command is compared with 1 to {most} names")
-
-    def test_levels(self):
-        levels = re.search(r"(?m)^levels_read = (\d+)$", (ROOT / "crates/latex2mathml/specs/Files.antt").read_text())[1]
-        self.says("docs/PROMISES.md", f"at most {levels} levels are read")
-        self.says("docs/DIFFERENCES.md", f"to {levels} levels")
-        self.says("docs/DECISIONS.md", f"at most {levels} levels")
-
-
-class Derives(Case):
-    """The table of DIFFERENCES.md names the traits that each new type derives."""
-
-    def test_the_table_is_that_of_the_sources(self):
-        table = (ROOT / "docs/DIFFERENCES.md").read_text().partition("| Type | Derives |")[2].partition("\n\n")[0]
-        said = {name: re.findall(r"`(\w+)`", traits) for names, traits in re.findall(r"^\| (`.*?`) \| (.*) \|$", table, re.M)
-                for name in re.findall(r"`(\w+)`", names)}
+    def test_derived_traits(self):
+        """The table of DIFFERENCES.md names the traits that each new type derives."""
+        said = {name: CODE.findall(traits) for names, traits in rows(read("docs/DIFFERENCES.md"), "Type", "Derives") for name in CODE.findall(names)}
         found = {}
         for source in quotes.sources():
             types = re.findall(r"^#\[derive\((.*)\)\]\n(?:#.*\n)*pub (?:struct|enum) (\w+)", source.read_text(), re.M)
@@ -323,113 +275,84 @@ class Derives(Case):
         self.assertTrue(said)
         self.assertEqual({name: found.get(name) for name in said}, said)
         of_the_crate = {"Token", "Node", "LatexError", "DisplayStyle", "Variant", "Accent", "LineThickness", "ColumnAlign"}
-        library = (ROOT / "crates/latex2mathml/src/lib.rt").read_text()
-        handed_on = re.findall(r"\w+", " ".join(re.findall(r"^pub use [^;]*;", library, re.M)))
+        handed_on = re.findall(r"\w+", " ".join(re.findall(r"^pub use [^;]*;", read("crates/latex2mathml/src/lib.rt"), re.M)))
         self.assertEqual([name for name in found if name in handed_on and name not in said and name not in of_the_crate], [])
 
 
-class Page(Case):
+class Integrations(Case):
     """What pages link, and what the packages do by default."""
 
-    LINKS = re.compile(r'^    (<link .*>)\n    (<script .*></script>)$', re.M)
-
     def test_the_two_lines_that_a_page_links(self):
-        lines = self.LINKS.findall((ROOT / "page/README.md").read_text())
-        self.assertEqual(lines, self.LINKS.findall((ROOT / "README.md").read_text()))
-        linked = re.findall(r'(?:href|src)="([^"]*)"', " ".join(*lines))
-        self.assertEqual(sorted(linked), ["page/latex2mathml.css", "page/latex2mathml.js"])
-        for name in linked:
-            self.assertTrue((ROOT / name).is_file(), msg=name)
+        lines, again = (re.findall(r"^    (?:<link .*>|<script .*></script>)$", read(it), re.M) for it in ("page/README.md", "README.md"))
+        self.assertEqual(lines, again)
+        linked = re.findall(r'(?:href|src)="([^"]*)"', " ".join(lines))
+        self.assertEqual(linked, ["page/latex2mathml.css", "page/latex2mathml.js"])
+        self.assertEqual([name for name in linked if not (ROOT / name).is_file()], [])
 
     def test_defaults(self):
         """The column of defaults is what each integration takes for an option that is not given."""
-        table = (ROOT / "integrations/README.md").read_text().partition("| Option | Default |")[2].partition("\n\n")[0]
-        said = dict(re.findall(r"^\| `(\w+)` \| `?(\w+)`? \|", table, re.M))
+        said = column(read("integrations/README.md"), "Option", "Default")
         self.assertEqual(said, {"macros": "none", "annotation": "false", "strict": "false"})
-        python = "integrations/python/src/latex2mathml_proved"
         for source, form in (
-            (f"{python}/markdown.py", r'^ +"strict": \[(.*?), "'),
+            ("integrations/python/src/latex2mathml_proved/markdown.py", r'^ +"strict": \[(.*?), "'),
             ("integrations/pandoc/latex2mathml.lua", r"^    strict = (.*?),"),
             ("integrations/node/markdown-it.js", r"^    const \{.*\bstrict = (.*?),"),
         ):
             with self.subTest(source):
-                found = re.search(form, (ROOT / source).read_text(), re.M)
-                self.assertEqual(found and found[1].lower(), said["strict"])
+                self.assertEqual(re.search(form, read(source), re.M)[1].lower(), said["strict"])
 
     def test_options(self):
         """The READMEs list the options that the filter and the plugin of markdown-it take, and no others."""
-        lua = (ROOT / "integrations/pandoc/latex2mathml.lua").read_text().partition("local READERS = {")[2].partition("\n}")[0]
-        plugin = re.search(r"checkOptions\(options, \[(.*?)\]", (ROOT / "integrations/node/markdown-it.js").read_text())[1]
+        lua = read("integrations/pandoc/latex2mathml.lua").partition("local READERS = {")[2].partition("\n}")[0]
+        plugin = re.search(r"checkOptions\(options, \[(.*?)\]", read("integrations/node/markdown-it.js"))[1]
         for folder, taken in (("pandoc", re.findall(r"^  (\w+) = ", lua, re.M)), ("node", re.findall(r"\w+", plugin))):
             with self.subTest(folder):
-                table = (ROOT / f"integrations/{folder}/README.md").read_text().partition("| Option | Default |")[2].partition("\n\n")[0]
-                self.assertEqual(sorted(re.findall(r"^\| `(\w+)` \|", table, re.M)), sorted(taken))
+                self.assertEqual(sorted(column(read(f"integrations/{folder}/README.md"), "Option", "Default")), sorted(taken))
 
     def test_defaults_of_python(self):
         """The tables of the README have the options of Python-Markdown and their defaults."""
-        table = (ROOT / "integrations/python/README.md").read_text().partition("## Python-Markdown\n")[2].partition("\n## ")[0]
-        source = (ROOT / "integrations/python/src/latex2mathml_proved/markdown.py").read_text()
-        self.assertEqual(re.findall(r"^\| `(\w+)` \| `(.*?)` \|", table, re.M), re.findall(r'^ +"(\w+)": \[(.*?), "', source, re.M))
+        said = section(read("integrations/python/README.md"), "Python-Markdown")
+        source = read("integrations/python/src/latex2mathml_proved/markdown.py")
+        self.assertEqual(re.findall(r"^\| `(\w+)` \| `(.*?)` \|", said, re.M), re.findall(r'^ +"(\w+)": \[(.*?), "', source, re.M))
+
+    def test_licences(self):
+        """Each package that people take out of the repository has its licence."""
+        for folder in ("integrations/node", "integrations/rust"):
+            self.assertEqual(read(f"{folder}/LICENSE"), read("LICENSE"), folder)
 
 
 class Figures(Case):
     """The figures of the READMEs match the files that the benchmarks write."""
 
-    def test_ratios(self):
-        """How many times as many instructions the crate executes, by the table below that sentence."""
-        text = (ROOT / "README.md").read_text()
-        least, most = re.search(r"executes (\d\.\d) to (\d\.\d) times as many instructions", text).groups()
-        rows = [(int(ours), int(theirs)) for ours, theirs in re.findall(r"\| (\d+) million, (\d+) million, ", text)]
-        ratios = [theirs / ours for ours, theirs in rows]
-        self.assertTrue(ratios)
-        self.assertEqual((least, most), (f"{min(ratios):.1f}", f"{max(ratios):.1f}"))
+    def setUp(self):
+        self.text = read("README.md")
+        self.counted = {name.strip(): int(count.replace(",", "")) for count, name in self.lines("bench/instructions.txt")}
 
     @staticmethod
-    def counted():
-        """The instructions of each workload, by its name."""
-        lines = [line.split("  ", 1) for line in (ROOT / "bench/instructions.txt").read_text().splitlines()]
-        return {name.strip(): int(count.replace(",", "")) for count, name in lines}
+    def lines(name):
+        """The lines of a file of counts: a count, and what it is of."""
+        return [line.split("  ", 1) for line in read(name).splitlines()]
+
+    def ranges(self, sentence, ratios):
+        """The sentence says the least and the most of these ratios."""
+        self.assertEqual(re.search(sentence, self.text).groups(), (f"{min(ratios):.1f}", f"{max(ratios):.1f}"))
+
+    def test_ratios(self):
+        """How many times as many instructions the crate executes, by the table below that sentence."""
+        shown = re.findall(r"\| (\d+) million, (\d+) million, ", self.text)
+        self.ranges(r"executes (\d\.\d) to (\d\.\d) times as many instructions", [int(theirs) / int(ours) for ours, theirs in shown])
 
     def test_tex_ratios(self):
         """How many times as many instructions `tex_to_mathml` executes as `latex_to_mathml`, for the same formulas."""
-        text = (ROOT / "README.md").read_text()
-        found = re.search(r"`tex_to_mathml` executes (\d\.\d) to (\d\.\d) times as many instructions as `latex_to_mathml`", text)
-        counted = self.counted()
-        ratios = [count / counted[name.removeprefix("tex2mathml ")] for name, count in counted.items() if name.startswith("tex2mathml ")]
-        self.assertEqual(found.groups(), (f"{min(ratios):.1f}", f"{max(ratios):.1f}"))
+        both = [(count, self.counted[name.removeprefix("tex2mathml ")]) for name, count in self.counted.items() if name.startswith("tex2mathml ")]
+        self.ranges(r"`tex_to_mathml` executes (\d\.\d) to (\d\.\d) times as many instructions as `latex_to_mathml`",
+                    [tex / latex for tex, latex in both])
 
     def test_instructions(self):
-        counted = {name: count for name, count in self.counted().items() if not name.startswith("tex2mathml ")}
-        shown = re.findall(r"^\| (?:a document of )?`?([^|`]+?)`?(?:, over and over)? \| (\d+) million, ", (ROOT / "README.md").read_text(), re.M)
+        shown = re.findall(r"^\| (?:a document of )?`?([^|`]+?)`?(?:, over and over)? \| (\d+) million, ", self.text, re.M)
         self.assertEqual({name.strip(): int(millions) for name, millions in shown},
-                         {name: round(count / 1e6) for name, count in counted.items()})
+                         {name: round(count / 1e6) for name, count in self.counted.items() if not name.startswith("tex2mathml ")})
 
     def test_instructions_of_a_call(self):
-        counted = [line.split("  ", 1) for line in (ROOT / "bench/calls.txt").read_text().splitlines()]
-        shown = re.findall(r"^\| (\d+) \| [\d,]+ \| [\d,]+ \| ([\d,]+) \| [\d,]+ \|$", (ROOT / "bench/README.md").read_text(), re.M)
-        self.assertEqual(shown, [(str(len(latex)), count) for count, latex in counted])
-
-
-class Licences(Case):
-    """Each package that people take out of the repository has its licence."""
-
-    def test_all_are_one(self):
-        for folder in ("integrations/node", "integrations/rust"):
-            with self.subTest(folder):
-                self.assertEqual((ROOT / folder / "LICENSE").read_bytes(), (ROOT / "LICENSE").read_bytes())
-
-
-class Versions(Case):
-    """The version is the newest heading of the change log, and all other files say the same."""
-
-    def test_all_are_one(self):
-        for name, pattern in {
-            "crates/latex2mathml_c/include/latex2mathml.h": r'#define LATEX2MATHML_VERSION "(.*)"',
-            "integrations/python/pyproject.toml": r'^version = "(.*)"',
-            "integrations/node/package.json": r'"version": "(.*)"',
-            "integrations/rust/Cargo.toml": r'^version = "0\.2\.3\+(.*)"',
-        }.items():
-            with self.subTest(name):
-                found = re.search(pattern, (ROOT / name).read_text(), re.M)
-                self.assertIsNotNone(found, f"{name} has no version")
-                self.assertEqual(found[1], newest_version())
+        shown = re.findall(r"^\| (\d+) \| [\d,]+ \| [\d,]+ \| ([\d,]+) \| [\d,]+ \|$", read("bench/README.md"), re.M)
+        self.assertEqual(shown, [(str(len(latex)), count) for count, latex in self.lines("bench/calls.txt")])

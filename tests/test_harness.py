@@ -11,14 +11,13 @@ import unittest.mock
 
 from tests import cases
 from tests.__main__ import NO_TOOLCHAIN, name_of
-from tests.support import ROOT, SKIP_NOTHING, Case, hear_signals, processors, put, run
-from tools.progress import clock
+from tests.support import ROOT, SKIP_NOTHING, Case, each_row, hear_signals, processors, put, run
 
 FAKES = ROOT / "tests/fakes/harness"
 
 SAMPLES = {
     "test_sample.py": '''
-import os, time, unittest
+import os, pathlib, subprocess, unittest, pytest
 
 class Sample(unittest.TestCase):
     def test_fails(self):
@@ -46,21 +45,16 @@ class Sample(unittest.TestCase):
             pass
         raise OSError("it stops")
 
-class Unready(unittest.TestCase):
+class Passes(unittest.TestCase):
+    def test_it(self):
+        pass
+
+class Unready(Passes):
     @classmethod
     def setUpClass(cls):
         raise OSError("nothing is ready")
 
-    def test_passes(self):
-        pass
-''',
-    "test_ends.py": '''
-import os, unittest
-
-class Ends(unittest.TestCase):
-    def test_first(self):
-        pass
-
+class Ends(Passes):
     def test_then(self):
         with self.subTest("before"):
             pass
@@ -69,27 +63,13 @@ class Ends(unittest.TestCase):
     def test_thereafter(self):
         pass
 
-class Others(unittest.TestCase):
-    def test_it(self):
-        pass
-''',
-    "test_last.py": '''
-import os, unittest, pytest
-
-class Ends:
-    def pytest_sessionfinish(self):
-        os._exit(0)
-
-class Last(unittest.TestCase):
+class Last(Passes):
     @pytest.fixture(autouse=True)
     def end(self, request):
-        request.config.pluginmanager.register(Ends())
+        request.config.pluginmanager.register(self)
 
-    def test_it(self):
-        pass
-''',
-    "test_hangs.py": '''
-import os, pathlib, subprocess, unittest, pytest
+    def pytest_sessionfinish(self):
+        os._exit(0)
 
 class Hangs(unittest.TestCase):
     def test_it(self):
@@ -104,24 +84,19 @@ class HangsShortly(Hangs):
         pass
 ''',
     "test_order.py": '''
-import os, unittest
+import os, unittest, pytest
 
 class Short(unittest.TestCase):
     def test_it(self):
         with open(os.environ["ORDER"], "a") as order:
-            order.write("short " + os.environ.get("LATEX2MATHML_BUILD_NOTHING", "-") + "\\n")
-''',
-    "test_slow.py": '''
-import os, unittest, pytest
+            order.write(f"{type(self).__name__} {os.environ.get('LATEX2MATHML_BUILD_NOTHING')}\\n")
 
-pytestmark = pytest.mark.long
-
-class Long(unittest.TestCase):
-    def test_it(self):
-        with open(os.environ["ORDER"], "a") as order:
-            order.write("long\\n")
+@pytest.mark.long
+class Long(Short):
+    pass
 ''',
 }
+
 
 class Harness(Case):
     def setUp(self):
@@ -132,111 +107,102 @@ class Harness(Case):
         put(self.house, {"crates.txt": "low:\none: low\nlatex2mathml_c staticlib: one\n", "HANDLES": "",
                          "crates/one/src/lib.rt": "\n", "crates/latex2mathml_c/src/lib.rt": "\n"})
         put(self.folder, {"bin/rt": (FAKES / "rt").read_text(), "kit/bin/rattle": (FAKES / "rattle").read_text()})
-
-    def add(self, *names):
-        put(self.house / "tests", {name: SAMPLES[name] for name in names})
-
-    def environment(self, **more):
+        self.process, self.order = self.folder / "process", self.folder / "order"
         kept = {name: value for name, value in os.environ.items() if not name.startswith(("PYTEST", "LATEX2MATHML"))}
-        return {**kept, "PATH": f"{self.folder / 'bin'}:{os.environ['PATH']}", "ORDER": str(self.folder / "order"),
-                "PROCESS": str(self.folder / "process"), **more}
+        self.environment = {**kept, "PATH": f"{self.folder / 'bin'}:{os.environ['PATH']}", "ORDER": str(self.order), "PROCESS": str(self.process)}
+        put(self.house / "tests", {self.sample: SAMPLES[self.sample]})
 
     def comes_to(self, passed, failed, *words, before=None, **more):
         """The output of `./test` with these words. Its last line has these numbers; its status is 1 if something
         failed."""
         words = [sys.executable, "-B", "-m", "tests", *words]
-        done = run(words, cwd=self.house, env=self.environment(**more), timeout=120, preexec_fn=before)
+        done = run(words, cwd=self.house, env={**self.environment, **more}, timeout=120, preexec_fn=before)
         shown = (done.stdout + done.stderr).decode()
         self.assertEqual(done.stdout.decode().splitlines()[-1], f"{passed} passed, {failed} failed", shown)
         self.assertEqual(done.returncode, int(failed > 0), shown)
         return shown
 
+    def has_ended(self):
+        """Whether the process that a sample started has ended."""
+        return not os.path.exists(f"/proc/{self.process.read_text()}")
+
 
 class Counts(Harness):
+    sample = "test_sample.py"
+
     def test_each_case_and_each_part_is_counted(self):
-        self.add("test_sample.py")
-        shown = self.comes_to(6, 4, "test_sample")
+        shown = self.comes_to(6, 4, "test_sample.Sample", "test_sample.Unready")
         for told in ("AssertionError: 1 != 2 : one is not two", "test_parts [1]", "it stops", "nothing is ready", "a tool is missing"):
             self.assertIn(told, shown)
         self.assertNotIn("a word of no interest", shown)
 
     def test_what_is_skipped_fails_where_nothing_is_to_be(self):
-        self.add("test_sample.py")
         for case, passed in (("test_skipped", 0), ("test_skipped_part", 1)):
             with self.subTest(case):
                 self.comes_to(passed, 0, f"test_sample.Sample.{case}")
                 self.comes_to(passed, 1, f"test_sample.Sample.{case}", **{SKIP_NOTHING: "1"})
 
     def test_a_process_that_ends_before_its_cases(self):
-        self.add("test_ends.py")
-        shown = self.comes_to(4, 1, "test_ends")
-        self.assertIn("FAILED tests/test_ends.py::Ends::test_then\n", shown)
+        shown = self.comes_to(4, 1, "test_sample.Ends", "test_sample.Passes")
+        self.assertIn("FAILED tests/test_sample.py::Ends::test_then\n", shown)
 
     def test_a_process_that_ends_after_its_cases(self):
         """The rest of its output is then lost."""
-        self.add("test_last.py")
-        self.comes_to(1, 1, "test_last")
+        self.comes_to(1, 1, "test_sample.Last")
 
     def test_a_case_that_does_not_end(self):
         """It is named, and those after it are run, although it waits for a process that never ends."""
-        self.add("test_hangs.py")
-        shown = self.comes_to(1, 1, "test_hangs.HangsShortly")
+        shown = self.comes_to(1, 1, "test_sample.HangsShortly")
         self.assertIn("Timeout", shown)
-        self.assertIn("FAILED tests/test_hangs.py::HangsShortly::test_it\n", shown)
-        self.wait_for(lambda: not os.path.exists(f"/proc/{(self.folder / 'process').read_text()}"))
-
-    def test_a_mark_that_is_misspelled(self):
-        self.add("test_slow.py")
-        path = self.house / "tests/test_slow.py"
-        path.write_text(path.read_text().replace("mark.long", "mark.lnog"))
-        shown = self.comes_to(0, 1, "test_slow")
-        self.assertIn("'lnog' not found", shown)
+        self.assertIn("FAILED tests/test_sample.py::HangsShortly::test_it\n", shown)
+        self.wait_for(self.has_ended)
 
     def test_a_name_that_nothing_has(self):
-        self.add("test_sample.py")
         for word in ("test_sample.Nothing", "test_nothing", "test_sample.Sample.test_nothing"):
             with self.subTest(word):
                 self.comes_to(0, 1, word)
 
     def test_an_interruption_ends_all(self):
-        self.add("test_hangs.py")
-        process = self.folder / "process"
-        words = [sys.executable, "-B", "-m", "tests", "test_hangs.Hangs.test_it"]
-        how = {"cwd": self.house, "env": self.environment(), "stdout": subprocess.DEVNULL, "preexec_fn": hear_signals}
+        words = [sys.executable, "-B", "-m", "tests", "test_sample.Hangs.test_it"]
+        how = {"cwd": self.house, "env": self.environment, "stdout": subprocess.DEVNULL, "preexec_fn": hear_signals}
         for number in (signal.SIGINT, signal.SIGTERM):
             with self.subTest(number), subprocess.Popen(words, **how) as running:
-                self.wait_for(process.exists)
-                self.wait_for(process.read_text)
+                self.wait_for(self.process.exists)
+                self.wait_for(self.process.read_text)
                 running.send_signal(number)
                 self.assertEqual(running.wait(30), 128 + number)
-                self.wait_for(lambda: not os.path.exists(f"/proc/{process.read_text()}"))
-                process.unlink()
+                self.wait_for(self.has_ended)
+                self.process.unlink()
 
 
 class Whole(Harness):
+    sample = "test_order.py"
+
     def test_all_passes(self):
-        self.add("test_order.py", "test_slow.py")
         one = {min(os.sched_getaffinity(0))}
         shown = self.comes_to(7, 0, BUILDS="1", before=lambda: os.sched_setaffinity(0, one))
         self.assertIn("    3 passed, 0 failed (1 proved)\n", shown)
-        self.assertEqual((self.folder / "order").read_text(), "long\nshort 1\n")
+        self.assertEqual(self.order.read_text(), "Long 1\nShort 1\n")
         made, source = self.house / "crates/one/out/one", self.house / "crates/one/src/lib.rt"
         self.assertLess(made.stat().st_mtime, source.stat().st_mtime)
 
     def test_the_proofs_alone(self):
-        self.add("test_order.py")
         self.comes_to(5, 0, "proofs")
-        self.assertFalse((self.folder / "order").exists())
+        self.assertFalse(self.order.exists())
+
+    def test_a_mark_that_is_misspelled(self):
+        path = self.house / "tests/test_order.py"
+        path.write_text(path.read_text().replace("mark.long", "mark.lnog"))
+        self.assertIn("'lnog' not found", self.comes_to(0, 1, "test_order"))
 
     def test_nothing_is_tried_over_what_is_not_proved(self):
-        self.add("test_order.py")
         for more, passed in [({"STATUS": "1", "SAYS": "2 passed, 1 failed (it)"}, 3), ({"STATUS": "1"}, 4),
                              ({"SAYS": "no line"}, 1), ({"LIBRARY": "1"}, 4)]:
             with self.subTest(more):
                 shown = self.comes_to(passed, 1, **more)
                 self.assertEqual("line 100\n" in shown, "LIBRARY" not in more)
                 self.assertNotIn("line 50\n", shown)
-                self.assertFalse((self.folder / "order").exists())
+                self.assertFalse(self.order.exists())
 
     def test_a_file_that_is_not_in_its_layout(self):
         for formats, told in (("eval echo >>src/lib.rt", "crates/one/src/lib.rt"), ("false", "one")):
@@ -251,15 +217,13 @@ class Whole(Harness):
         for words in ([], ["proofs"]):
             with self.subTest(words):
                 command = [sys.executable, "-B", "-m", "tests", *words]
-                done = run(command, cwd=self.house, env={**self.environment(), "PATH": str(self.house)})
+                done = run(command, cwd=self.house, env={**self.environment, "PATH": str(self.house)})
                 self.expect(done, 1, b"", (NO_TOOLCHAIN + "\n").encode())
         self.assertIn("\n## Try it\n", (ROOT / "README.md").read_text(encoding="utf-8"))
 
     def test_a_module_without_a_case(self):
-        self.add("test_order.py")
         (self.house / "tests/test_empty.py").write_text("")
-        shown = self.comes_to(6, 1)
-        self.assertIn("FAILED: no case of tests/test_empty.py was tried\n", shown)
+        self.assertIn("FAILED: no case of tests/test_empty.py was tried\n", self.comes_to(7, 1))
 
 
 class Names(Case):
@@ -289,20 +253,16 @@ class Names(Case):
                     quota.write_text(text)
                 self.assertEqual(processors(), count)
 
-    def test_clock(self):
-        self.assertEqual([clock(0), clock(59.9), clock(100), clock(3723)], ["0:00", "0:59", "1:40", "1:02:03"])
-
 
 class SilentProgram(Case):
     """`tools/try-silent-program` tries the classes that it is given, and names each that passes."""
 
-    def test_a_class_that_fails_over_a_silent_program(self):
-        self.expect(run([ROOT / "tools/try-silent-program", "test_beginnings"], timeout=300), stdout=b"1 passed, 0 failed\n")
-
-    def test_a_class_that_does_not_ask(self):
-        done = run([ROOT / "tools/try-silent-program", "test_wrong_bodies"], timeout=300)
-        self.assertEqual((done.returncode, done.stderr), (0, b""))
-        self.assertRegex(done.stdout, rb"^(does not ask: tests/test_wrong_bodies.py::\w+\n)+0 passed, 0 failed\n$")
-
-    def test_no_class(self):
-        self.expect(run([ROOT / "tools/try-silent-program", "test_nothing"], timeout=300), 1, b"", b"try-silent-program: no class has such a name\n")
+    @each_row({
+        "a class that fails over a silent program": ("test_beginnings", 0, rb"1 passed, 0 failed\n", b""),
+        "a class that does not ask": ("test_wrong_bodies", 0, rb"(does not ask: tests/test_wrong_bodies.py::\w+\n)+0 passed, 0 failed\n", b""),
+        "no class": ("test_nothing", 1, b"", b"try-silent-program: no class has such a name\n"),
+    })
+    def tries(self, word, status, said, told):
+        done = run([ROOT / "tools/try-silent-program", word], timeout=300)
+        self.expect(done, status, None, told)
+        self.assertRegex(done.stdout, rb"\A%s\Z" % said)

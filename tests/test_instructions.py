@@ -20,11 +20,8 @@ TEX_LOADS = {name.strip(): text for name, text in workloads.tex_workloads()}
 
 class Figures(support.Case):
     def test_names(self):
-        """Each workload has a figure, and each figure a workload."""
+        """Each workload and each formula of `bench/calls.py` has a figure, and each figure is of one of them."""
         self.assertEqual(list(measure.figures()), [*LOADS, *TEX_LOADS])
-
-    def test_formulas(self):
-        """Each formula of `bench/calls.py` has a figure, and each figure a formula."""
         self.assertEqual(list(calls.figures()), calls.FORMULAS)
 
 

@@ -9,7 +9,7 @@ import threading
 
 from tests import support
 from tests.browsers import chromium, firefox, open_browser
-from tests.command_table import on_the_page
+from tests.cases import commands as entries
 
 PAGES = support.ROOT / "tests/page"
 
@@ -145,7 +145,7 @@ def data(name):
 
 def commands(*kinds):
     """The commands whose tokens are of these kinds."""
-    return sorted(f"\\{name}" for name, token in on_the_page().items() if token.partition("(")[0] in kinds or not kinds)
+    return sorted(f"\\{it.name}" for it in entries() if it.token.partition("(")[0] in kinds or not kinds)
 
 
 def signs():

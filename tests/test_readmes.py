@@ -30,9 +30,6 @@ MEMBER = "x_i^2 \\in \\mathbb{R}"
 
 MANIFEST = '[package]\nname = "site"\nversion = "0.1.0"\nedition = "2021"\n\n'
 
-# How the plugins are imported, and a line that shows that the file is read.
-IMPORTS = "{lines}\nconsole.log(typeof remarkLatex2mathml, typeof rehypeLatex2mathml);\n"
-
 # The lines of the README for Python that make calls, with what they need.
 PYTHON = """
 import markdown
@@ -218,7 +215,8 @@ class OfThePackageForNode(Readme):
             self.expect(self.run_script(re.sub(r"^document\((.*?)\);", r"console.log(document(\1));", calls, flags=re.MULTILINE), "a.cjs"),
                         stdout=f"{document}\n".encode())
         with self.subTest("imports"):
-            self.expect(self.run_script(IMPORTS.format(lines=imports), "a.mjs"), stdout=b"function function\n")
+            shows = "console.log(typeof remarkLatex2mathml, typeof rehypeLatex2mathml);\n"
+            self.expect(self.run_script(f"{imports}\n{shows}", "a.mjs"), stdout=b"function function\n")
         with self.subTest("markdown-it"):
             if not (PACKAGES / "markdown-it").exists():
                 self.skipTest("markdown-it not found")

@@ -17,17 +17,14 @@ Edit = collections.namedtuple("Edit", "function clause path pairs")
 
 @functools.cache
 def edits():
-    """The wrong bodies, by `CRATE/NAME`."""
-    return {f"{it.parent.parent.name}/{it.stem}": edit(it) for it in sorted(ROOT.glob("crates/*/must-fail/*.edit"))}
+    """The wrong bodies, by `CRATE/NAME`: the function and the clause that each names, the source file, and each replacement."""
+    return {f"{it.parent.parent.name}/{it.stem}": edit(it.parent.parent, it.read_text()) for it in sorted(ROOT.glob("crates/*/must-fail/*.edit"))}
 
 
-def edit(path):
-    """The wrong body in this file: the function and the clause that it names, the source file, and each replacement."""
-    text = path.read_text()
+def edit(crate, text):
     clause = re.match(r"# clause: (?:\w+::)?(\w+) (\w+) — \S.*\n", text)
-    pairs = re.findall(r"^old: (.*)\nnew: (.*)$", text, re.M)
     file = re.search(r"^file: (src/\S+)$", text, re.M)
-    return Edit(*(clause.groups() if clause else ("", "")), path.parent.parent / file[1], pairs)
+    return Edit(*(clause.groups() if clause else ("", "")), crate / file[1], re.findall(r"^old: (.*)\nnew: (.*)$", text, re.M))
 
 
 class WrongBodies(unittest.TestCase):

@@ -20,8 +20,10 @@ FILES = {
 }
 
 # the names below the folder in the order of the walk, with the folder itself
-WALKED = ["", ".html", "a.html", "b.html", "c.htm", "d", "d/e.html", "f.html", "g", "g/h.html", "z.html"]
-CONVERTED = ["a.html", "g/h.html", "z.html"]
+WALKED = sorted({"", "d", "g", *FILES})
+
+# the lines of such a walk
+DUE = [("b.html", UNPAIRED), ("f.html", NO_TEXT)]
 
 
 class Folder:
@@ -29,7 +31,6 @@ class Folder:
 
     def __init__(self, path):
         self.path = pathlib.Path(path)
-        self.due = [("b.html", UNPAIRED), ("f.html", NO_TEXT)]
 
     def fill(self):
         put(self.path, {name: held for name, (held, _) in FILES.items()})
@@ -37,10 +38,6 @@ class Folder:
     def stands(self, name):
         """Whether the file has the contents that it has after a walk with enough memory."""
         return (self.path / name).read_bytes() == FILES[name][1]
-
-    def keeps(self, name):
-        """Whether the file is unchanged."""
-        return (self.path / name).read_bytes() == FILES[name][0]
 
     def faults_in(self, lines):
         """The names and the faults of a walk's lines."""
@@ -51,34 +48,27 @@ class Folder:
             yield path[len(prefix):].lstrip(b"/").decode(), fault.decode()
 
     def judge(self, case, lines, is_refused, is_one, is_wanting):
-        """Checks the lines and the files after a walk in which a request was refused, or one and all that follow it.
+        """Checks the lines and the files after a walk in which a request was refused, or one and all that follow it. A line is about
+        a path of the folder, in the order of the walk, with a possible fault.
 
         `is_wanting` says that the walk itself ran out of memory; then there are no lines.
         """
-        case.assertEqual([name for name in FILES if not self.keeps(name) and not self.stands(name)], [], "broken files")
+        for name, contents in FILES.items():
+            case.assertIn((self.path / name).read_bytes(), contents, f"{name} is broken")
         if is_wanting:
             case.assertTrue(is_refused)
-            done = [self.stands(name) for name in CONVERTED]
+            done = [self.stands(name) for name, (before, after) in FILES.items() if before != after]
             case.assertEqual(done, sorted(done, reverse=True), "a file behind one that was not converted")
             return
         told = list(self.faults_in(lines))
-        if not is_refused:
-            case.assertTrue(self.differs_at(told, None), msg=told)
-            return
-        self.judge_faults(case, told)
-        if is_one:
-            case.assertTrue(any(self.differs_at(told, top) for top in WALKED), told)
-
-    def judge_faults(self, case, told):
-        """Each line is about a path of the folder, in the order of the walk, with a possible fault."""
-        places = [WALKED.index(name) for name, _ in told]
-        case.assertEqual(places, sorted(places))
-        for name, fault in told:
-            case.assertTrue((name, fault) in self.due or fault in WANTING, (name, fault))
+        case.assertEqual(told, sorted(told, key=lambda line: WALKED.index(line[0])))
+        case.assertEqual([line for line in told if line not in DUE and line[1] not in WANTING], [])
+        if is_one or not is_refused:
+            case.assertTrue(any(self.differs_at(told, top) for top in (WALKED if is_refused else [None])), told)
 
     def differs_at(self, told, top):
         """Whether the lines and files are those of enough memory, except for this path and those below it."""
         def outside(name):
             return top is None or (top != "" and name != top and not name.startswith(top + "/"))
-        lines_stand = [line for line in told if outside(line[0])] == [line for line in self.due if outside(line[0])]
+        lines_stand = [line for line in told if outside(line[0])] == [line for line in DUE if outside(line[0])]
         return lines_stand and all(self.stands(name) for name in FILES if outside(name))

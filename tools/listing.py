@@ -4,17 +4,10 @@ import unicodedata
 # the columns of a line
 WIDTH = 125
 
-# the characters in a line of a block
-IN_A_LINE = 12
-
 
 def order(name):
     """The order of names: signs first, and letters whatever their case."""
-    return name[0].isalpha(), name.lower(), name
-
-
-def by_name(names):
-    return sorted(names, key=order)
+    return name.lstrip("\\")[:1].isalpha(), name.lower(), name
 
 
 def code(text):
@@ -22,21 +15,19 @@ def code(text):
     return "a backquote" if text == "`" else f"`{text}`"
 
 
-def command(name):
-    return code(f"\\{name}")
+def drawn(text):
+    """A character with its code point, ASCII as code, a mark on a dotted circle; or another text as code."""
+    if len(text) > 1 or text.isdigit():
+        return code(text)
+    mark = "◌" if unicodedata.category(text)[0] == "M" else ""
+    return f"{code(text) if text.isascii() else mark + text} (U+{ord(text):04X})"
 
 
-def character(c):
-    """A character as it is shown: ASCII as code, a mark on a dotted circle. An invisible one is nothing."""
-    if c.isascii():
-        return code(c)
-    kind = unicodedata.category(c)[0]
-    return f"◌{c}" if kind == "M" else "" if kind in "CZ" else c
-
-
-def drawn(c):
-    """A character with its code point."""
-    return f"{character(c)} (U+{ord(c):04X})".lstrip()
+def shown(name, text):
+    """What is listed, with what it draws, unless that is its own name."""
+    if name == text:
+        return f"{code(name)} (U+{ord(name):04X})"
+    return code(name) if not text or len(text) > 1 and name == f"\\{text}" else f"{code(name)} {drawn(text)}"
 
 
 def item(head, items):
@@ -56,18 +47,3 @@ def table(head, rows):
     yield "|" + "---|" * len(head)
     for row in rows:
         yield "| " + " | ".join(cell.replace("|", "\\|") for cell in row) + " |"
-
-
-def grid(characters):
-    """A block of code that lists characters with their code points."""
-    words = [f"{c} U+{ord(c):04X}" for c in characters]
-    yield "```"
-    for at in range(0, len(words), IN_A_LINE):
-        yield "  ".join(words[at:at + IN_A_LINE])
-    yield "```"
-
-
-def is_arrow(c):
-    """Whether Unicode calls it an arrow."""
-    name = unicodedata.name(c, "")
-    return "ARROW" in name or "HARPOON" in name

@@ -1,4 +1,5 @@
 """Progress of long commands: a line that is updated in place on a terminal, and a file with what a command prints."""
+import datetime
 import pathlib
 import shutil
 import subprocess
@@ -11,10 +12,8 @@ SHOWN = 40
 
 
 def clock(seconds):
-    """`1:40`, or `1:02:03` from an hour on."""
-    minutes, seconds = divmod(int(seconds), 60)
-    hours, minutes = divmod(minutes, 60)
-    return f"{hours}:{minutes:02}:{seconds:02}" if hours else f"{minutes}:{seconds:02}"
+    """`0:01:40`."""
+    return str(datetime.timedelta(seconds=int(seconds)))
 
 
 class Screen:
@@ -43,9 +42,6 @@ class Screen:
                 self.stream.write("\r\x1b[K")
             self.stream.write(f"{text}\n{self.renewed}")
             self.stream.flush()
-
-    def clear(self):
-        self.renew("")
 
 
 def follow(words, log, *, on_start=lambda process: None, on_line=lambda line: None, on_second=lambda: None, **how):
@@ -89,7 +85,4 @@ class Stopwatch:
         self.started = time.monotonic()
 
     def __str__(self):
-        return clock(self.seconds())
-
-    def seconds(self):
-        return time.monotonic() - self.started
+        return clock(time.monotonic() - self.started)

@@ -4,7 +4,6 @@ A definition is linked by its line, as [`IsAnswer`](../crates/latex2mathml/specs
 of Rust after a comment that names its file: `<!-- quoted from crates/latex2mathml/src/lib.rt -->`.
 """
 import re
-from dataclasses import dataclass
 from pathlib import Path
 
 ROOT = Path(__file__).resolve().parent.parent
@@ -27,36 +26,25 @@ OWN_CALLS = ("latex2mathml_tokens/lexeme.rt", "latex2mathml_tokens/names.rt", "l
              "latex2mathml_trees/width.rt", "latex2mathml_parser/formula.rt")
 
 
-@dataclass(frozen=True)
-class Definition:
-    """A link to a definition's line."""
-    document: Path
-    word: str
-    source: Path
-    line: int
-
-    def line_now(self):
-        """The line in which the definition begins."""
-        begins = re.compile(rf"\s*(?:(?:abbrev|unfoldable|opaque) )?(?:pub )?(?:(?:data|record) )?{re.escape(self.word)}(?=[\s:({{]|$)")
-        for number, line in enumerate(self.source.read_text().split("\n"), 1):
-            if begins.match(line) and not line.lstrip().startswith("--") and re.search(r"[:({]", line):
-                return number
-        raise LookupError(f"{self.document.name}: {self.source.name} has no definition {self.word}")
+def sources_of(document):
+    """The files to which the links to definitions lead in a document."""
+    return [(document.parent / found["path"]).resolve() for found in DEFINITION.finditer(document.read_text(encoding="utf-8"))]
 
 
-def definitions(document):
-    """The links to definitions in a document."""
-    for found in DEFINITION.finditer(document.read_text()):
-        source = (document.parent / found["path"]).resolve()
-        yield Definition(document, found["word"], source, int(found["line"]))
+def line_of(source, word):
+    """The line in which a definition begins."""
+    begins = re.compile(rf"\s*(?:(?:abbrev|unfoldable|opaque) )?(?:pub )?(?:(?:data|record) )?{re.escape(word)}(?=[\s:({{]|$)(?=.*[:({{])")
+    for number, line in enumerate(source.read_text().split("\n"), 1):
+        if begins.match(line):
+            return number
+    raise LookupError(f"{source.name} has no definition {word}")
 
 
 def renewed(document):
     """The text of a document, with the line in each link to a definition, and the signatures in each block that quotes one, as
     they are now. If one is gone, this is a `LookupError`."""
     def renewed_line(found):
-        link = Definition(document, found["word"], (document.parent / found["path"]).resolve(), int(found["line"]))
-        return f"[`{found['word']}`]({found['path']}#L{link.line_now()})"
+        return f"[`{found['word']}`]({found['path']}#L{line_of(document.parent / found['path'], found['word'])})"
 
     def renewed_quote(found):
         names = re.findall(r"\bfn (\w+)", found["text"])
@@ -80,10 +68,8 @@ def signature(source, name):
 
 def public_calls():
     """The names of the functions that callers of the library can use."""
-    names = set()
-    for source in sources():
-        names.update(re.findall(r"^ *pub (?:const )?fn (\w+)", source.read_text(), re.M))
-    return sorted(names - OWN_FUNCTIONS)
+    found = {name for source in sources() for name in re.findall(r"^ *pub (?:const )?fn (\w+)", source.read_text(), re.M)}
+    return sorted(found - OWN_FUNCTIONS)
 
 
 def sources():
@@ -99,6 +85,5 @@ def public_sources():
     """The sources whose public functions are called from outside: those of the library, of the program, and of the library for C."""
     yield from sources()
     for path in ("latex2mathml_program/src/job.rt", "latex2mathml_program/src/serving.rt", "latex2mathml_c/src/lib.rt",
-                 "latex2mathml_tex_program/src/request.rt", "latex2mathml_tex_program/src/definitions.rt", "latex2mathml_tex_program/src/reply.rt",
-                 "latex2mathml_tex_program/src/serving.rt"):
+                 *(f"latex2mathml_tex_program/src/{name}.rt" for name in ("request", "definitions", "reply", "serving"))):
         yield ROOT / "crates" / path

@@ -13,11 +13,10 @@ CRATES_IN_ORDER = ("latex2mathml_tokens", "latex2mathml_trees", "latex2mathml_no
                    "latex2mathml_tex", "latex2mathml_tex_program", "latex2mathml_c")
 
 # an import, of a module or of names in it
-USE = re.compile(r"^(?:unfoldable )?(?P<public>pub )?use (?P<path>[^\s{}]+?)(?:\.\{(?P<names>[^}]*)\})?"
-                 r"(?: as (?P<other>[\w-]+))?$", re.M)
+USE = re.compile(r"^(?:unfoldable )?(?:pub )?use (?P<path>[^\s{}]+?)(?:\.\{(?P<names>[^}]*)\})?(?: as [\w-]+)?$", re.M)
 GHOST_USE = re.compile(r"^ *ghost use (?P<path>[^\s{};]+?)(?:\.\{(?P<names>[^}]*)\})?;", re.M)
 
-# what may be part of a name in a definition or a clause
+# what may be part of a name in a clause
 WORD = re.compile(r"[^\s(){}.,;:\[\]]+")
 
 
@@ -29,7 +28,7 @@ def code_of(text, mark):
 def imports(found):
     """What an import brings into scope: the word used here, and the path that it leads to."""
     if found["names"] is None:
-        yield found.groupdict().get("other") or found["path"].rpartition(".")[2], found["path"]
+        yield found["path"].rpartition(".")[2], found["path"]
         return
     for name in filter(None, (it.strip() for it in found["names"].split(","))):
         name, _, other = name.partition(" as ")
@@ -38,11 +37,10 @@ def imports(found):
 
 @dataclass(frozen=True)
 class Spec:
-    """A file of definitions."""
+    """A file of definitions: the paths that it imports, and the number of its lines without comments, imports and empty lines."""
     path: pathlib.Path
-    body: str = field(compare=False)
-    used: dict = field(compare=False, hash=False)
-    handed_on: dict = field(compare=False, hash=False)
+    imported: list = field(compare=False)
+    lines: int = field(compare=False)
 
     @property
     def name(self):
@@ -52,11 +50,6 @@ class Spec:
     def crate(self):
         return self.path.parent.parent.name
 
-    @property
-    def lines(self):
-        """The number of its lines without comments, imports and empty lines."""
-        return sum(bool(line.strip()) for line in self.body.split("\n"))
-
 
 @functools.cache
 def spec(crate, name):
@@ -65,37 +58,21 @@ def spec(crate, name):
     if not path.exists():
         return None
     code = code_of(path.read_text(encoding="utf-8"), "--")
-    used, handed_on = {}, {}
-    for found in USE.finditer(code):
-        (handed_on if found["public"] else used).update(imports(found))
     body = re.sub(r"^pub mod .*$", "", USE.sub("", code), flags=re.M)
-    return Spec(path, body, used, handed_on)
+    return Spec(path, [it for found in USE.finditer(code) for _, it in imports(found)], sum(bool(line.strip()) for line in body.split("\n")))
 
 
 def resolve(path):
-    """The file in which the word of a path is defined, or None if it is a word of the standard library, or a type of the code."""
-    found = re.fullmatch(r"Rattle\.(latex2mathml\w*)\.specs\.(\w+)(?:\.(.+))?", path)
-    if not found or found[2] == "declared":
-        return None
-    crate, name, word = found.groups()
-    here = spec(crate, name)
-    if not here:
-        return resolve(f"{spec(crate, 'Lib').handed_on[name]}.{word or ''}".rstrip("."))
-    if word and word in here.handed_on:
-        return resolve(here.handed_on[word])
-    return here
+    """The file to which the path of a word leads, or None for a word of the standard library, or a type of the code."""
+    found = re.match(r"Rattle\.(latex2mathml\w*)\.specs\.(\w+)", path)
+    return spec(*found.groups()) if found else None
 
 
 def files_below(here):
-    """The files that define the words that a file of definitions uses from others."""
-    words = set(WORD.findall(here.body))
-    for word, path in {**here.used, **here.handed_on}.items():
-        # a module under another name
-        members = re.findall(rf"(?<![\w.-]){re.escape(word)}\.([\w-]+)", here.body)
-        for it in [f"{path}.{member}" for member in members] or [path] * (word in words):
-            below = resolve(it)
-            if below not in (None, here):
-                yield below
+    """The files that a file of definitions imports, where one that only hands on what it imports stands for what that is."""
+    for below in map(resolve, here.imported):
+        if below not in (None, here):
+            yield from [below] if below.lines else files_below(below)
 
 
 def in_order(paths):
@@ -108,9 +85,8 @@ def in_order(paths):
                 walk(below)
             found.append(here)
 
-    for path in paths:
-        if (top := resolve(path)) is not None:
-            walk(top)
+    for top in filter(None, map(resolve, paths)):
+        walk(top)
     return sorted((it for it in found if it.lines), key=lambda it: CRATES_IN_ORDER.index(it.crate))
 
 
@@ -118,8 +94,7 @@ def library_words(specs, paths):
     """The words of the standard library, and of what that builds on, that these files import or that are among these paths, by
     module."""
     found = {}
-    used = [path for here in specs for path in {**here.used, **here.handed_on}.values()]
-    for path in sorted({*used, *paths}):
+    for path in sorted({*paths, *(it for here in specs for it in here.imported)}):
         if not path.startswith("Rattle.latex2mathml"):
             module, _, word = path.removeprefix("Rattle.std.").rpartition(".")
             found.setdefault(module, []).append(word)
