@@ -1,4 +1,6 @@
 """Results of the programs, for the tests of the integrations."""
+import re
+
 from tests.support import program, run, tex_program
 
 
@@ -10,3 +12,8 @@ def answer_of(latex, word="inline"):
 def tex_answer_of(latex, display="inline", *words):
     """The answer of `tex2mathml` to a formula, in a line or as a `block`."""
     return run([tex_program(), "--display", display, *words], stdin=latex.encode()).stdout.decode().removesuffix("\n")
+
+
+def math_in(page):
+    """The `math` elements of a page."""
+    return re.findall("<math .*?</math>", page, re.DOTALL)

@@ -77,40 +77,6 @@ class Site(Case):
 
 
 class Files(Site):
-    def test_in_place(self):
-        self.put("a.html", "b/c.HTM", "b/d.xhtml", "e.txt", "f.xml")
-        self.put("g.html", text="no formula")
-        before = state(self.folder)
-        self.run_site(".", says=summary(4, 3, 6))
-        self.holds(self.made, "a.html", "b/c.HTM", "b/d.xhtml")
-        for name in (b"e.txt", b"f.xml", b"g.html"):
-            self.assertEqual(state(self.folder)[name], before[name])
-        self.is_clean()
-
-    def test_a_second_run(self):
-        """It writes nothing, even with nothing remembered from the first."""
-        self.put("a.html", "b/c.html")
-        self.put("d.html", text="$\\foo$")
-        said = b"d.html:1:2: \\foo: unknown command \\foo\n"
-        self.run_site(".", says=summary(3, 3, 4, 1), stderr=said)
-        before = state(self.folder)
-        self.run_site(".", says=summary(3, 0, 0, 1), stderr=said)
-        self.run_site(".", "--fresh", says=summary(3, 0, 0, 1), stderr=None)
-        self.assertEqual(state(self.folder), before)
-
-    def test_a_page_that_was_built_again(self):
-        self.put("a.html", "b.html")
-        self.run_site(".")
-        self.put("a.html")
-        self.run_site(".", says=summary(2, 1, 2))
-        self.holds(self.made, "a.html")
-
-    def test_other_options_are_another_run(self):
-        self.put("a.html")
-        self.run_site(".", "--dollars", "off", says=summary(1, 1, 1))
-        self.run_site(".", says=summary(1, 1, 1))
-        self.holds(self.made, "a.html")
-
     def test_into_a_folder(self):
         self.put("in/a.html", "in/b/c.html", "in/b/d.css")
         self.put("in/e.html", text="no formula")
@@ -127,26 +93,6 @@ class Files(Site):
         self.run_site("in", "new/out", "--fresh", says=summary(3, 0, 4))
         self.assertEqual(state(self.folder / "new/out"), out)
 
-    def test_what_changed_in_either_folder_is_made_again(self):
-        self.put("in/a.html", "in/b.css")
-        self.run_site("in", "out")
-        self.put("out/a.html", text="other")
-        self.put("out/b.css", text="other")
-        self.run_site("in", "out", says=summary(1, 1, 2))
-        self.holds(self.made, "out/a.html")
-        self.holds(PAGE, "out/b.css")
-
-    def test_one_page(self):
-        self.put("a.html")
-        self.run_site("a.html", "b.html", says=summary(1, 1, 2))
-        self.holds(PAGE, "a.html")
-        self.holds(self.made, "b.html")
-        (self.folder / "out").mkdir()
-        self.run_site("a.html", "out")
-        self.holds(self.made, "out/a.html")
-        self.run_site("a.html")
-        self.holds(self.made, "a.html")
-
     def test_wrong_words(self):
         self.put("in/a.html", "b.html")
         for words in ((), ("none",), ("in", "b.html"), ("in", "in/out"), ("in/..", "in"), ("in", "out", "more"), ("in", "--jobs", "0"),
@@ -160,34 +106,6 @@ class Files(Site):
         self.put("a.html")
         self.expect(run([environment().parent / "latex2mathml-site", "a.html"], cwd=self.folder), 0, None)
         self.holds(self.made, "a.html")
-
-    def test_check(self):
-        self.put("a.html", "b.html")
-        self.put("c.html", text="$\\foo$")
-        before = state(self.folder)
-        said = b"c.html:1:2: \\foo: unknown command \\foo\n"
-        for words in ((), ("out",)):
-            self.run_site(".", "--check", *(["../out"] if words else []), says=summary(3, 3, 4, 1, "to be changed"), stderr=said)
-        self.run_site(".", "--check", "--strict", status=1, stderr=said + b"latex2mathml-site: nothing was changed\n")
-        self.assertEqual(state(self.folder), before)
-        self.assertFalse((self.folder.parent / "out").exists())
-
-    def test_strict(self):
-        """Nothing is changed if a formula is refused, and everything is if none is."""
-        self.put("in/a.html", "in/b/c.html", "in/d.css")
-        self.put("in/z.html", text="<p>\n  $\\foo$")
-        before = state(self.folder)
-        said = b"in/z.html:2:4: \\foo: unknown command \\foo\nlatex2mathml-site: nothing was changed\n"
-        for words in (["in"], ["in", "new/out"], ["in", "--jobs", "4"]):
-            with self.subTest(words):
-                self.run_site(*words, "--strict", status=1, says=summary(3, 0, 4, 1), stderr=said)
-                self.assertEqual(state(self.folder), before)
-        self.put("in/z.html")
-        self.run_site("in", "new/out", "--strict", says=summary(3, 3, 6))
-        self.run_site("in", "--strict", says=summary(3, 3, 6))
-        self.holds(self.made, "in/a.html", "in/z.html", "new/out/b/c.html")
-        self.holds(PAGE, "new/out/d.css")
-        self.is_clean()
 
     def test_many_pages(self):
         """Several processes produce the same as one does, and report what is refused in the same order."""
@@ -467,9 +385,3 @@ class Hostile(Site):
                 said = running.communicate(timeout=300)[1]
         self.assertEqual(running.returncode, 130)
         self.assertEqual(said, b"latex2mathml-site: interrupted\n")
-
-    def test_watching_without_the_package(self):
-        self.put("a.html")
-        self.run_site(".", "--watch", status=2,
-                      stderr=b"latex2mathml-site: --watch needs the package watchdog, which Debian has as python3-watchdog\n")
-        self.holds(PAGE, "a.html")

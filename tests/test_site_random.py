@@ -62,7 +62,7 @@ class Random(unittest.TestCase):
         # a full stop separates them, since a digit or a dollar sign after a dollar sign affects its meaning
         page = ".".join(written for written, _ in parts) + "."
         wanted = ".".join(markup(*formula) if formula else written for written, formula in parts) + "."
-        made, _, faults = convert(page)
+        made, faults = convert(page)
         self.assertEqual((made, faults), (wanted, []), page)
 
     @requires("python:html5lib")
