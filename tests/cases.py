@@ -30,6 +30,7 @@ ELSEWHERE = {
     "nested.txt": "test_depth.Printed",
     **{f"program/{word}.txt": "test_program.Answers" for word in ("block", "document", "inline")},
     "requests.txt": "test_growth.Requests",
+    "runs/markdown.txt": "test_markdown.Pages",
     "runs/mkdocs.txt": "test_mkdocs.Sites",
     "runs/pandoc.txt": "test_pandoc.Pages",
     "runs/site.txt": "test_site.Sites",

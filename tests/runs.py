@@ -30,6 +30,10 @@ def sphinx(words, **more):
     return run_python(environment("sphinx"), "-m", "sphinx", "-q", *words, **more)
 
 
+def markdown(words, **more):
+    return run_python(environment("markdown"), "-m", "markdown", "-x", "latex2mathml", *words, **more)
+
+
 def mkdocs(words, **more):
     """What it says is that without colors and news."""
     done = run_python(environment("markdown", "mkdocs"), "-m", "mkdocs", *words, **more)
@@ -47,7 +51,7 @@ def latex2mathml_site(words, **more):
 
 TOOLS = {
     "tex2mathml": lambda words, **more: run([tex_program(), *words], **more),
-    "pandoc": pandoc, "sphinx": sphinx, "mkdocs": mkdocs, "latex2mathml-site": latex2mathml_site,
+    "pandoc": pandoc, "markdown": markdown, "sphinx": sphinx, "mkdocs": mkdocs, "latex2mathml-site": latex2mathml_site,
     "python3": lambda words, **more: run_python(environment(), *words, **more),
 }
 
