@@ -16,7 +16,7 @@ from tests.texts import math
 FORMULA = re.compile(r"<(inline|block)>(.*?)</\1>", re.DOTALL)
 
 # What a line does, or of what it says something: a stream, the status, all files, those that the run kept, or one of them.
-LINE = re.compile(r"(?P<action>file|link|in|run)(?: (?P<name>.+?))?:(?: |$)|(?P<of>.+?)(?P<verb> has| lacks| counts| asks as|):(?: |$)")
+LINE = re.compile(r"(?P<action>file|folder|link|in|run)(?: (?P<name>.+?))?(?::(?: |$)|$)|(?P<of>.+?)(?P<verb> has| lacks| counts| asks as|):(?: |$)")
 
 
 def pandoc(words, **more):
@@ -50,6 +50,7 @@ def latex2mathml_site(words, **more):
 
 
 TOOLS = {
+    "latex2mathml": lambda words, **more: run([ROOT / "latex2mathml", *words], **more),
     "tex2mathml": lambda words, **more: run([tex_program(), *words], **more),
     "pandoc": pandoc, "markdown": markdown, "sphinx": sphinx, "mkdocs": mkdocs, "latex2mathml-site": latex2mathml_site,
     "python3": lambda words, **more: run_python(environment(), *words, **more),
@@ -128,6 +129,8 @@ class Runs(Case):
             action, name = step.form["action"], step.form["name"]
             if action == "file":
                 put(folder, {name: step.text})
+            elif action == "folder":
+                (folder / name).mkdir(parents=True)
             elif action == "link":
                 (folder / name).symlink_to(step.text.decode())
             elif action == "in":
@@ -149,6 +152,8 @@ class Runs(Case):
 
     def found(self, name, folder, done):
         """What there is under a name of the form."""
+        if name == "links":
+            return " ".join(sorted(str(it.relative_to(folder)) for it in folder.rglob("*") if it.is_symlink()))
         if name in ("files", "kept"):
             return " ".join(path for path, it in files_of(folder).items() if name == "files" or it == self.before.get(path))
         streams = {"out": done.stdout, "err": done.stderr, "status": str(done.returncode).encode()}
