@@ -44,6 +44,7 @@ ELSEWHERE = {
     "site_scripts.txt": "test_site.Scripts",
     "sphinx_rows.txt": "test_sphinx.Markup",
     "tex_definition_refusals.txt": "test_tex_program.Definitions",
+    "tex_growth.txt": "test_tex_growth.Instructions",
     "tex_nested.txt": "test_tex_depth.Deep",
 }
 
