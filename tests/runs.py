@@ -3,6 +3,7 @@ import collections
 import dataclasses
 import functools
 import itertools
+import os
 import re
 import shlex
 
@@ -55,6 +56,9 @@ TOOLS = {
     "pandoc": pandoc, "markdown": markdown, "sphinx": sphinx, "mkdocs": mkdocs, "latex2mathml-site": latex2mathml_site,
     "python3": lambda words, **more: run_python(environment(), *words, **more),
 }
+
+# the folder of the case in the target of a link
+HERE = "[here]"
 
 # what a page requests
 ASKING = re.compile(r"<(?:script|link|style)[^>]*>")
@@ -132,7 +136,7 @@ class Runs(Case):
             elif action == "folder":
                 (folder / name).mkdir(parents=True)
             elif action == "link":
-                (folder / name).symlink_to(step.text.decode())
+                (folder / name).symlink_to(step.text.decode().replace(HERE, str(folder)))
             elif action == "in":
                 given = step.text
             elif action == "run":
@@ -153,7 +157,8 @@ class Runs(Case):
     def found(self, name, folder, done):
         """What there is under a name of the form."""
         if name == "links":
-            return " ".join(sorted(str(it.relative_to(folder)) for it in folder.rglob("*") if it.is_symlink()))
+            targets = {str(it.relative_to(folder)): os.readlink(it).replace(str(folder), HERE) for it in folder.rglob("*") if it.is_symlink()}
+            return ", ".join(f"{it} to {target}" for it, target in sorted(targets.items()))
         if name in ("files", "kept"):
             return " ".join(path for path, it in files_of(folder).items() if name == "files" or it == self.before.get(path))
         streams = {"out": done.stdout, "err": done.stderr, "status": str(done.returncode).encode()}

@@ -143,35 +143,6 @@ class Files(Site):
 
 
 class Names(Site):
-    def test_links_to_the_folder_itself(self):
-        """Each folder is visited once, so that cycles of links end."""
-        self.put("in/a.html", "in/b/c.html")
-        for name, target in (("latest", "."), ("stable", "."), ("b/up", ".."), ("b/again", "../b"), ("whole", str(self.folder / "in"))):
-            (self.folder / "in" / name).symlink_to(target)
-        self.run_site("in", "out", says=summary(2, 2, 4))
-        self.assertEqual(held(self.folder / "out"), {
-            b"a.html": self.made.encode(), b"b": None, b"b/c.html": self.made.encode(), b"latest": ".", b"stable": ".", b"b/up": "..",
-            b"b/again": "../b", b"whole": "."})
-        self.run_site("in", says=summary(2, 2, 4))
-        self.holds(self.made, "in/b/c.html")
-        self.assertTrue((self.folder / "in/latest").is_symlink())
-
-    def test_links_to_files(self):
-        """A link stays one, and the file that it leads to is converted."""
-        self.put("in/a.html", "other/b.html", "other/c/d.html")
-        (self.folder / "in/b.html").symlink_to("../other/b.html")
-        (self.folder / "in/a2.html").symlink_to("a.html")
-        (self.folder / "in/c").symlink_to("../other/c")
-        (self.folder / "in/none.html").symlink_to("nowhere")
-        self.run_site("in", "out", says=summary(3, 3, 6))
-        self.assertEqual(held(self.folder / "out"), {
-            b"a.html": self.made.encode(), b"a2.html": "a.html", b"b.html": self.made.encode(), b"c": None,
-            b"c/d.html": self.made.encode(), b"none.html": "nowhere"})
-        self.holds(PAGE, "other/b.html")
-        self.run_site("in", says=summary(3, 3, 6))
-        self.holds(self.made, "other/b.html", "other/c/d.html")
-        self.assertTrue((self.folder / "in/b.html").is_symlink())
-
     def test_two_names_of_a_file(self):
         """Each of them has the converted page."""
         self.put("a.html")
