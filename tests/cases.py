@@ -31,6 +31,7 @@ ELSEWHERE = {
     **{f"program/{word}.txt": "test_program.Answers" for word in ("block", "document", "inline")},
     "python.txt": "test_python_package.Calls",
     "requests.txt": "test_growth.Requests",
+    "runs/c.txt": "test_c.Examples",
     "runs/latex2mathml.txt": "test_program.Folders",
     "runs/markdown.txt": "test_markdown.Pages",
     "runs/mkdocs.txt": "test_mkdocs.Sites",

@@ -122,6 +122,10 @@ def files_of(folder):
 class Runs(Case):
     """Cases of a file, each in a folder of its own."""
 
+    def run_as(self, tool, words, **more):
+        """Runs what a case names with its first word."""
+        return TOOLS[tool](words, **more)
+
     def do_each(self, cases):
         for steps in cases:
             with self.subTest(steps[0].line.place), scratch() as folder:
@@ -148,7 +152,7 @@ class Runs(Case):
         """Runs a tool. A stream of which nothing is said has to be empty, and the status 0."""
         tool, *words = shlex.split(words)
         self.before = files_of(folder)
-        done = TOOLS[tool](words, stdin=given, cwd=folder, timeout=300)
+        done = self.run_as(tool, words, stdin=given, cwd=folder, timeout=300)
         named = {step.form["of"]: step.text for step in due}
         done.stderr = done.stderr.replace(bytes(folder) + b"/", b"")
         self.expect(done, int(named.get("status", 0)), *(None if stream in named else b"" for stream in ("out", "err")))

@@ -6,7 +6,7 @@ import subprocess
 from tests import cases, faulty
 from tests.runs import Runs, runs_of
 from tests.support import BUILD_NOTHING, Case, ROOT, as_nobody, each_row, limit, program, put, run
-from tests.texts import BAD_ENTRY, LESS, NOT_CREATED, NO_TEXT, STOPPED, UNCLOSED, UNLISTED, UNPAIRED, UNREAD, USAGE, X, error, math
+from tests.texts import BAD_ENTRY, LESS, NOT_CREATED, STOPPED, UNCLOSED, UNLISTED, UNPAIRED, UNREAD, USAGE, X, error, math
 
 LAUNCHER = ROOT / "latex2mathml"
 

@@ -1,5 +1,4 @@
 """The program `tex2mathml`: its arguments, its streams, its statuses and its replies to many formulas."""
-import itertools
 import os
 import re
 import runpy
@@ -149,39 +148,9 @@ class Definitions(Case):
         self.expect(ask("--definitions", f"/dev/fd/{reading}", stdin=b"\\a", pass_fds=[reading]), stdout=math(b"<mi>y</mi>") + b"\n")
 
 
-# the bytes that the program requests at a time
-ROOM = 4096
-
-
 @requires("cc")
 class Calls(faulty.OneByteAtATime):
-    """How often the program reads and writes, and what it does if one of these calls fails."""
-
-    INPUTS = [([], b"a<\\frac12"), (["--display", "block"], "é".encode()), (["--null"], b"x\0{\0y")]
-
-    def test_counted(self):
-        """A short input is read by two calls, one of which reports the end. The output is written by one."""
-        for words, piece in (([], b"x"), (["--null"], b"x_1^2\0")):
-            for size in (0, 1, ROOM - 1, ROOM, ROOM + 1, 1_000_000):
-                given = piece * (size // len(piece))
-                with self.subTest(words=words, size=size), faulty.open_input(given) as source:
-                    done, counts = faulty.counts_of([tex_program(), *words], stdin=source)
-                    self.expect(done, stdout=None)
-                    self.assertLessEqual(counts["read"], len(given) // ROOM + 2)
-                    self.assertEqual(counts["write"], int(bool(done.stdout)))
-
-    def test_each_read_fails(self):
-        for (words, given), number in itertools.product(self.INPUTS, (5, 4)):
-            due = ask(*words, stdin=given).stdout
-            self.fails_at_each("read", number, len(given) + 1, [tex_program(), *words], given, due,
-                               lambda call: (1, b"", f"tex2mathml: {UNREAD}\n".encode()))
-
-    def test_each_write_fails(self):
-        for (words, given), number in itertools.product(self.INPUTS, (28, 4, 0)):
-            due = ask(*words, stdin=given).stdout
-            self.assertGreater(len(due), 40)
-            self.fails_at_each("write", number, len(due), [tex_program(), *words], given, due, lambda call, due=due: (
-                1, due[:call - 1], f"tex2mathml: The output stopped after {call - 1} bytes.\n".encode()))
+    """What the program does if a call for its definitions fails. `test_faults` has all others."""
 
     def test_each_read_of_definitions_fails(self):
         """The file is read to its end before the input is."""
