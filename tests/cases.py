@@ -39,6 +39,7 @@ ELSEWHERE = {
     "runs/python.txt": "test_python_package.Wheel",
     "runs/site.txt": "test_site.Sites",
     "runs/sphinx.txt": "test_sphinx.Pages",
+    "runs/tex_deep.txt": "test_tex_depth.Wide",
     "runs/tex2mathml.txt": "test_tex_program.Answers",
     "site/elements.txt": "test_site.Elements",
     "site/formulas.txt": "test_site.Formulas",

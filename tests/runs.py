@@ -11,7 +11,7 @@ from tests.cases import Line, WrongCase, blocks, key_of
 from tests.environments import environment, run_python
 from tests.integration import tex_answer_of
 from tests.sites import site
-from tests.support import ROOT, Case, put, run, scratch, tex_program
+from tests.support import ROOT, Case, put, run, scratch, show, tex_program
 from tests.texts import math
 
 FORMULA = re.compile(r"<(inline|block)>(.*?)</\1>", re.DOTALL)
@@ -182,5 +182,7 @@ class Runs(Case):
             self.assertLessEqual(set(wanted.split()), set(found.split()), place)
         elif verb == " asks as":
             self.assertEqual(ASKING.findall(found), ASKING.findall((folder / wanted).read_text(encoding="utf-8")), place)
-        else:
-            self.assertEqual(found, wanted, place)
+        elif found != wanted:
+            # a difference of megabytes would take hours to show
+            self.assertEqual(show(found), show(wanted), place)
+            self.fail(f"{place}: they differ in what is left out")
