@@ -47,6 +47,7 @@ ELSEWHERE = {
     "sphinx_rows.txt": "test_sphinx.Markup",
     "tex_definition_refusals.txt": "test_tex_program.Definitions",
     "tex_growth.txt": "test_tex_growth.Instructions",
+    "tex_limits.txt": "test_tex_limits.Limits",
     "tex_nested.txt": "test_tex_depth.Deep",
 }
 

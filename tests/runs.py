@@ -9,8 +9,7 @@ import shlex
 
 from tests.cases import Line, WrongCase, blocks, key_of
 from tests.environments import environment, run_python
-from tests.integration import tex_answer_of
-from tests.sites import site
+from tests.integration import site, tex_answer_of
 from tests.support import ROOT, Case, put, run, scratch, show, tex_program
 from tests.texts import math
 

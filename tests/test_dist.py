@@ -8,29 +8,8 @@ from tests.texts import LESS, LESS_BLOCK, math
 
 CRATE = "crates/latex2mathml_c"
 
-# Replaces make-c-library: it makes the folder, which must not exist.
-LIBRARY_MAKER = """#!/bin/sh
-mkdir "$1" && echo made >"$1/liblatex2mathml.so"
-"""
-
-# Replaces make-wheel.
-WHEEL_MAKER = """#!/bin/sh
-mkdir -p "$2" && echo made >"$2/made.whl"
-"""
-
-# Replaces make-deb.
-DEB_MAKER = """#!/bin/sh
-echo made >"$2/made.deb"
-"""
-
-# Replaces a Python that has pip: its wheel contains the names of the files from which it should be made.
-PYTHON = """#!/bin/sh
-[ "$1" = -c ] && exit
-[ "$1" = setup.py ] && mkdir "$5" && touch "$5/made.tar.gz" && exit
-while [ "$1" != --wheel-dir ]; do shift; done
-mkdir "$2" && cd "$3" && find * -type f >"$2/made.whl"
-"""
-
+# programs that replace those of the same names
+FAKES = ROOT / "tests/fakes/dist"
 
 INLINE, BLOCK = LESS.decode(), LESS_BLOCK.decode()
 
@@ -73,7 +52,7 @@ class Dist(Case):
     def test_without_an_argument(self):
         """It makes the folder `dist` of its own house, and replaces it the next time."""
         house = self.house()
-        put(house / "tools", {"make-c-library": LIBRARY_MAKER, "make-wheel": WHEEL_MAKER, "make-deb": DEB_MAKER})
+        put(house / "tools", {name: (FAKES / name).read_text() for name in ("make-c-library", "make-wheel", "make-deb")})
         for turn in ("first", "second"):
             with self.subTest(turn):
                 # no addon can be made of that library, and make-addon says so
@@ -86,7 +65,7 @@ class Dist(Case):
     def test_make_wheel_in_a_path_with_a_space(self):
         """It takes what the package needs from its own house and from the library, and puts the wheel into the folder."""
         house = self.house()
-        put(house, {"a python": PYTHON, "a library/liblatex2mathml.so": ""})
+        put(house, {"a python": (FAKES / "python").read_text(), "a library/liblatex2mathml.so": ""})
         wheel = house / "a wheel/made.whl"
         environment = {**os.environ, "PYTHON": f"{house}/a python", "TMPDIR": str(house)}
         done = run([house / "tools/make-wheel", house / "a library", wheel.parent], env=environment)

@@ -9,6 +9,7 @@ import threading
 
 from tests import support
 from tests.browsers import chromium, firefox, open_browser
+from tests.cases import read
 from tests.command_table import on_the_page
 
 PAGES = support.ROOT / "tests/page"
@@ -79,8 +80,7 @@ CLASSES = {
 
 def spaces():
     """The cases of spaces.txt: a name, a formula, and the formula with its spaces."""
-    lines = [(number, line) for number, line in enumerate(data("spaces.txt"), 1) if line and not line.startswith("# ")]
-    return [(f"spaces.txt:{number}", formula, spaced) for (number, formula), (_, spaced) in zip(lines[::2], lines[1::2])]
+    return [(case.place, case.input.decode(), case.answer.decode()) for case in read(PAGES / "spaces.txt")]
 
 
 def classes():

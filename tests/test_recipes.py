@@ -3,7 +3,7 @@ import os
 import re
 
 from tests.environments import environment, requires_python
-from tests.sites import tex
+from tests.integration import tex
 from tests.support import ROOT, Case, put, requires, run, run_folder
 
 RECIPES = (ROOT / "integrations/recipes.md").read_text()

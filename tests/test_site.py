@@ -6,8 +6,8 @@ import subprocess
 
 from tests.cases import by_heading
 from tests.environments import environment, proved, requires_python, run_python
+from tests.integration import keep_caches_here, site, tex
 from tests.runs import Runs, runs_of
-from tests.sites import keep_caches_here, site, tex
 from tests.support import Case, each_row, put, scratch
 
 # a formula in a case, and how it is displayed

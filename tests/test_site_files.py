@@ -12,7 +12,7 @@ import subprocess
 import time
 
 from tests.environments import environment, requires_python
-from tests.sites import command, site, tex
+from tests.integration import command, site, tex
 from tests.support import NOBODY, Case, as_nobody, hear_signals, limit, put, read_terminal, requires, run, scratch
 
 PAGE = "<p>$x$ and \\(y\\)</p>\n"

@@ -10,7 +10,7 @@ import hypothesis
 from hypothesis import strategies as st
 
 from tests.environments import requires_python
-from tests.sites import tex
+from tests.integration import tex
 from tests.support import requires
 from tests.test_site import convert
 
