@@ -18,7 +18,7 @@ PLACE = "[place]"
 COLUMNS = re.compile(r" {2,}")
 
 # The files that are tables, and how many columns each has.
-TABLES = {"commands.txt": 3, "growth.txt": 4, "requests.txt": 4}
+TABLES = {"commands.txt": 3, "growth.txt": 4, "requests.txt": 4, "requests_for_each.txt": 4}
 
 # The files that other modules read: the class of tests, which has a test for each heading, or for each line of a table.
 ELSEWHERE = {
@@ -27,10 +27,12 @@ ELSEWHERE = {
     "growth.txt": "test_growth.Instructions",
     "macros.txt": "test_python_package.Macros",
     "markdown.txt": "test_markdown.Formulas",
+    "markdown_slow.txt": "test_markdown.Formulas",
     "nested.txt": "test_depth.Printed",
     **{f"program/{word}.txt": "test_program.Answers" for word in ("block", "document", "inline")},
     "python.txt": "test_python_package.Calls",
     "requests.txt": "test_growth.Requests",
+    "requests_for_each.txt": "test_growth.Requests",
     "runs/c.txt": "test_c.Examples",
     "runs/latex2mathml.txt": "test_program.Folders",
     "runs/markdown.txt": "test_markdown.Pages",

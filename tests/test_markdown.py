@@ -100,19 +100,12 @@ class Formulas(Case):
                 with self.subTest(case.place, others=others):
                     self.assertEqual(letters_of(convert(case.input.decode(), others)[0]), case.answer.decode())
 
-    def test_texts_that_are_slow_to_read(self):
-        """The formulas in each are found before the process that looks for them is ended."""
-        texts = {"$a$ ": 1000, "$a$\n": 1000, "$$\n": 500, "$$\na\n": 500, "> $$ ": 500, "- $$\n": 0, "$ ": 0, "\\$": 0, "`$": 0,
-                 "\\(a\\) ": 1000, "\\( ": 0, "\\[ ": 0, "\\[\n": 0, "\\) ": 0, "\\\\( ": 0, "```math\n": 0, "```a\n": 0,
-                 "```math\nx\n```\n": 1000, "~~~\n```math\n": 0}
-        texts = {text * 1000: formulas for text, formulas in texts.items()}
-        # fewer, since Python-Markdown itself takes long for brackets that are not closed
-        texts |= {"$a$ $$ $ [ " * 100: 100, "$$\n" + "a\n" * 50_000: 0, "$" + "a " * 50_000: 0}
-        # a backslash and a letter are one character of a formula: there are many ways to read them as one or two
-        texts |= {begin + r"\a" * 40 + end: 0 for begin in ("$", "$$", "$$\n", "a $$") for end in ("", " $", "\n\n$$")}
-        for (text, formulas), (page, said) in zip(texts.items(), convert_apart(*texts), strict=True):
-            with self.subTest(text[:60]):
-                self.assertEqual((page.count("<math "), said), (formulas, []))
+    @each_row(by_heading("markdown_slow.txt"))
+    def are_found(self, cases):
+        """Before the process that looks for them is ended."""
+        for case, (page, said) in zip(cases, convert_apart(*(it.input.decode() for it in cases)), strict=True):
+            with self.subTest(case.place):
+                self.assertEqual((page.count("<math "), said), (int(case.answer), []))
 
     def test_calls_of_functions(self):
         """Four times the text takes four times as many, even if its formulas are refused, or follow backslashes."""

@@ -185,16 +185,6 @@ class Formulas(Pandoc):
             with self.subTest(macros):
                 self.ends(json_of([], macros=macros), fault, "-f", "json", "-t", "html")
 
-    def test_environments(self):
-        for name in ("equation", "align", "alignat", "gather", "multline", "flalign", "eqnarray"):
-            for star in ("", "*"):
-                with self.subTest(name + star):
-                    columns = "{1}" if name == "alignat" else ""
-                    latex = f"\\begin{{{name}{star}}}{columns}\na \\\\ % \\end{{{name}{star}}}\n\\text{{b}}\n\\end{{{name}{star}}}"
-                    page = self.page(f"Before\n{latex}\nbehind.\n\n{latex}\n")
-                    self.assertEqual(page.count(tex_answer_of(latex, "block")), 2, page)
-                    self.assertEqual(page.count("<math"), 2)
-
 
 class Programs(Pandoc):
     """The program that the filter runs."""

@@ -3,10 +3,10 @@ import os
 import shutil
 import subprocess
 
-from tests import cases, faulty
+from tests import cases
 from tests.runs import Runs, runs_of
-from tests.support import BUILD_NOTHING, Case, ROOT, as_nobody, each_row, limit, program, put, run
-from tests.texts import BAD_ENTRY, LESS, NOT_CREATED, STOPPED, UNCLOSED, UNLISTED, UNPAIRED, UNREAD, USAGE, X, error, math
+from tests.support import BUILD_NOTHING, Case, ROOT, each_row, limit, program, put, run
+from tests.texts import BAD_ENTRY, LESS, STOPPED, UNCLOSED, UNPAIRED, UNREAD, USAGE, X, error, math
 
 LAUNCHER = ROOT / "latex2mathml"
 
@@ -191,29 +191,3 @@ class Files(Site):
             self.assertEqual(given.read(), b"$$$")
         self.expect(done, 1, b"", error(f"{self.site}/a.html: {UNPAIRED}"))
         self.expect_files({"b.html": X})
-
-
-class Rights(Site):
-    """Files that may not be opened. If this user may open everything, as root may, another user runs the case."""
-
-    def setUp(self):
-        super().setUp()
-        self.command = faulty.program()
-        self.put({"a.html": b"$x$", "b.html": b"$x$", "c.html": b"no sign", "d/a.html": b"$x$", "walled/a.html": b"$x$", "z.html": b"$x$"})
-        self.as_other = as_nobody(self.site)
-        self.folder.chmod(0o711)
-
-    def test_files_and_folders(self):
-        for name, mode in [("a.html", 0), ("b.html", 0o444), ("c.html", 0o444), ("d", 0), ("walled", 0o444)]:
-            (self.site / name).chmod(mode)
-        no_file = (self.site / "b.html", NOT_CREATED)
-        with self.subTest("closed"):
-            faults = [(self.site / "a.html", UNREAD), no_file,
-                      (self.site / "d", UNLISTED)]
-            self.convert(self.site, faults, **self.as_other)
-            self.expect_files({"b.html": b"$x$", "c.html": b"no sign", "z.html": X})
-        with self.subTest("opened again"):
-            for name, mode in [("a.html", 0o644), ("d", 0o755), ("walled", 0o755)]:
-                (self.site / name).chmod(mode)
-            self.convert(self.site, [no_file], **self.as_other)
-            self.expect_files({"a.html": X, "b.html": b"$x$", "d/a.html": X, "walled/a.html": X})
