@@ -16,22 +16,13 @@ from tests.texts import math
 FORMULA = re.compile(r"<(inline|block)>(.*?)</\1>", re.DOTALL)
 
 # What a line does, or of what it says something: a stream, the status, all files, those that the run kept, or one of them.
-LINE = re.compile(r"(?P<action>file|folder|link|in|run)(?: (?P<name>.+?))?(?::(?: |$)|$)|(?P<of>.+?)(?P<verb> has| lacks| counts| asks as|):(?: |$)")
+LINE = re.compile(r"(?P<action>file|folder|link|in|run)(?: (?P<name>.+?))?(?::(?: |$)|$)|(?P<of>.+?)(?P<verb> has| counts| asks as|):(?: |$)")
 
 
 def pandoc(words, **more):
     """With the filter, and without wrapping lines, so that texts are found in the output."""
     filtered = ["--lua-filter", ROOT / "integrations/pandoc/latex2mathml.lua", "-M", f"latex2mathml-program={tex_program()}"]
     return run(["pandoc", *filtered, "--wrap=preserve", *words], **more)
-
-
-def sphinx(words, **more):
-    """Builds the project of a folder, all of it, into the folder `out`."""
-    return run_python(environment("sphinx"), "-m", "sphinx", "-q", *words, **more)
-
-
-def markdown(words, **more):
-    return run_python(environment("markdown"), "-m", "markdown", "-x", "latex2mathml", *words, **more)
 
 
 def mkdocs(words, **more):
@@ -49,10 +40,13 @@ def latex2mathml_site(words, **more):
     return done
 
 
+# how the first word of a command is run with the others
 TOOLS = {
     "latex2mathml": lambda words, **more: run([ROOT / "latex2mathml", *words], **more),
     "tex2mathml": lambda words, **more: run([tex_program(), *words], **more),
-    "pandoc": pandoc, "markdown": markdown, "sphinx": sphinx, "mkdocs": mkdocs, "latex2mathml-site": latex2mathml_site,
+    "pandoc": pandoc, "mkdocs": mkdocs, "latex2mathml-site": latex2mathml_site,
+    "markdown": lambda words, **more: run_python(environment("markdown"), "-m", "markdown", "-x", "latex2mathml", *words, **more),
+    "sphinx": lambda words, **more: run_python(environment("sphinx"), "-m", "sphinx", "-q", *words, **more),
     "python3": lambda words, **more: run_python(environment(), *words, **more),
 }
 
@@ -62,13 +56,15 @@ HERE = "[here]"
 # what a page requests
 ASKING = re.compile(r"<(?:script|link|style)[^>]*>")
 
-converted = functools.cache(tex_answer_of)
 
-
-def markup(found):
-    """The `math` element with these contents, or that of a formula."""
-    display, given = found.groups()
-    return math(given, display).decode() if given.startswith("<m") or not given else converted(given, display)
+@functools.cache
+def markup(display, given):
+    """The `math` element with these contents, or that of a formula, which `tex2mathml` must not refuse."""
+    if given.startswith("<m") or not given:
+        return math(given, display).decode()
+    converted = tex_answer_of(given, display)
+    assert converted.startswith("<math "), f"{given} has no markup"
+    return converted
 
 
 @dataclasses.dataclass
@@ -88,10 +84,6 @@ class Step:
     def text(self):
         return self.line.expand("\n".join([self.texts[0][self.form.end():], *self.texts[1:]]))
 
-    @property
-    def is_due(self):
-        return self.form["action"] is None
-
 
 def steps_of(lines):
     """The steps of a case. A line that begins with `|` continues the text before it."""
@@ -108,7 +100,10 @@ def runs_of(name):
     """The cases of a file as rows for `each_row`: for each heading a list of its cases."""
     rows = collections.defaultdict(list)
     for heading, lines in blocks(f"runs/{name}"):
-        rows[key_of(heading)].append(steps_of(lines))
+        steps = steps_of(lines)
+        if all(step.form["action"] != "run" for step in steps):
+            raise WrongCase(f"{lines[0].place}: a case runs something")
+        rows[key_of(heading)].append(steps)
     return {heading: (cases,) for heading, cases in rows.items()}
 
 
@@ -122,7 +117,6 @@ class Runs(Case):
     """Cases of a file, each in a folder of its own."""
 
     def run_as(self, tool, words, **more):
-        """Runs what a case names with its first word."""
         return TOOLS[tool](words, **more)
 
     def do_each(self, cases):
@@ -143,7 +137,8 @@ class Runs(Case):
             elif action == "in":
                 given = step.text
             elif action == "run":
-                done = self.run_tool(folder, step.text.decode(), given, list(itertools.takewhile(lambda it: it.is_due, steps[at + 1:])))
+                due = itertools.takewhile(lambda it: it.form["of"], steps[at + 1:])
+                done = self.run_tool(folder, step.text.decode(), given, {it.form["of"]: it.text for it in due})
             else:
                 self.check(step, folder, done)
 
@@ -152,9 +147,8 @@ class Runs(Case):
         tool, *words = shlex.split(words)
         self.before = files_of(folder)
         done = self.run_as(tool, words, stdin=given, cwd=folder, timeout=300)
-        named = {step.form["of"]: step.text for step in due}
         done.stderr = done.stderr.replace(bytes(folder) + b"/", b"")
-        self.expect(done, int(named.get("status", 0)), *(None if stream in named else b"" for stream in ("out", "err")))
+        self.expect(done, int(due.get("status", 0)), *(None if stream in due else b"" for stream in ("out", "err")))
         return done
 
     def found(self, name, folder, done):
@@ -168,12 +162,10 @@ class Runs(Case):
         return (streams[name] if name in streams else (folder / name).read_bytes()).decode(errors="backslashreplace")
 
     def check(self, step, folder, done):
-        found, wanted = self.found(step.form["of"], folder, done), FORMULA.sub(markup, step.text.decode(errors="backslashreplace"))
+        found, wanted = self.found(step.form["of"], folder, done), FORMULA.sub(lambda found: markup(*found.groups()), step.text.decode(errors="backslashreplace"))
         verb, place = step.form["verb"], step.line.place
         if verb == " has":
             self.assertIn(wanted, found, place)
-        elif verb == " lacks":
-            self.assertNotIn(wanted, found, place)
         elif verb == " counts":
             number, _, part = wanted.partition(" ")
             self.assertEqual(found.count(part), int(number), place)

@@ -5,7 +5,7 @@ import pytest
 
 from tests.environments import requires_python
 from tests.integration import math_in
-from tests.runs import Runs, mkdocs, runs_of
+from tests.runs import Runs, runs_of
 from tests.support import ROOT, each_row, put
 
 pytestmark = pytest.mark.long
@@ -19,7 +19,7 @@ class Sites(Runs):
 
     def shows(self, *words):
         """What the formulas of a site's first page show, which is built without a warning."""
-        self.expect(mkdocs(["build", "--strict", "-d", self.folder / "site", *words], cwd=self.folder))
+        self.expect(self.run_as("mkdocs", ["build", "--strict", "-d", self.folder / "site", *words], cwd=self.folder))
         return [re.sub("<[^>]*>", "", it) for it in math_in((self.folder / "site/index.html").read_text(encoding="utf-8"))]
 
     def test_readme(self):

@@ -9,7 +9,7 @@ import pytest
 from tests.cases import by_heading
 from tests.environments import proved, requires_python
 from tests.integration import math_in
-from tests.runs import Runs, runs_of, sphinx
+from tests.runs import Runs, runs_of
 from tests.support import ROOT, each_row, put, requires
 
 pytestmark = pytest.mark.long
@@ -27,7 +27,7 @@ class Project(Runs):
     def build(self, conf, *words, **pages):
         """Builds all pages of a project, and returns what is said."""
         put(self.folder, {"conf.py": conf, **{f"{name}.rst": text for name, text in pages.items()}})
-        done = sphinx(["-E", "-a", *words, ".", "out"], cwd=self.folder, timeout=300)
+        done = self.run_as("sphinx", ["-E", "-a", *words, ".", "out"], cwd=self.folder, timeout=300)
         self.expect(done, stderr=None)
         return done.stderr.decode()
 
@@ -82,7 +82,7 @@ class Markup(Project):
     def test_example(self):
         """The example of the package is built without a warning, and all its formulas are drawn."""
         source = ROOT / "integrations/python/examples/sphinx"
-        self.expect(sphinx(["-W", source, self.folder / "out"], timeout=300))
+        self.expect(self.run_as("sphinx", ["-W", source, self.folder / "out"], timeout=300))
         self.assertEqual(len(math_in(self.page())), 6)
 
 
