@@ -34,6 +34,7 @@ ELSEWHERE = {
     "requests.txt": "test_growth.Requests",
     "requests_for_each.txt": "test_growth.Requests",
     "runs/c.txt": "test_c.Examples",
+    "runs/dist.txt": "test_dist.Dist",
     "runs/latex2mathml.txt": "test_program.Folders",
     "runs/markdown.txt": "test_markdown.Pages",
     "runs/mkdocs.txt": "test_mkdocs.Sites",

@@ -3,19 +3,17 @@ import os
 import re
 import shutil
 
-from tests.support import Case, ROOT, dist, newest_version, program, put, requires, run, run_folder, tex_program
-from tests.texts import LESS, LESS_BLOCK, math
+from tests.runs import Runs, runs_of
+from tests.support import ROOT, dist, each_row, newest_version, program, put, requires, run, run_folder, tex_program
 
 CRATE = "crates/latex2mathml_c"
 
 # programs that replace those of the same names
 FAKES = ROOT / "tests/fakes/dist"
 
-INLINE, BLOCK = LESS.decode(), LESS_BLOCK.decode()
-
 
 @requires("cc", "objdump", "ldd")
-class Dist(Case):
+class Dist(Runs):
     @classmethod
     def setUpClass(cls):
         cls.dist = dist()
@@ -32,10 +30,6 @@ class Dist(Case):
             # other tests may be writing what Python compiles there
             shutil.copytree(ROOT / name, house / name, ignore=shutil.ignore_patterns("__pycache__"))
         return house
-
-    def run_there(self, *words, **more):
-        """Runs a program of the folder, without an environment."""
-        return run([self.dist / words[0], *words[1:]], cwd=self.dist, env={}, **more)
 
     def test_nothing_is_left_in_the_folder_of_temporary_files(self):
         self.assertEqual(list((run_folder() / "temporary").iterdir()), [])
@@ -101,17 +95,13 @@ class Dist(Case):
         newest = ".".join(map(str, max(versions)))
         self.assertIn(f"the C library of GNU, version {newest} or later;", text)
 
-    def test_formulas(self):
-        for word, markup in [("inline", INLINE), ("block", BLOCK)]:
-            with self.subTest(word):
-                self.expect(self.run_there("latex2mathml", word, stdin=b"x<y"), stdout=f"{markup}\n".encode())
-        with self.subTest("as authors write it"):
-            square = math("<msubsup><mi>x</mi><mi>i</mi><mn>2</mn></msubsup>")
-            self.expect(self.run_there("tex2mathml", stdin=b"x_i^2"), stdout=square + b"\n")
-        with self.subTest("refused"):
-            refused = self.run_there("latex2mathml", "inline", stdin=b"{x")
-            self.expect(refused, 1, b"", None)
-            self.assertEqual(refused.stderr.count(b"\n"), 1)
+    def run_as(self, tool, words, **more):
+        """Runs a program of the folder, without an environment."""
+        return run([self.dist / tool, *words], env={}, **more)
+
+    @each_row(runs_of("dist.txt"))
+    def are_converted(self, runs):
+        self.do_each(runs)
 
     def test_links(self):
         """Each link of a document leads to a file that the folder has."""

@@ -62,11 +62,6 @@ class Inputs(Streams):
             self.fails_at_each("read", number, len(given) + 1, [program(), *words], given, answer,
                                lambda call: (1, b"", told(UNREAD)), left=lambda call, size=len(given): size - call + 1)
 
-    def test_formula_by_bytes(self):
-        self.expect(self.run_with("inline", FORMULA, step=1), stdout=OF_FORMULA)
-
-    def test_document_by_bytes(self):
-        self.expect(self.run_with("document", DOCUMENT, step=1), stdout=OF_DOCUMENT)
 
 
 # bytes that are not UTF-8: alone, after text and before text
@@ -120,8 +115,6 @@ class Outputs(Streams):
             self.fails_at_each("write", number, len(answer), [program(), *words], given, answer,
                                lambda call, answer=answer: (1, answer[:call - 1], told(STOPPED.format(call - 1))))
 
-    def test_byte_by_byte(self):
-        self.expect(self.run_with("inline", FORMULA, step=1), stdout=OF_FORMULA)
 
 
 def ends(due):
