@@ -18,7 +18,7 @@ PLACE = "[place]"
 COLUMNS = re.compile(r" {2,}")
 
 # The files that are tables, and how many columns each has.
-TABLES = {"commands.txt": 3, "growth.txt": 4, "requests.txt": 4, "requests_for_each.txt": 4}
+TABLES = {"commands.txt": 3, "growth.txt": 4, "one_at_a_time.txt": 3, "requests.txt": 4, "requests_for_each.txt": 4}
 
 # The files that other modules read: the class of tests, which has a test for each heading, or for each line of a table.
 ELSEWHERE = {
@@ -30,6 +30,7 @@ ELSEWHERE = {
     "markdown_slow.txt": "test_markdown.Formulas",
     "nested.txt": "test_depth.Printed",
     **{f"program/{word}.txt": "test_program.Answers" for word in ("block", "document", "inline")},
+    "one_at_a_time.txt": "test_growth.Memory",
     "python.txt": "test_python_package.Calls",
     "requests.txt": "test_growth.Requests",
     "requests_for_each.txt": "test_growth.Requests",

@@ -63,7 +63,6 @@ class Inputs(Streams):
                                lambda call: (1, b"", told(UNREAD)), left=lambda call, size=len(given): size - call + 1)
 
 
-
 # bytes that are not UTF-8: alone, after text and before text
 NO_TEXTS = {"a beginning": b"$\xc3", "a surrogate": b"\xed\xa0\x80", "no byte of text": b"\xff", "behind a formula": b"$x$\x80",
             "before a formula": b"\xc3$x$"}
@@ -114,7 +113,6 @@ class Outputs(Streams):
         for given, answer in pairs:
             self.fails_at_each("write", number, len(answer), [program(), *words], given, answer,
                                lambda call, answer=answer: (1, answer[:call - 1], told(STOPPED.format(call - 1))))
-
 
 
 def ends(due):

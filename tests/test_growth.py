@@ -35,15 +35,6 @@ def rows(name):
     return {key: (int(key in REFUSED), word, of_size(text), int(number)) for _, key, word, text, number in cases.rows(name)}
 
 
-# The pieces of a formula, or of a document, that are read and written one after another: memory for one is enough.
-ONE_AT_A_TIME = {
-    "scripts": ("inline", '[N times "x_1^2"]'),
-    "groups": ("inline", '[N times "{a_b^c}"]'),
-    "texts": ("inline", '[N times "\\text{ab}"]'),
-    "formulas of a document": ("document", '[N times "$x_1^2$"]'),
-    "a formula of a document": ("document", 'a $[N times "x_1^2"]$ b'),
-}
-
 # The formulas of a document, and the result of each.
 FORMULAS = {
     "$x$": "<mi>x</mi>",
@@ -94,7 +85,7 @@ class Memory(Growth):
         """Memory is held only for the text and the answer, with at most twice the room that they need."""
         self.assertLessEqual(peak, 2 * (text + answer) + OWN_BYTES, f"the text has {text:,} bytes, and the answer {answer:,}")
 
-    @support.each_row({f"one at a time of {name}": row for name, row in ONE_AT_A_TIME.items()})
+    @support.each_row({key: row for _, key, *row in cases.rows("one_at_a_time.txt")})
     def judge_one_at_a_time(self, word, text):
         given = of_size(text)(MEGABYTE)
         counts = self.count(word, given)

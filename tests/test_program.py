@@ -41,7 +41,6 @@ class Launcher(Case):
                 done = run([*words, "inline"], stdin=b"x<y", env={**os.environ, BUILD_NOTHING: "1"}, **more)
                 self.expect(done, stdout=LESS + b"\n")
 
-
     def test_the_program_takes_its_place(self):
         """The program replaces the process of the launcher, which leaves no temporary files, and passes the arguments on."""
         put(self.folder, {"tools/built": '#!/bin/sh\necho "${0%/*}/program"\n',

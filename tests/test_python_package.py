@@ -102,6 +102,9 @@ class Wheel(Runs):
             names = {name.partition("/")[2] for name in packed.namelist() if name.startswith("latex2mathml_proved/")}
             [about] = [name for name in packed.namelist() if name.endswith("/METADATA")]
             metadata = packed.read(about).decode()
+            # its terms require that it comes with the package
+            [licence] = [name for name in packed.namelist() if name.endswith("/LICENSE")]
+            self.assertEqual(packed.read(licence), (ROOT / "LICENSE").read_bytes())
         self.assertLessEqual({"py.typed", "liblatex2mathml.so", "page/latex2mathml.css", "page/latex2mathml.js"}, names)
         self.assertNotIn("Requires-Dist", metadata)
 
@@ -132,12 +135,6 @@ class Wheel(Runs):
         done = run(["mypy", "--python-version", oldest, "--no-site-packages", "--ignore-missing-imports", "--check-untyped-defs",
                     "--no-error-summary", "--cache-dir", self.folder, PACKAGE / "src/latex2mathml_proved", PACKAGE / "setup.py"], timeout=300)
         self.expect(done, 0, b"", b"")
-
-    def test_licence(self):
-        """It comes with the package, as its terms require."""
-        with zipfile.ZipFile(wheel()) as packed:
-            [licence] = [name for name in packed.namelist() if name.endswith("/LICENSE")]
-            self.assertEqual(packed.read(licence), (ROOT / "LICENSE").read_bytes())
 
     def test_what_is_opened_is_closed(self):
         """Python would warn about a file that the collector has to close, and about one that is read in the locale's encoding."""

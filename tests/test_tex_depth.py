@@ -79,4 +79,3 @@ class Long(support.Case):
         for command in ("\\alpha ", "\\sum", "\\sin ", "\\left(", "\\right)", "\\frac", "\\sqrt", "\\not=", "\\text a", "\\,", "\\foo ", "x_1^2", "x'"):
             with self.subTest(command):
                 self.is_told(command)
-

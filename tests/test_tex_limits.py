@@ -88,4 +88,3 @@ class Definitions(support.Case):
             one, many = (instructions(command, stdin=given * formulas) for formulas in (1, 1001))
             counts.append((many - one) / 1000)
         self.assertLessEqual(counts[1], MOST_TIMES / 4 * counts[0])
-
