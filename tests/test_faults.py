@@ -25,7 +25,7 @@ RUNS = {
     "block": (LATEX, ["block"], [(b"x<y", LESS_BLOCK + b"\n")]),
     "document": (LATEX, ["document"], [(DOCUMENT, OF_DOCUMENT), (b"$E = m c^2$ is", ENERGY)]),
     "tex": (TEX, [], [(FORMULA, OF_FORMULA)]),
-    "tex block": (TEX, ["--display", "block"], [("é".encode(), math("<mi>é</mi>", "block") + b"\n")]),
+    "tex block": (TEX, ["--display", "block"], [("é".encode(), math('<mi mathvariant="normal">é</mi>', "block") + b"\n")]),
     "tex many": (TEX, ["--null"], [
         (b"x\0{\0y", b"mathml\n%s\0error\n{ is not closed at 0\0mathml\n%s\0" % (X, math("<mi>y</mi>")))]),
 }
