@@ -162,8 +162,8 @@ class Runs(Case):
         return (streams[name] if name in streams else (folder / name).read_bytes()).decode(errors="backslashreplace")
 
     def check(self, step, folder, done):
-        found, wanted = self.found(step.form["of"], folder, done), FORMULA.sub(lambda found: markup(*found.groups()), step.text.decode(errors="backslashreplace"))
-        verb, place = step.form["verb"], step.line.place
+        wanted = FORMULA.sub(lambda it: markup(*it.groups()), step.text.decode(errors="backslashreplace"))
+        found, verb, place = self.found(step.form["of"], folder, done), step.form["verb"], step.line.place
         if verb == " has":
             self.assertIn(wanted, found, place)
         elif verb == " counts":

@@ -86,7 +86,8 @@ def spaces():
 def classes():
     """The cases of classes.txt, each sign between two letters: as for `spaces`."""
     lines = "\n".join(line for line in data("classes.txt") if line and not line.startswith("# ")).replace("\n ", " ").splitlines()
-    return [(f"{kind} {sign}", f"$a {sign} - b$", f"${CLASSES[kind][1].format(sign)}$") for kind, *signs in map(str.split, lines) for sign in signs]
+    return [(f"{kind} {sign}", f"$a {sign} - b$", f"${CLASSES[kind][1].format(sign)}$")
+            for kind, *signs in map(str.split, lines) for sign in signs]
 
 
 COMMANDS = {"0": "", "1": r"\,", "2": r"\:", "3": r"\;"}
