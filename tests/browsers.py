@@ -3,14 +3,7 @@ import contextlib
 import os
 import subprocess
 
-FIREFOX_SETTINGS = """
-user_pref("app.update.enabled", false);
-user_pref("browser.aboutwelcome.enabled", false);
-user_pref("browser.shell.checkDefaultBrowser", false);
-user_pref("browser.startup.homepage_override.mstone", "ignore");
-user_pref("datareporting.policy.dataSubmissionEnabled", false);
-user_pref("toolkit.telemetry.reportingpolicy.firstRun", false);
-"""
+from tests.support import ROOT
 
 
 def chromium(profile, address):
@@ -20,7 +13,7 @@ def chromium(profile, address):
 
 
 def firefox(profile, address, settings=""):
-    (profile / "user.js").write_text(FIREFOX_SETTINGS + settings)
+    (profile / "user.js").write_text((ROOT / "tests/page/firefox.js").read_text() + settings)
     return ["firefox-esr", "--headless", "--no-remote", "--profile", os.fspath(profile), address]
 
 

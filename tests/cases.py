@@ -18,7 +18,7 @@ PLACE = "[place]"
 COLUMNS = re.compile(r" {2,}")
 
 # The files that are tables, and how many columns each has.
-TABLES = {"commands.txt": 3, "growth.txt": 4, "requests.txt": 4}
+TABLES = {"commands.txt": 3, "growth.txt": 4, "one_at_a_time.txt": 3, "requests.txt": 4, "requests_for_each.txt": 4}
 
 # The files that other modules read: the class of tests, which has a test for each heading, or for each line of a table.
 ELSEWHERE = {
@@ -27,13 +27,31 @@ ELSEWHERE = {
     "growth.txt": "test_growth.Instructions",
     "macros.txt": "test_python_package.Macros",
     "markdown.txt": "test_markdown.Formulas",
+    "markdown_slow.txt": "test_markdown.Formulas",
     "nested.txt": "test_depth.Printed",
     **{f"program/{word}.txt": "test_program.Answers" for word in ("block", "document", "inline")},
+    "one_at_a_time.txt": "test_growth.Memory",
+    "python.txt": "test_python_package.Calls",
     "requests.txt": "test_growth.Requests",
+    "requests_for_each.txt": "test_growth.Requests",
+    "runs/c.txt": "test_c.Examples",
+    "runs/dist.txt": "test_dist.Dist",
+    "runs/latex2mathml.txt": "test_program.Folders",
+    "runs/markdown.txt": "test_markdown.Pages",
+    "runs/mkdocs.txt": "test_mkdocs.Sites",
+    "runs/pandoc.txt": "test_pandoc.Pages",
+    "runs/python.txt": "test_python_package.Wheel",
+    "runs/site.txt": "test_site.Sites",
+    "runs/sphinx.txt": "test_sphinx.Pages",
+    "runs/tex_deep.txt": "test_tex_depth.Wide",
+    "runs/tex2mathml.txt": "test_tex_program.Answers",
     "site/elements.txt": "test_site.Elements",
     "site/formulas.txt": "test_site.Formulas",
+    "site_scripts.txt": "test_site.Scripts",
     "sphinx_rows.txt": "test_sphinx.Markup",
     "tex_definition_refusals.txt": "test_tex_program.Definitions",
+    "tex_growth.txt": "test_tex_growth.Instructions",
+    "tex_limits.txt": "test_tex_limits.Limits",
     "tex_nested.txt": "test_tex_depth.Deep",
 }
 

@@ -7,7 +7,8 @@ import shutil
 
 from tests.cases import every_rule
 from tests.nesting import kinds_of
-from tests.support import Case, ROOT, c_library, each_row, requires, run, scratch
+from tests.runs import Runs, runs_of
+from tests.support import Case, Has, ROOT, c_library, each_row, requires, run, scratch
 from tests.texts import LESS, LESS_BLOCK, UNCLOSED
 
 CC = shlex.split(os.environ.get("CC", "cc"))
@@ -18,8 +19,6 @@ WRAP = ["-Wl,--wrap=malloc,--wrap=realloc,--wrap=free", "-pthread"]
 
 
 INLINE, BLOCK = LESS.decode(), LESS_BLOCK.decode()
-ANNOTATED = INLINE.replace("><mi>x", ' alttext="x&lt;y"><semantics><mrow><mi>x').replace(
-    "</math>", '</mrow><annotation encoding="application/x-tex">x&lt;y</annotation></semantics></math>')
 CALLS = {"latex2mathml_formula", "latex2mathml_document", "latex2mathml_tex"}
 
 # Lines of `readelf`, and those of a shared library that has another name, binds late, leaves bound symbols writable, or has an
@@ -157,84 +156,44 @@ class Sanitized(Built):
         self.judge(word)
 
 
-@requires(CC[0])
-class Examples(Case):
+@requires(CC[0], "python3")
+class Examples(Runs):
     @classmethod
     def setUpClass(cls):
         # a copy, because they are built next to their sources and find the library in the folder above; a path may have spaces
-        cls.folder = cls.enterClassContext(scratch()) / "the library"
-        shutil.copytree(c_library(), cls.folder)
-        cls.built = run([cls.folder / "examples/build"])
+        cls.library = cls.enterClassContext(scratch()) / "the library"
+        shutil.copytree(c_library(), cls.library)
+        cls.built = run([cls.library / "examples/build"])
 
-    def check_example(self, *words):
-        """A program that prints the markup of its last argument, or the reason for its refusal with another status."""
-        self.expect(run([*words, "x<y"]), stdout=f"{INLINE}\n".encode())
-        self.is_refused(run([*words, "{x"]))
+    def run_as(self, tool, words, **more):
+        """A program of the examples, or Python, which finds the module there."""
+        examples = self.library / "examples"
+        environment = {**os.environ, "PYTHONPATH": str(examples), "PYTHONDONTWRITEBYTECODE": "1"}
+        return run([tool if tool == "python3" else examples / tool, *words], env=environment, **more)
 
-    def is_refused(self, done):
-        self.assertNotEqual(done.returncode, 0, done)
-        self.assertEqual(done.stdout, b"")
-        self.assertIn(UNCLOSED.encode(), done.stderr)
+    @each_row(runs_of("c.txt"))
+    def answer(self, runs):
+        self.do_each(runs)
 
     def test_they_are_built(self):
         self.expect(self.built)
 
-    def test_c(self):
-        self.check_example(self.folder / "examples/formula")
-
-    def test_tex_in_c(self):
-        """A refusal is shown at its place, in the formula or in the definitions."""
-        program = self.folder / "examples/tex"
-        self.expect(run([program, "\\def\\less{<}", "x\\less y", "x<y"]), stdout=f"{INLINE}\n{INLINE}\n".encode())
-        for words, reason in [(["", "é\\foo"], "unknown command \\foo at 2\né >>> \\foo\n"),
-                              (["\\def\\a{x} y", "\\a"], "not a definition at 10\n\\def\\a{x}  >>> y\n")]:
-            with self.subTest(reason):
-                self.expect(run([program, *words]), 1, b"", reason.encode())
-
-    def python(self, script):
-        return run(["python3", "-c", f"import latex2mathml\n{script}"], cwd=self.folder / "examples")
-
-    @requires("python3")
-    def test_python(self):
-        with self.subTest("as a program"):
-            self.check_example("python3", self.folder / "examples/latex2mathml.py")
-        for expression, answer in [("latex2mathml.document('a $x<y$')", f"a {INLINE}"), ("latex2mathml.formula('x<y')", INLINE),
-                                   ("latex2mathml.formula('x<y', True)", BLOCK), ("latex2mathml.formula(b'x<y', block=False)", INLINE),
-                                   ("latex2mathml.tex('x<y')", INLINE), ("latex2mathml.tex(b'x<y', True, b'% none')", BLOCK),
-                                   (r"latex2mathml.tex(r'x\less y', definitions=r'\def\less{<}')", INLINE),
-                                   ("latex2mathml.tex('x<y', annotation=True)", ANNOTATED)]:
-            with self.subTest(expression):
-                self.expect(self.python(f"print({expression})"), stdout=f"{answer}\n".encode())
-
-    @requires("python3")
-    def test_refused_tex_in_python(self):
-        for words, place, is_definition in [("r'x+\\foo'", 2, False), ("'x', definitions=' x'", 1, True)]:
-            with self.subTest(words):
-                done = self.python(f"try:\n    latex2mathml.tex({words})\nexcept latex2mathml.TexRefused as refused:\n"
-                                   "    print(refused.place, refused.is_definition)")
-                self.expect(done, stdout=f"{place} {is_definition}\n".encode())
-
-    @requires("python3")
     def test_python_with_a_library_elsewhere(self):
         """LATEX2MATHML names it. There is none in the folder above the copy."""
-        alone = self.enterContext(scratch()) / "alone"
+        alone = self.folder / "alone"
         alone.mkdir()
-        shutil.copy(self.folder / "examples/latex2mathml.py", alone)
-        for library, status, answer in [(self.folder / "liblatex2mathml.so", 0, f"{INLINE}\n".encode()), (None, 1, b"")]:
+        shutil.copy(self.library / "examples/latex2mathml.py", alone)
+        for library, status, answer in [(self.library / "liblatex2mathml.so", 0, LESS + b"\n"), (None, 1, b"")]:
             with self.subTest(library=library):
                 environment = {**os.environ, **({"LATEX2MATHML": str(library)} if library else {})}
                 self.expect(run(["python3", alone / "latex2mathml.py", "x<y"], env=environment), status, answer, None)
 
-    def node(self, expression, *words):
-        addon = self.folder / "examples/latex2mathml.node"
-        if not addon.exists():
-            self.skipTest("the header of Node, node_api.h, is not installed")
-        return run(["node", "-e", f"console.log(require('{addon}').formula({expression}))", *words])
-
     @requires("node")
     def test_node(self):
-        for expression, answer in [("'x<y', false", INLINE), ("'x<y', true", BLOCK), ("'x<y'", INLINE)]:
+        addon = self.library / "examples/latex2mathml.node"
+        if not addon.exists():
+            self.skipTest("the header of Node, node_api.h, is not installed")
+        for expression, due in [("'x<y', false", (0, LESS + b"\n", b"")), ("'x<y', true", (0, LESS_BLOCK + b"\n", b"")),
+                                ("'x<y'", (0, LESS + b"\n", b"")), ("'{x', false", (1, b"", Has(UNCLOSED.encode())))]:
             with self.subTest(expression):
-                self.expect(self.node(expression), stdout=f"{answer}\n".encode())
-        with self.subTest("refused"):
-            self.is_refused(self.node("'{x', false"))
+                self.expect(run(["node", "-p", f"require('{addon}').formula({expression})"]), *due)

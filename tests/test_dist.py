@@ -3,40 +3,17 @@ import os
 import re
 import shutil
 
-from tests.support import Case, ROOT, dist, newest_version, program, put, requires, run, run_folder, tex_program
-from tests.texts import LESS, LESS_BLOCK, math
+from tests.runs import Runs, runs_of
+from tests.support import ROOT, dist, each_row, newest_version, program, put, requires, run, run_folder, tex_program
 
 CRATE = "crates/latex2mathml_c"
 
-# Replaces make-c-library: it makes the folder, which must not exist.
-LIBRARY_MAKER = """#!/bin/sh
-mkdir "$1" && echo made >"$1/liblatex2mathml.so"
-"""
-
-# Replaces make-wheel.
-WHEEL_MAKER = """#!/bin/sh
-mkdir -p "$2" && echo made >"$2/made.whl"
-"""
-
-# Replaces make-deb.
-DEB_MAKER = """#!/bin/sh
-echo made >"$2/made.deb"
-"""
-
-# Replaces a Python that has pip: its wheel contains the names of the files from which it should be made.
-PYTHON = """#!/bin/sh
-[ "$1" = -c ] && exit
-[ "$1" = setup.py ] && mkdir "$5" && touch "$5/made.tar.gz" && exit
-while [ "$1" != --wheel-dir ]; do shift; done
-mkdir "$2" && cd "$3" && find * -type f >"$2/made.whl"
-"""
-
-
-INLINE, BLOCK = LESS.decode(), LESS_BLOCK.decode()
+# programs that replace those of the same names
+FAKES = ROOT / "tests/fakes/dist"
 
 
 @requires("cc", "objdump", "ldd")
-class Dist(Case):
+class Dist(Runs):
     @classmethod
     def setUpClass(cls):
         cls.dist = dist()
@@ -54,10 +31,6 @@ class Dist(Case):
             shutil.copytree(ROOT / name, house / name, ignore=shutil.ignore_patterns("__pycache__"))
         return house
 
-    def run_there(self, *words, **more):
-        """Runs a program of the folder, without an environment."""
-        return run([self.dist / words[0], *words[1:]], cwd=self.dist, env={}, **more)
-
     def test_nothing_is_left_in_the_folder_of_temporary_files(self):
         self.assertEqual(list((run_folder() / "temporary").iterdir()), [])
 
@@ -73,7 +46,7 @@ class Dist(Case):
     def test_without_an_argument(self):
         """It makes the folder `dist` of its own house, and replaces it the next time."""
         house = self.house()
-        put(house / "tools", {"make-c-library": LIBRARY_MAKER, "make-wheel": WHEEL_MAKER, "make-deb": DEB_MAKER})
+        put(house / "tools", {name: (FAKES / name).read_text() for name in ("make-c-library", "make-wheel", "make-deb")})
         for turn in ("first", "second"):
             with self.subTest(turn):
                 # no addon can be made of that library, and make-addon says so
@@ -86,7 +59,7 @@ class Dist(Case):
     def test_make_wheel_in_a_path_with_a_space(self):
         """It takes what the package needs from its own house and from the library, and puts the wheel into the folder."""
         house = self.house()
-        put(house, {"a python": PYTHON, "a library/liblatex2mathml.so": ""})
+        put(house, {"a python": (FAKES / "python").read_text(), "a library/liblatex2mathml.so": ""})
         wheel = house / "a wheel/made.whl"
         environment = {**os.environ, "PYTHON": f"{house}/a python", "TMPDIR": str(house)}
         done = run([house / "tools/make-wheel", house / "a library", wheel.parent], env=environment)
@@ -122,17 +95,13 @@ class Dist(Case):
         newest = ".".join(map(str, max(versions)))
         self.assertIn(f"the C library of GNU, version {newest} or later;", text)
 
-    def test_formulas(self):
-        for word, markup in [("inline", INLINE), ("block", BLOCK)]:
-            with self.subTest(word):
-                self.expect(self.run_there("latex2mathml", word, stdin=b"x<y"), stdout=f"{markup}\n".encode())
-        with self.subTest("as authors write it"):
-            square = math("<msubsup><mi>x</mi><mi>i</mi><mn>2</mn></msubsup>")
-            self.expect(self.run_there("tex2mathml", stdin=b"x_i^2"), stdout=square + b"\n")
-        with self.subTest("refused"):
-            refused = self.run_there("latex2mathml", "inline", stdin=b"{x")
-            self.expect(refused, 1, b"", None)
-            self.assertEqual(refused.stderr.count(b"\n"), 1)
+    def run_as(self, tool, words, **more):
+        """Runs a program of the folder, without an environment."""
+        return run([self.dist / tool, *words], env={}, **more)
+
+    @each_row(runs_of("dist.txt"))
+    def are_converted(self, runs):
+        self.do_each(runs)
 
     def test_links(self):
         """Each link of a document leads to a file that the folder has."""

@@ -16,11 +16,18 @@ DOCUMENT = "é $x$ é".encode()
 OF_DOCUMENT = "é ".encode() + X + " é".encode()
 ENERGY = math("<mi>E</mi><mo>=</mo><mi>m</mi><msup><mi>c</mi><mn>2</mn></msup>") + b" is"
 
-# words of the program, with inputs and their answers
-ANSWERS = {
-    "inline": [(FORMULA, OF_FORMULA), (b"x<y", LESS + b"\n")],
-    "block": [(b"x<y", LESS_BLOCK + b"\n")],
-    "document": [(DOCUMENT, OF_DOCUMENT), (b"$E = m c^2$ is", ENERGY)],
+# the programs, and the line with which each reports a fault
+LATEX, TEX = (faulty.program, error), (support.tex_program, lambda text: f"tex2mathml: {text}\n".encode())
+
+# a program and its words, with inputs and their answers
+RUNS = {
+    "inline": (LATEX, ["inline"], [(FORMULA, OF_FORMULA), (b"x<y", LESS + b"\n")]),
+    "block": (LATEX, ["block"], [(b"x<y", LESS_BLOCK + b"\n")]),
+    "document": (LATEX, ["document"], [(DOCUMENT, OF_DOCUMENT), (b"$E = m c^2$ is", ENERGY)]),
+    "tex": (TEX, [], [(FORMULA, OF_FORMULA)]),
+    "tex block": (TEX, ["--display", "block"], [("é".encode(), math('<mi mathvariant="normal">é</mi>', "block") + b"\n")]),
+    "tex many": (TEX, ["--null"], [
+        (b"x\0{\0y", b"mathml\n%s\0error\n{ is not closed at 0\0mathml\n%s\0" % (X, math("<mi>y</mi>")))]),
 }
 
 # an error of the device, an interruption, and a call that would have to wait
@@ -47,18 +54,13 @@ class Streams(faulty.OneByteAtATime):
 @support.requires("cc")
 class Inputs(Streams):
     @support.each_row({f"{word} {name} at each read": (word, number)
-                       for word in ANSWERS for name, number in READ_ERRORS.items()})
+                       for word in RUNS for name, number in READ_ERRORS.items()})
     def fails_at_each_read(self, word, number):
         """One byte per call, and each call in turn fails, including the one that would report the end. Nothing after it is read."""
-        for given, answer in ANSWERS[word]:
-            self.fails_at_each("read", number, len(given) + 1, [faulty.program(), word], given, answer,
-                               lambda call: (1, b"", NO_INPUT), left=lambda call, size=len(given): size - call + 1)
-
-    def test_formula_by_bytes(self):
-        self.expect(self.run_with("inline", FORMULA, step=1), stdout=OF_FORMULA)
-
-    def test_document_by_bytes(self):
-        self.expect(self.run_with("document", DOCUMENT, step=1), stdout=OF_DOCUMENT)
+        (program, told), words, pairs = RUNS[word]
+        for given, answer in pairs:
+            self.fails_at_each("read", number, len(given) + 1, [program(), *words], given, answer,
+                               lambda call: (1, b"", told(UNREAD)), left=lambda call, size=len(given): size - call + 1)
 
 
 # bytes that are not UTF-8: alone, after text and before text
@@ -104,15 +106,13 @@ class AroundTheRoom(Streams):
 @support.requires("cc")
 class Outputs(Streams):
     @support.each_row({f"{word} {name} at each write": (word, number)
-                       for word in ANSWERS for name, number in WRITE_ERRORS.items()})
+                       for word in RUNS for name, number in WRITE_ERRORS.items()})
     def stops_at_each_write(self, word, number):
         """One byte per call, and each call in turn fails, or takes nothing if the error is 0. Nothing after it is written."""
-        for given, answer in ANSWERS[word]:
-            self.fails_at_each("write", number, len(answer), [faulty.program(), word], given, answer,
-                               lambda call, answer=answer: (1, answer[:call - 1], stop_message(call - 1)))
-
-    def test_byte_by_byte(self):
-        self.expect(self.run_with("inline", FORMULA, step=1), stdout=OF_FORMULA)
+        (program, told), words, pairs = RUNS[word]
+        for given, answer in pairs:
+            self.fails_at_each("write", number, len(answer), [program(), *words], given, answer,
+                               lambda call, answer=answer: (1, answer[:call - 1], told(STOPPED.format(call - 1))))
 
 
 def ends(due):
@@ -141,8 +141,8 @@ class Errors(Streams):
                 self.assertEqual((done.stderr.count(b"\n"), counts["errors"]), (lines, lines))
 
     def test_inputs(self):
-        for (word, pairs), taken in itertools.product(ANSWERS.items(), ends(NO_INPUT)):
-            for given, _ in pairs:
+        for word, taken in itertools.product(WORDS, ends(NO_INPUT)):
+            for given, _ in RUNS[word][-1]:
                 with self.subTest(given=given, taken=taken):
                     done = self.run_with(word, given, fault=Fault("read", 2, 2, 5), step=1, errors=taken)
                     self.expect(done, 1, b"", NO_INPUT[:taken])
@@ -211,30 +211,18 @@ class FullDevice(Streams):
 
 @support.requires("cc")
 class Readings(Streams):
-    """How often the program reads: two calls for a short input, one of which reports the end, and one more for each full buffer."""
+    """How often a program reads: two calls for a short input, one of which reports the end, and one more for each full buffer. A
+    result is written by one call, if the system takes it completely."""
 
-    def reads(self, word, given):
-        with open_input(given) as source:
-            done, counts = faulty.counts_of([faulty.program(), word], stdin=source)
-        self.assertIn(done.returncode, (0, 1))
-        self.assertEqual(done.stderr, b"")
-        return counts["read"]
-
-    def test_short(self):
-        for word in WORDS:
-            for given in (b"", b"x", b"x" * (ROOM - 1)):
-                with self.subTest(word=word, bytes=len(given)):
-                    self.assertLessEqual(self.reads(word, given), 2)
-
-    def test_long(self):
-        for word in WORDS:
-            for size in (ROOM, ROOM + 1, 1_000_000, 16_000_000 // (1 + 15 * (word != "document"))):
-                with self.subTest(word=word, bytes=size):
-                    self.assertLessEqual(self.reads(word, b"x" * size), size // ROOM + 2)
-
-    def test_writes(self):
-        """A result is written by one call, if the system takes it completely."""
-        for word in WORDS:
-            with open_input(b"x" * 100_000) as source:
-                _, counts = faulty.counts_of([faulty.program(), word], stdin=source)
-            self.assertEqual(counts["write"], 1)
+    @support.each_row({
+        **{word: (faulty.program, [word], b"x", 16_000_000 if word == "document" else 1_000_000) for word in WORDS},
+        "tex": (support.tex_program, [], b"x", 1_000_000), "tex many": (support.tex_program, ["--null"], b"x_1^2\0", 1_000_000),
+    })
+    def are_counted(self, program, words, piece, most):
+        for size in (0, 1, ROOM - 1, ROOM, ROOM + 1, 1_000_000, most):
+            given = piece * (size // len(piece))
+            with self.subTest(size), open_input(given) as source:
+                done, counts = faulty.counts_of([program(), *words], stdin=source)
+                self.expect(done, stdout=None)
+                self.assertLessEqual(counts["read"], len(given) // ROOM + 2)
+                self.assertEqual(counts["write"], int(bool(done.stdout)))

@@ -163,11 +163,14 @@ class Rights(Walks):
         if not support.run(["cat", self.site / "a.html"], **user).returncode:
             self.skipTest("there is no user that may not open all files")
         done = support.run([faulty.program(), "html", self.site], **user)
-        for path in (self.site, *self.site.iterdir()):
+        for path in {self.site, *self.site.iterdir()} - {self.site / "z.html"}:
             path.chmod(path.stat().st_mode | stat.S_IRWXU)
         kept = ("a.html", "entered/a.html", "listed/a.html", "m/b.html", "m/c.html", "z.html")
         self.holds(done, [("/a.html", UNREAD), ("/entered", UNLISTED), ("/m", UNLISTED), ("/z.html", NOT_CREATED)],
                    {"kept/a.html": X, "y.html": b"no sign", **{name: b"$x$" for name in kept}})
+        with self.subTest("opened again"):
+            done = support.run([faulty.program(), "html", self.site], **user)
+            self.holds(done, [("/z.html", NOT_CREATED)], {"z.html": b"$x$", **dict.fromkeys(kept[:-1], X)})
 
 
 @support.requires("cc")

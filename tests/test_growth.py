@@ -35,25 +35,6 @@ def rows(name):
     return {key: (int(key in REFUSED), word, of_size(text), int(number)) for _, key, word, text, number in cases.rows(name)}
 
 
-# What asks for memory for each of its pieces, and how often for each: a name or a text that is spelled out is a text of its own.
-# The name of an unknown command is copied, into a text that grows once. Everything else is written from what was read.
-FOR_EACH = {
-    "names": ("inline", "\\operatorname{ab}", 1),
-    "texts": ("inline", "\\text{ab}", 1),
-    "texts of a document": ("document", "$\\text{ab}$", 1),
-    "environments": ("inline", "\\begin{matrix}a\\end{matrix}", 1),
-    "unknown commands": ("inline", "\\foo ", 3),
-}
-
-# The pieces of a formula, or of a document, that are read and written one after another: memory for one is enough.
-ONE_AT_A_TIME = {
-    "scripts": ("inline", '[N times "x_1^2"]'),
-    "groups": ("inline", '[N times "{a_b^c}"]'),
-    "texts": ("inline", '[N times "\\text{ab}"]'),
-    "formulas of a document": ("document", '[N times "$x_1^2$"]'),
-    "a formula of a document": ("document", 'a $[N times "x_1^2"]$ b'),
-}
-
 # The formulas of a document, and the result of each.
 FORMULAS = {
     "$x$": "<mi>x</mi>",
@@ -104,7 +85,7 @@ class Memory(Growth):
         """Memory is held only for the text and the answer, with at most twice the room that they need."""
         self.assertLessEqual(peak, 2 * (text + answer) + OWN_BYTES, f"the text has {text:,} bytes, and the answer {answer:,}")
 
-    @support.each_row({f"one at a time of {name}": row for name, row in ONE_AT_A_TIME.items()})
+    @support.each_row({key: row for _, key, *row in cases.rows("one_at_a_time.txt")})
     def judge_one_at_a_time(self, word, text):
         given = of_size(text)(MEGABYTE)
         counts = self.count(word, given)
@@ -135,8 +116,8 @@ class Requests(Growth):
     def judge(self, status, word, text, counted):
         self.assertLessEqual(self.count(word, text(100_000), status)["requests"], counted + MORE_REQUESTS)
 
-    @support.each_row({f"each of {name}": row for name, row in FOR_EACH.items()})
-    def judge_each(self, word, piece, each):
+    @support.each_row({key: (word, text, int(each)) for _, key, word, text, each in cases.rows("requests_for_each.txt")})
+    def judge_each(self, word, text, each):
         """5,000 more pieces take this many for each of them, besides the doubling of what grows."""
-        few, many = (self.count(word, piece.encode() * pieces)["requests"] for pieces in (5_000, 10_000))
+        few, many = (self.count(word, cases.expand(text, pieces))["requests"] for pieces in (5_000, 10_000))
         self.assertLessEqual(many - few, 5_000 * each + MORE_REQUESTS)

@@ -10,7 +10,7 @@ import tomllib
 import pytest
 
 from tests.environments import interpreter, requires_python
-from tests.sites import tex
+from tests.integration import tex
 from tests.support import ROOT, Case, Has, dist, newest_version, put, requires, run
 
 pytestmark = pytest.mark.long

@@ -9,7 +9,7 @@ import threading
 
 from tests import support
 from tests.browsers import chromium, firefox, open_browser
-from tests.cases import commands as entries
+from tests.cases import commands as entries, read
 
 PAGES = support.ROOT / "tests/page"
 
@@ -79,21 +79,14 @@ CLASSES = {
 
 def spaces():
     """The cases of spaces.txt: a name, a formula, and the formula with its spaces."""
-    lines = [(number, line) for number, line in enumerate(data("spaces.txt"), 1) if line and not line.startswith("# ")]
-    return [(f"spaces.txt:{number}", formula, spaced) for (number, formula), (_, spaced) in zip(lines[::2], lines[1::2])]
+    return [(case.place, case.input.decode(), case.answer.decode()) for case in read(PAGES / "spaces.txt")]
 
 
 def classes():
     """The cases of classes.txt, each sign between two letters: as for `spaces`."""
-    cases, kind = [], None
-    for line in data("classes.txt"):
-        words = line.split()
-        if not words or line.startswith("# "):
-            continue
-        if not line.startswith(" "):
-            kind = words.pop(0)
-        cases += [(f"{kind} {sign}", f"$a {sign} - b$", f"${CLASSES[kind][1].format(sign)}$") for sign in words]
-    return cases
+    lines = "\n".join(line for line in data("classes.txt") if line and not line.startswith("# ")).replace("\n ", " ").splitlines()
+    return [(f"{kind} {sign}", f"$a {sign} - b$", f"${CLASSES[kind][1].format(sign)}$")
+            for kind, *signs in map(str.split, lines) for sign in signs]
 
 
 COMMANDS = {"0": "", "1": r"\,", "2": r"\:", "3": r"\;"}

@@ -10,15 +10,7 @@ from tests.browsers import firefox, open_browser
 FORMULAS = [r"\left( \frac{\frac{a}{b}}{\frac{c}{d}} \right) + \left[ x^2 \right]", r"\sqrt{\frac12} \leq \sum_{k=1}^n a_k", r"\overline{ab}",
             r"\begin{pmatrix}1 & 2 \\ 3 & 4\end{pmatrix}"]
 STYLES = {"light": "", "dark": "background: #121212; color: #eee"}
-PAGE = """<!DOCTYPE html>
-<meta charset="utf-8">
-<title>Formulas</title>
-<link rel="stylesheet" href="page/latex2mathml.css">
-<script src="page/latex2mathml.js" defer></script>
-<body style="STYLE">
-FORMULAS
-<script>addEventListener('load', () => setTimeout(print));</script>
-"""
+PAGE = (support.ROOT / "tests/paper/page.html").read_text()
 
 # Firefox prints to a file, without asking and without its lines around the page.
 SETTINGS = {

@@ -3,9 +3,10 @@ import os
 import shutil
 import subprocess
 
-from tests import cases, faulty
-from tests.support import BUILD_NOTHING, Case, ROOT, as_nobody, each_row, limit, program, put, run
-from tests.texts import BAD_ENTRY, LESS, NOT_CREATED, NO_TEXT, STOPPED, UNCLOSED, UNLISTED, UNPAIRED, UNREAD, USAGE, X, error, math
+from tests import cases
+from tests.runs import Runs, runs_of
+from tests.support import BUILD_NOTHING, Case, ROOT, each_row, limit, program, put, run
+from tests.texts import BAD_ENTRY, LESS, STOPPED, UNCLOSED, UNPAIRED, UNREAD, USAGE, X, error, math
 
 LAUNCHER = ROOT / "latex2mathml"
 
@@ -39,7 +40,6 @@ class Launcher(Case):
             with self.subTest(words):
                 done = run([*words, "inline"], stdin=b"x<y", env={**os.environ, BUILD_NOTHING: "1"}, **more)
                 self.expect(done, stdout=LESS + b"\n")
-
 
     def test_the_program_takes_its_place(self):
         """The program replaces the process of the launcher, which leaves no temporary files, and passes the arguments on."""
@@ -151,89 +151,13 @@ class Site(Case):
         self.expect(run([self.command, "html", path], stdin=subprocess.DEVNULL, **more), 1 if faults else 0, b"", lines)
 
 
+class Folders(Runs):
+    @each_row(runs_of("latex2mathml.txt"))
+    def are_converted(self, runs):
+        self.do_each(runs)
+
+
 class Files(Site):
-    BEFORE = {
-        ".html": b"$x$", "a.html": b"$x$", "b.html": b"$$$", "c.htm": b"$x$", "c.HTML": b"$x$", "d/e.html": b"no sign",
-        "d/g.html": b"{$x$", "d.html/a.html": b"$a$$", "e.html": b"", "f.html": b"\xff",
-    }
-    AFTER = {**BEFORE, "a.html": X, "d/g.html": b"{" + X}
-
-    def faults_of_before(self, path):
-        return [(f"{path}/b.html", UNPAIRED), (f"{path}/d.html/a.html", UNPAIRED), (f"{path}/f.html", NO_TEXT)]
-
-    def test_a_folder(self):
-        self.put(self.BEFORE)
-        (self.site / "none").mkdir()
-        self.convert(self.site, self.faults_of_before(self.site))
-        self.expect_files(self.AFTER)
-
-    def test_a_folder_once_more(self):
-        """A file is not written if nothing in it changes."""
-        self.put(self.AFTER)
-        for file in self.site.rglob("*.*"):
-            os.utime(file, (0, 0))
-        self.convert(self.site, self.faults_of_before(self.site))
-        self.expect_files(self.AFTER)
-        written = [file for file in self.site.rglob("*") if file.is_file() and file.stat().st_mtime]
-        self.assertEqual(written, [])
-
-    def test_a_path_that_ends_in_slashes(self):
-        for slashes, named in [("/", ""), ("//", "/")]:
-            with self.subTest(slashes):
-                self.put(self.BEFORE)
-                self.convert(f"{self.site}{slashes}", self.faults_of_before(f"{self.site}{named}"))
-                self.expect_files(self.AFTER)
-
-    def test_nothing_to_convert(self):
-        (self.site / "none").mkdir()
-        for name, path in [("an empty folder", self.site / "none"), ("a path where nothing stands", self.site / "nothing.html"),
-                           ("an empty path", ""), ("a device", "/dev/null")]:
-            with self.subTest(name):
-                self.convert(path)
-
-    def test_a_file(self):
-        self.put({"a.html": b"$$$", "b.html": b"$x$", "x": b"$x$"})
-        with self.subTest("converted"):
-            self.convert(self.site / "b.html")
-            self.expect_files({"a.html": b"$$$", "b.html": X})
-        with self.subTest("refused"):
-            self.convert(self.site / "a.html", [(self.site / "a.html", UNPAIRED)])
-            self.expect_files({"a.html": b"$$$"})
-        with self.subTest("no document by its name"):
-            self.convert(self.site / "x")
-            self.expect_files({"x": b"$x$"})
-
-    def test_order(self):
-        """The order of the names' bytes, with each subfolder completely in its place, whatever follows it."""
-        order = ["Z.html", "a.html", "b/a/z.html", "b/b.html", "b-.html", "b.html", "ba.html", "z.html", "é/a.html"]
-        self.put(dict.fromkeys(reversed(order), b"$"))
-        self.convert(self.site, [(self.site / name, UNPAIRED) for name in order])
-
-    def test_links(self):
-        """Links are followed: to a file, which stays a link, to a folder, to nothing, and to itself."""
-        self.put({"aside/a.html": b"$x$", "alone": b"$x$"})
-        walked = self.site / "walked"
-        walked.mkdir()
-        for name, target in [("d", self.site / "aside"), ("b.html", self.site / "alone"), ("c.html", "nothing"), ("e.html", "e.html")]:
-            (walked / name).symlink_to(target)
-        self.convert(walked)
-        self.expect_files({"walked/d/a.html": X, "walked/b.html": X, "alone": X})
-        self.assertTrue((walked / "b.html").is_symlink())
-
-    def test_a_folder_in_itself(self):
-        """The system follows only a limited number of links in one path, and what comes after them is left alone."""
-        (self.site / "d").symlink_to(".")
-        self.put({"a.html": b"$x$"})
-        self.convert(self.site)
-        self.expect_files({"a.html": X})
-
-    def test_a_folder_below_itself(self):
-        (self.site / "a").mkdir()
-        (self.site / "a/b").symlink_to("..")
-        self.put({"a.html": b"$x$"})
-        self.convert(self.site, [(f"{self.site}{'/a/b' * 32}", "The directory lies deeper than 64 levels.")])
-        self.expect_files({"a.html": X})
-
     def test_66_levels(self):
         names = ["d/" * level + "a.html" for level in range(66)]
         self.put(dict.fromkeys(names, b"$x$"))
@@ -266,29 +190,3 @@ class Files(Site):
             self.assertEqual(given.read(), b"$$$")
         self.expect(done, 1, b"", error(f"{self.site}/a.html: {UNPAIRED}"))
         self.expect_files({"b.html": X})
-
-
-class Rights(Site):
-    """Files that may not be opened. If this user may open everything, as root may, another user runs the case."""
-
-    def setUp(self):
-        super().setUp()
-        self.command = faulty.program()
-        self.put({"a.html": b"$x$", "b.html": b"$x$", "c.html": b"no sign", "d/a.html": b"$x$", "walled/a.html": b"$x$", "z.html": b"$x$"})
-        self.as_other = as_nobody(self.site)
-        self.folder.chmod(0o711)
-
-    def test_files_and_folders(self):
-        for name, mode in [("a.html", 0), ("b.html", 0o444), ("c.html", 0o444), ("d", 0), ("walled", 0o444)]:
-            (self.site / name).chmod(mode)
-        no_file = (self.site / "b.html", NOT_CREATED)
-        with self.subTest("closed"):
-            faults = [(self.site / "a.html", UNREAD), no_file,
-                      (self.site / "d", UNLISTED)]
-            self.convert(self.site, faults, **self.as_other)
-            self.expect_files({"b.html": b"$x$", "c.html": b"no sign", "z.html": X})
-        with self.subTest("opened again"):
-            for name, mode in [("a.html", 0o644), ("d", 0o755), ("walled", 0o755)]:
-                (self.site / name).chmod(mode)
-            self.convert(self.site, [no_file], **self.as_other)
-            self.expect_files({"a.html": X, "b.html": b"$x$", "d/a.html": X, "walled/a.html": X})

@@ -7,27 +7,18 @@ import pickle
 import re
 import shutil
 import tomllib
-import unittest
 import unittest.mock
 import zipfile
 
 from tests import texts
-from tests.cases import blocks, key_of
+from tests.cases import blocks, key_of, with_tags
 from tests.environments import ask, environment, proved, requires_python, run_python, wheel
+from tests.runs import Runs, runs_of
 from tests.support import ROOT, Case, c_library, each_row, requires, run
-from tests.texts import UNCLOSED, UNPAIRED
+from tests.texts import UNCLOSED
 
 PACKAGE = ROOT / "integrations/python"
-ANNOTATED = (
-    '<math xmlns="http://www.w3.org/1998/Math/MathML" display="{0}" alttext="{2}">'
-    '<semantics>{1}<annotation encoding="application/x-tex">{2}</annotation></semantics></math>'
-)
-LESS_INLINE, LESS_BLOCK = texts.LESS.decode(), texts.LESS_BLOCK.decode()
-
-
-def math(contents, display="inline"):
-    return texts.math(contents, display).decode()
-
+LESS = texts.LESS.decode()
 
 # The type of a fault of a formula.
 FAULT = "latex2mathml_proved.rendering.Fault"
@@ -69,35 +60,37 @@ def answer(other):
 """
 
 
-def call(function, *words, **named):
-    """What a function of the package returns, or its error."""
+def render(*words):
+    """The markup of a formula, with its fault."""
+    return "\n".join(map(str, filter(None, proved(".rendering").Renderer().render(*words))))
+
+
+def call(name, *words, **named):
+    """What a function of the package returns, or its error. A refusal of `tex` is shown as it is after copying it."""
     try:
-        return getattr(proved(), function)(*words, **named)
-    except Exception as error:
-        return type(error).__qualname__, isinstance(error, ValueError), str(error)
-
-
-def refused(reason):
-    return "Refused", True, reason
-
-
-def call_tex(*words):
-    """What `tex` returns, or what is known about a refusal, even after copying it."""
-    try:
-        return proved().tex(*words)
+        return render(*words) if name == "render" else getattr(proved(), name)(*words, **named)
     except proved().TexRefused as error:
         copy = pickle.loads(pickle.dumps(error))
-        return str(copy), copy.reason, copy.place, copy.is_definition, copy.line, copy.column, isinstance(copy, proved().Refused)
+        assert isinstance(copy, proved().Refused) and str(copy) == f"{copy.reason} at {copy.place}"
+        return f"TexRefused: {copy}: in the {'definitions' if copy.is_definition else 'formula'}, line {copy.line}, column {copy.column}"
+    except ValueError as error:
+        return f"{type(error).__qualname__}: {error}"
 
 
-def render(*words):
-    """The markup of a formula, and its fault as a text."""
-    markup, fault = proved(".rendering").Renderer().render(*words)
-    return markup, fault and str(fault)
+def rows_of_lines(name):
+    """The cases of a file under each heading, as lines."""
+    found = collections.defaultdict(list)
+    for heading, lines in blocks(name):
+        found[key_of(heading)].append(lines)
+    return found
 
 
 @requires_python()
-class Wheel(Case):
+class Wheel(Runs):
+    @each_row(runs_of("python.txt"))
+    def is_run(self, runs):
+        self.do_each(runs)
+
     def test_platform(self):
         """It requires the newest version of the C library that the shared library needs, and no newer one."""
         symbols = run(["objdump", "-T", c_library() / "liblatex2mathml.so"]).stdout.decode()
@@ -109,6 +102,9 @@ class Wheel(Case):
             names = {name.partition("/")[2] for name in packed.namelist() if name.startswith("latex2mathml_proved/")}
             [about] = [name for name in packed.namelist() if name.endswith("/METADATA")]
             metadata = packed.read(about).decode()
+            # its terms require that it comes with the package
+            [licence] = [name for name in packed.namelist() if name.endswith("/LICENSE")]
+            self.assertEqual(packed.read(licence), (ROOT / "LICENSE").read_bytes())
         self.assertLessEqual({"py.typed", "liblatex2mathml.so", "page/latex2mathml.css", "page/latex2mathml.js"}, names)
         self.assertNotIn("Requires-Dist", metadata)
 
@@ -140,34 +136,12 @@ class Wheel(Case):
                     "--no-error-summary", "--cache-dir", self.folder, PACKAGE / "src/latex2mathml_proved", PACKAGE / "setup.py"], timeout=300)
         self.expect(done, 0, b"", b"")
 
-    def test_licence(self):
-        """It comes with the package, as its terms require."""
-        with zipfile.ZipFile(wheel()) as packed:
-            [licence] = [name for name in packed.namelist() if name.endswith("/LICENSE")]
-            self.assertEqual(packed.read(licence), (ROOT / "LICENSE").read_bytes())
-
     def test_what_is_opened_is_closed(self):
         """Python would warn about a file that the collector has to close, and about one that is read in the locale's encoding."""
         script = ("import sys\nimport latex2mathml_proved.rendering as it\n"
                   "print(it.Renderer().render('x').markup)\nit.Renderer().render('{')\nit.copy_page(sys.argv[1])")
         options = ["-X", "warn_default_encoding", "-W", "always::ResourceWarning"]
         self.expect(run_python(environment(), *options, "-c", script, self.folder / "site"), 0, texts.X + b"\n", b"")
-
-    def test_page_files(self):
-        """`python3 -m latex2mathml_proved FOLDER` copies them into a folder, even if it has them already."""
-        folder = self.folder / "site"
-        for _ in range(2):
-            self.expect(run_python(environment(), "-m", "latex2mathml_proved", folder), stdout=b"")
-        self.assertEqual(sorted(path.name for path in folder.iterdir()), ["latex2mathml.css", "latex2mathml.js"])
-
-    def test_words_that_are_no_folder(self):
-        """Its usage is shown, and no folder is made."""
-        for words, status in (["--help"], 0), (["-h"], 0), ([], 2), (["--other"], 2), (["a", "b"], 2):
-            with self.subTest(words):
-                done = run_python(environment(), "-m", "latex2mathml_proved", *words, cwd=self.folder)
-                usage = b"usage: python3 -m latex2mathml_proved [-h] FOLDER\n"
-                self.assertEqual((done.returncode, (done.stdout + done.stderr).startswith(usage)), (status, True))
-                self.assertEqual(list(self.folder.iterdir()), [])
 
     def test_page_files_that_may_only_be_read(self):
         """Their copies may be written, so that the next build can copy them again."""
@@ -188,47 +162,28 @@ class Wheel(Case):
 
 @requires_python()
 class Calls(Case):
+    @each_row(rows_of_lines("python.txt"))
+    def give(self, *cases):
+        for name, words, *answer in cases:
+            with self.subTest(name.place):
+                words = json.loads(words.expand())
+                named = words.pop() if isinstance(words[-1], dict) else {}
+                self.assertEqual(call(name.text, *words, **named), with_tags(b"\n".join(it.expand() for it in answer)).decode())
+
     def test_what_the_texts_show(self):
         """The examples of the README and of the package give the results that they show."""
         self.expect(run_python(environment(), "-m", "doctest", ROOT / "integrations/python/README.md"), 0, b"", b"")
         own = "import doctest, latex2mathml_proved; print(doctest.testmod(latex2mathml_proved))"
         self.expect(run_python(environment(), "-c", own), 0, b"TestResults(failed=0, attempted=3)\n", b"")
 
-    def test_markup(self):
-        for block, markup in ((False, LESS_INLINE), (True, LESS_BLOCK)):
-            self.assertEqual((call("formula", "x<y", block), call("formula", "x<y", block=block)), (markup, markup))
-        self.assertEqual(call("formula", "x<y"), LESS_INLINE)
-        self.assertEqual(call("document", "é $x<y$, $$x<y$$ \\$"), f"é {LESS_INLINE}, {LESS_BLOCK} &#x24;")
-
-    def test_refusals(self):
-        self.assertEqual(call("formula", "{x"), refused(UNCLOSED))
-        self.assertEqual(call("document", "a $x"), refused(UNPAIRED))
-        self.assertEqual(call("document", "a ${x$"), refused(UNCLOSED))
-
-    def test_marked_errors(self):
-        """If none is allowed, all of them are named, and a formula without any is as it was."""
-        le, less = 'marked as an error: Undefined("Command(\\"le\\")")', 'marked as an error: Undefined("Command(\\"<\\")")'
-        self.assertEqual(call("formula", "x \\le y", strict=True), refused(le))
-        self.assertEqual(call("formula", "\\<", True, True), refused(less))
-        self.assertEqual(call("formula", "x<y", strict=True), LESS_INLINE)
-        self.assertEqual(call("document", "$\\le$ $x$ $\\foo$", True), refused(f'{le}, Undefined("Command(\\"foo\\")")'))
-        self.assertEqual(call("document", "$x<y$", strict=True), LESS_INLINE)
-        self.assertIn("[PARSE ERROR: ", call("formula", "x \\le y"))
-
-    def test_texts_of_any_kind(self):
-        for text, contents in (("", ""), ("x" * 100_000, "<mi>x</mi>" * 100_000), ("𝟙", '<mi mathvariant="normal">𝟙</mi>'),
-                               ("\0x", '<mtext>[PARSE ERROR: Undefined("Illegal(\'\0\')")]</mtext><mi>x</mi>')):
-            self.assertEqual(call("formula", text), math(contents))
-        self.assertEqual(call("formula", "\ud800")[:2], ("UnicodeEncodeError", True))
-
     def test_an_answer_larger_than_the_first_room(self):
         with unittest.mock.patch.multiple(proved("._library"), ROOM=1, ROOM_PER_BYTE=0):
-            self.assertEqual((call("formula", "x<y"), call("document", "$x<y$")), (LESS_INLINE, LESS_INLINE))
-            self.assertEqual(call("formula", "{x"), refused(UNCLOSED))
+            self.assertEqual((call("formula", "x<y"), call("document", "$x<y$")), (LESS, LESS))
+            self.assertEqual(call("formula", "{x"), f"Refused: {UNCLOSED}")
 
     def test_little_memory(self):
         [answers] = ask(environment(), LITTLE_MEMORY, ["x" * 4_000_000, "x<y"])
-        self.assertEqual(answers, ["latex2mathml: out of memory", LESS_INLINE])
+        self.assertEqual(answers, ["latex2mathml: out of memory", LESS])
 
     def test_threads(self):
         formulas = [f"{{x_{number}" + "}" * (number % 2) for number in range(400)]
@@ -236,34 +191,17 @@ class Calls(Case):
         with concurrent.futures.ThreadPoolExecutor(8) as pool:
             self.assertEqual(list(pool.map(functools.partial(call, "formula"), formulas)), alone)
 
-
-@requires_python()
-class Tex(unittest.TestCase):
-    def test_markup(self):
-        power = "<msubsup><mi>x</mi><mi>i</mi><mn>2</mn></msubsup>"
-        self.assertEqual(call_tex("x_i^2"), math(power))
-        self.assertEqual(call_tex("x_i^2", True), math(power, "block"))
-        self.assertEqual(call_tex("\\p", False, "\\newcommand{\\p}{x_i^2}"), math(power))
-
-    def test_annotation(self):
-        """It is the formula as it was given, even if a macro replaces a part of it."""
-        self.assertEqual(call_tex("x<y", False, "", True),
-                         ANNOTATED.format("inline", "<mrow><mi>x</mi><mo>&lt;</mo><mi>y</mi></mrow>", "x&lt;y"))
-        self.assertEqual(call_tex("\\p", True, "\\def\\p{x}", True), ANNOTATED.format("block", "<mi>x</mi>", "\\p"))
-        self.assertEqual(call_tex("\\foo", False, "", True), ("unknown command \\foo at 0", "unknown command \\foo", 0, False, 1, 1, True))
-
-    def test_refusals(self):
-        """A place is that of a character, even if characters of several bytes precede it."""
-        for words, place, is_definition, line, column in (
-                (["x + \\foo"], 4, False, 1, 5), (["é𝟙\\foo"], 2, False, 1, 3), (["x", False, "% é\nx"], 4, True, 2, 1),
-                (["x\né\n 𝟙\\foo"], 6, False, 3, 3)):
-            reason = "not a definition" if is_definition else "unknown command \\foo"
-            self.assertEqual(call_tex(*words), (f"{reason} at {place}", reason, place, is_definition, line, column, True))
-
     def test_brackets_behind_commands(self):
         """An optional argument is not part of what is drawn."""
-        bracketed, plain = (re.sub("<[^>]*>", "", call_tex(latex)) for latex in ("\\smash[b]{x}", "\\smash{x}"))
+        bracketed, plain = (re.sub("<[^>]*>", "", call("tex", latex)) for latex in ("\\smash[b]{x}", "\\smash{x}"))
         self.assertEqual(bracketed, plain)
+
+    def test_each_formula_is_converted_once(self):
+        rendering = proved(".rendering")
+        for formula in ("x", "{x", "\\foo"):
+            with unittest.mock.patch.object(rendering, "tex", wraps=rendering.tex) as calls:
+                render(formula)
+            self.assertEqual(calls.call_count, 1)
 
 
 def render_with(macros, formula):
@@ -275,65 +213,27 @@ def render_with(macros, formula):
         return str(error)
 
 
-def rows_of_macros():
-    """The cases of macros.txt under each heading: the option, a formula, and its markup or a reason."""
-    found = collections.defaultdict(list)
-    for heading, (option, formula, wanted) in blocks("macros.txt"):
-        markup = math(wanted.text) if wanted.text.startswith("<") else wanted.text
-        found[key_of(heading)].append((json.loads(option.text), formula.text, markup))
-    return found
-
-
 @requires_python()
 class Macros(Case):
-    X = texts.X.decode()
+    def check(self, macros, formula, wanted):
+        """The wanted contents of the element, or why the option is refused."""
+        self.assertEqual(render_with(macros, formula), (texts.math(wanted).decode(), None) if wanted.startswith("<") else wanted)
 
-    def check(self, *cases):
-        for macros, formula, wanted in cases:
-            with self.subTest(macros):
-                self.assertEqual(render_with(macros, formula), (wanted, None) if wanted.startswith("<") else wanted)
-
-    @each_row(rows_of_macros())
+    @each_row(rows_of_lines("macros.txt"))
     def are_read(self, *cases):
-        self.check(*cases)
+        for macros, formula, wanted in cases:
+            with self.subTest(macros.place):
+                self.check(json.loads(macros.text), formula.text, wanted.text)
 
     def test_a_file(self):
         file = self.folder / "macros.tex"
         file.write_text("% é\n\\newcommand{\\xx}{x}\n\\DeclareMathOperator{\\rank}{rank}\n", encoding="utf-8")
-        self.check((str(file), "\\xx", self.X))
+        self.check(str(file), "\\xx", "<mi>x</mi>")
         file.write_text("% é\n\\def\\a{é} \\usepackage{bm}", encoding="utf-8")
-        self.check((str(file), "x", f"{file}:2:11: not a definition"))
+        self.check(str(file), "x", f"{file}:2:11: not a definition")
         file.write_bytes(b"\xff")
-        self.check((str(file), "x", f"{file}: not UTF-8"))
+        self.check(str(file), "x", f"{file}: not UTF-8")
 
     def test_no_file(self):
         with self.assertRaisesRegex(FileNotFoundError, "none.tex"):
             render_with("none.tex", "x")
-
-
-@requires_python()
-class Renderings(unittest.TestCase):
-    def test_each_formula_is_converted_once(self):
-        rendering = proved(".rendering")
-        for formula in ("x", "{x", "\\foo"):
-            with unittest.mock.patch.object(rendering, "tex", wraps=rendering.tex) as calls:
-                rendering.Renderer().render(formula)
-            self.assertEqual(calls.call_count, 1)
-
-    def test_faults(self):
-        """A refused formula is shown as it was written, with no mark in it. The reason says what is refused first, and where."""
-        code = '<code class="latex2mathml-refused" title="{}">{}</code>'
-        for formula, shown, fault, place in (
-                ("{\\le<\"\\&", "{\\le&lt;&quot;\\&amp;", "{ is not closed", "column 1"),
-                ("a \\foo b \\bar", "a \\foo b \\bar", "unknown command \\foo", "column 3"),
-                ("{\\$", "{\\&#x24;", "{ is not closed", "column 1"),
-                (" a &= b \\\\\n &= \\foo", " a &amp;= b \\\\\n &amp;= \\foo", "unknown command \\foo", "line 2, column 5")):
-            with self.subTest(formula):
-                self.assertEqual(render(formula), (code.format(f"{fault} at {place}", shown), f"{' '.join(formula.split())}: {fault} at {place}"))
-        self.assertEqual(render("{" + "x " * 40)[1], "{" + "x " * 29 + "x...: { is not closed at column 1")
-
-    def test_another_source(self):
-        """Code and faults have what the author wrote, instead of what is converted."""
-        self.assertEqual(render("a\\\\\\foo", True, "a\n\n\\foo"), (
-            '<code class="latex2mathml-refused" title="unknown command \\foo at line 3, column 1">a\n\n\\foo</code>',
-            "a \\foo: unknown command \\foo at line 3, column 1"))

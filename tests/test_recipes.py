@@ -1,9 +1,10 @@
 """The recipes for site builders, followed to the letter: the files and commands are those of recipes.md."""
 import os
 import re
+import shutil
 
 from tests.environments import environment, requires_python
-from tests.sites import tex
+from tests.integration import tex
 from tests.support import ROOT, Case, put, requires, run, run_folder
 
 RECIPES = (ROOT / "integrations/recipes.md").read_text()
@@ -24,24 +25,26 @@ def blocks(name, language):
 
 @requires_python()
 class Builders(Case):
-    """Sites of one page, which has a formula of each kind, a price, and dollar signs in code."""
+    """The sites of `tests/recipes`, of one page, which has a formula of each kind, a price, and dollar signs in code."""
 
     def setUp(self):
         self.site = self.folder / "site"
-        self.site.mkdir()
         path = f"{environment().parent}:{os.environ['PATH']}"
         self.environment = {**os.environ, "PATH": path, "XDG_CACHE_HOME": str(run_folder() / "caches")}
-        self.line, self.block = tex(LINE, [BLOCK, True])
 
-    def do(self, command, **more):
-        """Runs the commands of a section, which end with those of `latex2mathml-site`, and returns its last line."""
-        done = run(["sh", "-c", command], cwd=self.site, env={**self.environment, **more}, timeout=300)
+    def build(self, name, added=(), edit=lambda command: command, **more):
+        """Runs the commands of a section in its site, with added files, and returns the last line of `latex2mathml-site`."""
+        shutil.copytree(ROOT / "tests/recipes" / name.lower(), self.site)
+        put(self.site, dict(added))
+        [command] = blocks(name, "sh")
+        done = run(["sh", "-c", edit(command)], cwd=self.site, env={**self.environment, **more}, timeout=300)
         self.expect(done, stdout=None, stderr=None)
         return done.stdout.decode().strip().split("\n")[-1]
 
     def check(self, page, said):
-        self.assertIn(f"Let {self.line} cost $5 and $6.", page)
-        self.assertIn(self.block, page)
+        line, block = tex(LINE, [BLOCK, True])
+        self.assertIn(f"Let {line} cost $5 and $6.", page)
+        self.assertIn(block, page)
         self.assertNotIn("language-math", page)
         self.assertRegex(page, r"<code[^>]*>\$x\$</code>")
         self.assertIn("$HOME", page)
@@ -50,12 +53,7 @@ class Builders(Case):
     @requires("hugo")
     def test_hugo(self):
         [shortcode] = blocks("Hugo", "html")
-        [command] = blocks("Hugo", "sh")
-        text = f"Let {{{{< m >}}}}{LINE}{{{{< /m >}}}} cost $5 and $6.\n\n```math\n{BLOCK}\n```\n\n`$x$`\n\n```sh\n$ ls $HOME\n```\n"
-        template = "<!DOCTYPE html>\n<html><head>\n<title>{{ .Title }}</title>\n</head>\n<body>\n{{ .Content }}\n</body></html>\n"
-        put(self.site, {"layouts/shortcodes/m.html": shortcode, "layouts/_default/single.html": template, "layouts/_default/list.html": "<p>",
-                  "config.toml": 'baseURL = "https://example.org/"\n', "content/posts/one.md": f"---\ntitle: One\n---\n{text}"})
-        said = self.do(command)
+        said = self.build("Hugo", {"layouts/shortcodes/m.html": shortcode})
         self.check((self.site / "public/posts/one/index.html").read_text(), said)
         feed = (self.site / "public/posts/index.xml").read_text()
         self.assertIn("\\(", feed)
@@ -63,23 +61,17 @@ class Builders(Case):
 
     @requires("jekyll")
     def test_jekyll(self):
-        [command] = blocks("Jekyll", "sh")
-        text = f"Let $${LINE}$$ cost $5 and $6.\n\n$$\n{BLOCK}\n$$\n\n`$x$`\n\n```sh\n$ ls $HOME\n```\n"
-        put(self.site, {"_layouts/default.html": "<html><body>{{ content }}</body></html>", "_config.yml": "title: A site\n",
-                  "index.md": f"---\nlayout: default\n---\n{text}"})
-        said = self.do(command)
+        said = self.build("Jekyll")
         page = (self.site / "_site/index.html").read_text()
         self.check(re.sub(r"<code class=\"[^\"]*\">\$x\$", "<code>$x$", page), said)
 
     @requires("cargo")
     def test_rustdoc(self):
         [comment] = blocks("rustdoc", "rust")
-        [command] = blocks("rustdoc", "sh")
-        put(self.site, {"Cargo.toml": '[package]\nname = "mean"\nversion = "0.1.0"\nedition = "2018"\n',
-                  "src/lib.rs": f"{comment}//!\n//! `$x$` for $5\n/// A macro\n#[macro_export]\nmacro_rules! m {{ ($a:expr, $b:expr) => {{}} }}\n"})
+        source = comment + (ROOT / "tests/recipes/rustdoc/src/macro.rs").read_text()
         # cargo must not use the network
-        self.do(command.replace("cargo doc", "cargo doc --quiet --offline"), CARGO_TARGET_DIR=str(self.site / "target"),
-                CARGO_HOME=str(self.folder / "cargo"))
+        self.build("rustdoc", {"src/lib.rs": source}, lambda it: it.replace("cargo doc", "cargo doc --quiet --offline"),
+                   CARGO_TARGET_DIR=str(self.site / "target"), CARGO_HOME=str(self.folder / "cargo"))
         page = (self.site / "target/doc/mean/index.html").read_text()
         self.assertIn("The mean is {}.".format(*tex("\\frac{x + y}{2} \\leq x_{\\max}")), page)
         self.assertIn("<code>$x$</code> for $5", page)

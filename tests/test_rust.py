@@ -8,16 +8,6 @@ from tests.texts import UNCLOSED, UNPAIRED, math
 CRATE = ROOT / "integrations/rust"
 MEGABYTE = 1 << 20
 
-# how a program that was written for the crate depends on it
-MANIFEST = """[package]
-name = "site"
-version = "0.1.0"
-edition = "2018"
-
-[dependencies]
-"""
-DEPENDENCY = 'latex2mathml = { path = "CRATE" }\n'
-PATCH = 'latex2mathml = "0.2"\n\n[patch.crates-io]\n' + DEPENDENCY
 SENTENCE = "Let $x$ be. "
 
 
@@ -53,10 +43,10 @@ class Crate(Case):
     def test_a_caller_of_the_crate(self):
         energy = math("<mi>E</mi><mo>=</mo><mi>m</mi><msup><mi>c</mi><mn>2</mn></msup>", "block")
         printed = b"%s\n<p>Let %s be.</p>\n" % (energy, math("<mi>r</mi>")) + f"{UNCLOSED}\n{UNPAIRED}\n".encode()
-        for name, dependencies in (("line", DEPENDENCY), ("patch", PATCH)):
+        for name in ("line", "patch"):
             with self.subTest(name):
                 caller = self.folder / name
-                manifest = MANIFEST + dependencies.replace("CRATE", str(self.crate))
+                manifest = (ROOT / f"tests/rust/{name}.toml").read_text().replace("CRATE", str(self.crate))
                 put(caller, {"src/main.rs": (ROOT / "tests/rust/caller.rs").read_text(), "Cargo.toml": manifest})
                 self.expect(self.cargo("run", folder=caller), stdout=printed)
 

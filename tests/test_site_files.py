@@ -12,7 +12,8 @@ import subprocess
 import time
 
 from tests.environments import environment, requires_python
-from tests.sites import command, site, tex
+from tests.integration import command, site, tex
+from tests.runs import files_of
 from tests.support import NOBODY, Case, as_nobody, hear_signals, limit, put, read_terminal, requires, run, scratch
 
 PAGE = "<p>$x$ and \\(y\\)</p>\n"
@@ -24,21 +25,6 @@ def summary(pages, changed, formulas, refused=0, what="changed"):
         return f"{number} {name}{'' if number == 1 else 's'}"
     return (f"latex2mathml-site: {count(pages, 'page')}, {changed} {what}, {count(formulas, 'formula')} converted, {refused} refused, "
             r"[0-9]+\.[0-9] s\n")
-
-
-def state(folder):
-    """The files of a folder and their contents, with their permissions and times."""
-    found = {}
-    for path in sorted(folder.rglob("*")):
-        about = path.lstat()
-        holds = os.readlink(path) if path.is_symlink() else path.read_bytes() if path.is_file() else None
-        found[os.fsencode(path.relative_to(folder))] = (holds, stat.S_IMODE(about.st_mode), about.st_mtime_ns if path.is_file() else None)
-    return found
-
-
-def held(folder):
-    """The contents of the files of a folder."""
-    return {name: it[0] for name, it in state(folder).items()}
 
 
 def processes_of(group):
@@ -77,117 +63,27 @@ class Site(Case):
 
 
 class Files(Site):
-    def test_in_place(self):
-        self.put("a.html", "b/c.HTM", "b/d.xhtml", "e.txt", "f.xml")
-        self.put("g.html", text="no formula")
-        before = state(self.folder)
-        self.run_site(".", says=summary(4, 3, 6))
-        self.holds(self.made, "a.html", "b/c.HTM", "b/d.xhtml")
-        for name in (b"e.txt", b"f.xml", b"g.html"):
-            self.assertEqual(state(self.folder)[name], before[name])
-        self.is_clean()
-
-    def test_a_second_run(self):
-        """It writes nothing, even with nothing remembered from the first."""
-        self.put("a.html", "b/c.html")
-        self.put("d.html", text="$\\foo$")
-        said = b"d.html:1:2: \\foo: unknown command \\foo\n"
-        self.run_site(".", says=summary(3, 3, 4, 1), stderr=said)
-        before = state(self.folder)
-        self.run_site(".", says=summary(3, 0, 0, 1), stderr=said)
-        self.run_site(".", "--fresh", says=summary(3, 0, 0, 1), stderr=None)
-        self.assertEqual(state(self.folder), before)
-
-    def test_a_page_that_was_built_again(self):
-        self.put("a.html", "b.html")
-        self.run_site(".")
-        self.put("a.html")
-        self.run_site(".", says=summary(2, 1, 2))
-        self.holds(self.made, "a.html")
-
-    def test_other_options_are_another_run(self):
-        self.put("a.html")
-        self.run_site(".", "--dollars", "off", says=summary(1, 1, 1))
-        self.run_site(".", says=summary(1, 1, 1))
-        self.holds(self.made, "a.html")
-
     def test_into_a_folder(self):
         self.put("in/a.html", "in/b/c.html", "in/b/d.css")
         self.put("in/e.html", text="no formula")
         os.utime(self.folder / "in/e.html", (1000, 1000))
         (self.folder / "in/b/d.css").chmod(0o640)
         (self.folder / "in/a.html").chmod(0o604)
-        before = state(self.folder / "in")
+        before = files_of(self.folder / "in")
         self.run_site("in", "new/out", says=summary(3, 3, 4))
-        out = state(self.folder / "new/out")
-        self.assertEqual(state(self.folder / "in"), before)
-        self.assertEqual({name: out[name] for name in (b"b/d.css", b"e.html")}, {name: before[name] for name in (b"b/d.css", b"e.html")})
-        self.assertEqual((out[b"a.html"][:2], out[b"b/c.html"][0]), ((self.made.encode(), 0o604), self.made.encode()))
+        out = files_of(self.folder / "new/out")
+        self.assertEqual(files_of(self.folder / "in"), before)
+        self.assertEqual(out.keys(), before.keys())
+        self.assertEqual([out[name] for name in ("b/d.css", "e.html")], [before[name] for name in ("b/d.css", "e.html")])
+        self.assertEqual((out["a.html"][:2], out["b/c.html"][0]), ((self.made.encode(), before["a.html"][1]), self.made.encode()))
         self.run_site("in", "new/out", says=summary(3, 0, 0))
         self.run_site("in", "new/out", "--fresh", says=summary(3, 0, 4))
-        self.assertEqual(state(self.folder / "new/out"), out)
-
-    def test_what_changed_in_either_folder_is_made_again(self):
-        self.put("in/a.html", "in/b.css")
-        self.run_site("in", "out")
-        self.put("out/a.html", text="other")
-        self.put("out/b.css", text="other")
-        self.run_site("in", "out", says=summary(1, 1, 2))
-        self.holds(self.made, "out/a.html")
-        self.holds(PAGE, "out/b.css")
-
-    def test_one_page(self):
-        self.put("a.html")
-        self.run_site("a.html", "b.html", says=summary(1, 1, 2))
-        self.holds(PAGE, "a.html")
-        self.holds(self.made, "b.html")
-        (self.folder / "out").mkdir()
-        self.run_site("a.html", "out")
-        self.holds(self.made, "out/a.html")
-        self.run_site("a.html")
-        self.holds(self.made, "a.html")
-
-    def test_wrong_words(self):
-        self.put("in/a.html", "b.html")
-        for words in ((), ("none",), ("in", "b.html"), ("in", "in/out"), ("in/..", "in"), ("in", "out", "more"), ("in", "--jobs", "0"),
-                      ("in", "--dollars", "some"), ("in", "--other")):
-            with self.subTest(words):
-                done = self.run_site(*words, status=2, stderr=None)
-                self.assertEqual((done.stdout, done.stderr.startswith(b"usage: latex2mathml-site ")), (b"", True))
-        self.holds(PAGE, "in/a.html")
+        self.assertEqual(files_of(self.folder / "new/out"), out)
 
     def test_the_console_script(self):
         self.put("a.html")
         self.expect(run([environment().parent / "latex2mathml-site", "a.html"], cwd=self.folder), 0, None)
         self.holds(self.made, "a.html")
-
-    def test_check(self):
-        self.put("a.html", "b.html")
-        self.put("c.html", text="$\\foo$")
-        before = state(self.folder)
-        said = b"c.html:1:2: \\foo: unknown command \\foo\n"
-        for words in ((), ("out",)):
-            self.run_site(".", "--check", *(["../out"] if words else []), says=summary(3, 3, 4, 1, "to be changed"), stderr=said)
-        self.run_site(".", "--check", "--strict", status=1, stderr=said + b"latex2mathml-site: nothing was changed\n")
-        self.assertEqual(state(self.folder), before)
-        self.assertFalse((self.folder.parent / "out").exists())
-
-    def test_strict(self):
-        """Nothing is changed if a formula is refused, and everything is if none is."""
-        self.put("in/a.html", "in/b/c.html", "in/d.css")
-        self.put("in/z.html", text="<p>\n  $\\foo$")
-        before = state(self.folder)
-        said = b"in/z.html:2:4: \\foo: unknown command \\foo\nlatex2mathml-site: nothing was changed\n"
-        for words in (["in"], ["in", "new/out"], ["in", "--jobs", "4"]):
-            with self.subTest(words):
-                self.run_site(*words, "--strict", status=1, says=summary(3, 0, 4, 1), stderr=said)
-                self.assertEqual(state(self.folder), before)
-        self.put("in/z.html")
-        self.run_site("in", "new/out", "--strict", says=summary(3, 3, 6))
-        self.run_site("in", "--strict", says=summary(3, 3, 6))
-        self.holds(self.made, "in/a.html", "in/z.html", "new/out/b/c.html")
-        self.holds(PAGE, "new/out/d.css")
-        self.is_clean()
 
     def test_many_pages(self):
         """Several processes produce the same as one does, and report what is refused in the same order."""
@@ -196,7 +92,9 @@ class Files(Site):
         one = self.run_site("in", "one", "--jobs", "1", says=summary(200, 200, 200, 4), stderr=None)
         four = self.run_site("in", "four", "--jobs", "4", says=summary(200, 200, 200, 4), stderr=None)
         self.assertEqual(one.stderr, four.stderr)
-        self.assertEqual(held(self.folder / "one"), held(self.folder / "four"))
+        made = [{name: held for name, (held, *_) in files_of(self.folder / out).items()} for out in ("one", "four")]
+        self.assertEqual(len(made[0]), 200)
+        self.assertEqual(*made)
 
     def test_rights(self):
         """The page has those of the previous page, and its owner."""
@@ -225,35 +123,6 @@ class Files(Site):
 
 
 class Names(Site):
-    def test_links_to_the_folder_itself(self):
-        """Each folder is visited once, so that cycles of links end."""
-        self.put("in/a.html", "in/b/c.html")
-        for name, target in (("latest", "."), ("stable", "."), ("b/up", ".."), ("b/again", "../b"), ("whole", str(self.folder / "in"))):
-            (self.folder / "in" / name).symlink_to(target)
-        self.run_site("in", "out", says=summary(2, 2, 4))
-        self.assertEqual(held(self.folder / "out"), {
-            b"a.html": self.made.encode(), b"b": None, b"b/c.html": self.made.encode(), b"latest": ".", b"stable": ".", b"b/up": "..",
-            b"b/again": "../b", b"whole": "."})
-        self.run_site("in", says=summary(2, 2, 4))
-        self.holds(self.made, "in/b/c.html")
-        self.assertTrue((self.folder / "in/latest").is_symlink())
-
-    def test_links_to_files(self):
-        """A link stays one, and the file that it leads to is converted."""
-        self.put("in/a.html", "other/b.html", "other/c/d.html")
-        (self.folder / "in/b.html").symlink_to("../other/b.html")
-        (self.folder / "in/a2.html").symlink_to("a.html")
-        (self.folder / "in/c").symlink_to("../other/c")
-        (self.folder / "in/none.html").symlink_to("nowhere")
-        self.run_site("in", "out", says=summary(3, 3, 6))
-        self.assertEqual(held(self.folder / "out"), {
-            b"a.html": self.made.encode(), b"a2.html": "a.html", b"b.html": self.made.encode(), b"c": None,
-            b"c/d.html": self.made.encode(), b"none.html": "nowhere"})
-        self.holds(PAGE, "other/b.html")
-        self.run_site("in", says=summary(3, 3, 6))
-        self.holds(self.made, "other/b.html", "other/c/d.html")
-        self.assertTrue((self.folder / "in/b.html").is_symlink())
-
     def test_two_names_of_a_file(self):
         """Each of them has the converted page."""
         self.put("a.html")
@@ -467,9 +336,3 @@ class Hostile(Site):
                 said = running.communicate(timeout=300)[1]
         self.assertEqual(running.returncode, 130)
         self.assertEqual(said, b"latex2mathml-site: interrupted\n")
-
-    def test_watching_without_the_package(self):
-        self.put("a.html")
-        self.run_site(".", "--watch", status=2,
-                      stderr=b"latex2mathml-site: --watch needs the package watchdog, which Debian has as python3-watchdog\n")
-        self.holds(PAGE, "a.html")

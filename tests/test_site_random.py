@@ -10,7 +10,7 @@ import hypothesis
 from hypothesis import strategies as st
 
 from tests.environments import requires_python
-from tests.sites import tex
+from tests.integration import tex
 from tests.support import requires
 from tests.test_site import convert
 
@@ -62,7 +62,7 @@ class Random(unittest.TestCase):
         # a full stop separates them, since a digit or a dollar sign after a dollar sign affects its meaning
         page = ".".join(written for written, _ in parts) + "."
         wanted = ".".join(markup(*formula) if formula else written for written, formula in parts) + "."
-        made, _, faults = convert(page)
+        made, faults = convert(page)
         self.assertEqual((made, faults), (wanted, []), page)
 
     @requires("python:html5lib")

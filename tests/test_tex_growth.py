@@ -2,9 +2,11 @@
 
 Each count is that of a run whose answer is whole: a program that answers nothing would count as cheap.
 """
+import collections
+
 import pytest
 
-from tests import faulty, support
+from tests import cases, faulty, support
 from tests.instructions import instructions
 from tests.nesting import kinds_of
 
@@ -22,53 +24,13 @@ MOST_DOUBLINGS = 17
 # For a second formula that is the same as the first, only the input and the answers need more room, each once.
 MOST_FOR_ANOTHER = 3
 
-PIECES = ["x", "1", "1.5 ", "+", "x+", "\\alpha ", "x_1^2", "x''", "\\sin x", "\\frac12", "{ab}", "\\left(x\\right)", "\\text{a b}",
-          "\\mathrm{ab}", "\\operatorname{ab}", "\\hspace{1em}", "\\rule{1em}{1em}", "\\textcolor{red}x", "\\color{red}x",
-          "\\xrightarrow[x]y", "% c\n", "\\not=", " x", "\\,", "𝑥", "\\def\\a{x}", "\\newcommand{\\a}[1]{#1}",
-          "\\begin{matrix}x&y\\\\z\\end{matrix}"]
-IN_WORDS = ["a", "$x$", "{a}", "\\textbf{a}", "\\alpha", " ", "a "]
-BETWEEN_DELIMITERS = ["x", "\\middle|", "\\frac12\\middle|"]
-# cells, rows, and rows of two cells
-IN_TABLES = ["x&", "&", "x\\\\", "\\\\", "x&y\\\\", "x\\\\[2pt]", "\\hline "]
-ENVIRONMENTS = ["matrix", "aligned", "cases"]
-# each of these looks for a mark, or for an operand, after the white space
-BEFORE_SPACES = ["\\hat ", "\\sqrt ", "\\frac1", "\\overset y"]
-
-
-def repeat(before, piece, behind):
-    return lambda count: before + piece * count + behind
-
-
-def nest(kind):
-    return lambda count: kind.nest(count, "x")
-
-
-def before_spaces(piece):
-    """Each piece is at the end of what ends before white space, and none may scan all of the white space again."""
-    return lambda count: piece * count + "x" + " " * (8 * count) + "y"
-
-
-# a name, and a text of this many pieces
-TEXTS = {
-    **{f"{piece} side by side": repeat("", piece, "") for piece in PIECES},
-    **{f"{piece} in words": repeat("\\text{", piece, "}") for piece in IN_WORDS},
-    **{f"{piece} between delimiters": repeat("\\left(", piece, "\\right)") for piece in BETWEEN_DELIMITERS},
-    **{f"{piece} in {name}": repeat(f"\\begin{{{name}}}", piece, f"\\end{{{name}}}") for piece in IN_TABLES for name in ENVIRONMENTS},
-    "rows in braces": repeat("\\substack{", "x\\\\", "}"),
-    "columns": repeat("\\begin{array}{c", "@{ }", "}x\\end{array}"),
-    "an argument": repeat("\\def\\a#1{#1}\\a{", "x", "}"),
-    "an argument that is not put": repeat("\\def\\a#1{}\\a{", "x", "}"),
-    "a body": repeat("\\def\\a{", "x", "}\\a"),
-    "a body that is not used": repeat("\\def\\a{", "{x}", "}"),
-    **{f"white space behind {piece}": before_spaces(piece) for piece in BEFORE_SPACES},
-    **{f"{name} in itself": nest(kind) for name, kind in kinds_of("tex_nested.txt").items()},
-    "rows of a whole text": repeat("x", "&x\\\\", ""),
-    "atoms before the first cell ends": repeat("", "x+", "&"),
-    "white space": repeat("x", " ", "y"),
-    "a long name": repeat("\\operatorname{", "a", "}"),
-}
-# a case is named by its number, since its name may contain any sign
-NUMBERED = {str(number): row for number, row in enumerate(TEXTS.items())}
+# texts under each heading: the place of each, and a function that makes it with this many pieces
+TEXTS = collections.defaultdict(list)
+for heading, line in cases.lines_of(cases.CASES / "tex_growth.txt"):
+    if line.text:
+        TEXTS[cases.key_of(heading)].append((line.place, lambda count, text=line.text: cases.expand(text, count).decode()))
+for name, kind in kinds_of("tex_nested.txt").items():
+    TEXTS["in itself"].append((name, lambda count, kind=kind: kind.nest(count, "x")))
 
 
 def asked_for(text):
@@ -87,6 +49,14 @@ def pieces_in(text_of, size):
     """How many pieces there are in a text of about this many bytes."""
     few, many = (len(text_of(count).encode()) for count in (1, 1001))
     return max(size * 1000 // (many - few), 1)
+
+
+@support.each_row(TEXTS)
+def each_text(case, *texts):
+    """A method of the classes that judge texts."""
+    for place, text_of in texts:
+        with case.subTest(place):
+            case.judge(text_of)
 
 
 class Growth(support.Case):
@@ -111,12 +81,12 @@ class Growth(support.Case):
 class Instructions(Growth):
     """Four times the text takes at most about four times the instructions."""
 
-    @support.each_row(NUMBERED)
-    def judge(self, name, text_of):
-        with self.subTest(name):
-            self.is_answered(support.run([support.tex_program()], stdin=text_of(8_000).encode()))
-            few, many = (instructions([support.tex_program()], stdin=text_of(count).encode(), timeout=600) for count in (2_000, 8_000))
-            self.assertLessEqual(many, MOST_TIMES * few, f"{few:,} for 2,000 pieces, {many:,} for 8,000")
+    are_judged = each_text
+
+    def judge(self, text_of):
+        self.is_answered(support.run([support.tex_program()], stdin=text_of(8_000).encode()))
+        few, many = (instructions([support.tex_program()], stdin=text_of(count).encode(), timeout=600) for count in (2_000, 8_000))
+        self.assertLessEqual(many, MOST_TIMES * few, f"{few:,} for 2,000 pieces, {many:,} for 8,000")
 
     def test_rows_of_a_whole_text(self):
         """What is outside of tables is read as atoms up to its first `&` or `\\\\`, and then as rows: all of it at most twice."""
@@ -144,36 +114,36 @@ class Instructions(Growth):
 class Memory(Growth):
     """Four times the text takes at most about four times the memory."""
 
-    @support.each_row(NUMBERED)
-    def judge(self, name, text_of):
-        with self.subTest(name):
-            pieces = pieces_in(text_of, 25_000)
-            few, many = (self.count(text_of(count))["peak"] for count in (pieces, 4 * pieces))
-            self.assertLessEqual(many, MOST_TIMES * few + OWN_BYTES)
+    are_judged = each_text
+
+    def judge(self, text_of):
+        pieces = pieces_in(text_of, 25_000)
+        few, many = (self.count(text_of(count))["peak"] for count in (pieces, 4 * pieces))
+        self.assertLessEqual(many, MOST_TIMES * few + OWN_BYTES)
 
 
 @support.requires("cc")
 class Requests(Growth):
     """Memory is requested only when a text or a list is full, and for each table, length, color and definition."""
 
-    @support.each_row(NUMBERED)
-    def judge(self, name, text_of):
-        with self.subTest(name):
-            text = text_of(pieces_in(text_of, 100_000))
-            self.assertLessEqual(self.count(text)["requests"], MOST_REQUESTS + asked_for(text))
+    are_judged = each_text
+
+    def judge(self, text_of):
+        text = text_of(pieces_in(text_of, 100_000))
+        self.assertLessEqual(self.count(text)["requests"], MOST_REQUESTS + asked_for(text))
 
 
 @support.requires("cc")
 class Another(Growth):
     """A second formula is converted in the memory of the first, and a third one in that of both."""
 
-    @support.each_row(NUMBERED)
-    def judge(self, name, text_of):
-        with self.subTest(name):
-            text = text_of(pieces_in(text_of, 20_000))
-            one, two, three = (self.count_many([text] * formulas)["requests"] for formulas in (1, 2, 3))
-            self.assertLessEqual(two - one, MOST_FOR_ANOTHER + asked_anew(text))
-            self.assertLessEqual(three - two, MOST_FOR_ANOTHER + asked_anew(text))
+    are_judged = each_text
+
+    def judge(self, text_of):
+        text = text_of(pieces_in(text_of, 20_000))
+        one, two, three = (self.count_many([text] * formulas)["requests"] for formulas in (1, 2, 3))
+        self.assertLessEqual(two - one, MOST_FOR_ANOTHER + asked_anew(text))
+        self.assertLessEqual(three - two, MOST_FOR_ANOTHER + asked_anew(text))
 
     def test_many_formulas(self):
         """A thousand formulas need room for the input and the answers."""

@@ -1,5 +1,4 @@
 """The program `tex2mathml`: its arguments, its streams, its statuses and its replies to many formulas."""
-import itertools
 import os
 import re
 import runpy
@@ -7,7 +6,8 @@ import threading
 import xml.etree.ElementTree as ElementTree
 
 from tests import cases, faulty
-from tests.support import ROOT, Case, each_row, newest_version, requires, run, tex_program
+from tests.runs import Runs, runs_of
+from tests.support import ROOT, Case, each_row, newest_version, put, requires, run, tex_program
 from tests.texts import UNREAD, X, math
 
 X_LINE = X + b"\n"
@@ -17,38 +17,10 @@ def ask(*words, stdin=b"", **more):
     return run([tex_program(), *words], stdin=stdin, **more)
 
 
-class OneFormula(Case):
-    @each_row({
-        "markup": ("x_i^2", "<msubsup><mi>x</mi><mi>i</mi><mn>2</mn></msubsup>"),
-        "nothing": ("", ""),
-        "lines": ("x\r\n+ y\n", "<mi>x</mi><mo>+</mo><mi>y</mi>"),
-    })
-    def answers(self, given, contents):
-        self.expect(ask(stdin=given.encode()), stdout=math(contents) + b"\n")
-
-    @each_row({
-        "refusal": ("é + \\foo".encode(), "unknown command \\foo at 5"),
-        "what is no text": (b"x\xff", "The input is not UTF-8 text."),
-    })
-    def refuses(self, given, reason):
-        self.expect(ask(stdin=given), 1, b"", f"tex2mathml: {reason}\n".encode())
-
-    def test_display(self):
-        for word in ("inline", "block"):
-            self.expect(ask("--display", word, stdin=b"x"), stdout=math("<mi>x</mi>", word) + b"\n")
-            self.expect(ask(f"--display={word}", stdin=b"x"), stdout=math("<mi>x</mi>", word) + b"\n")
-
-    def test_each_as_its_first_line_says(self):
-        each = ("--display", "each")
-        for first, display in ((b"inline\n", "inline"), (b"block\n", "block"), (b"", "inline")):
-            with self.subTest(first):
-                self.expect(ask(*each, stdin=first + b"x"), stdout=math("<mi>x</mi>", display) + b"\n")
-        letters = b"".join(b"<mi>%c</mi>" % c for c in b"block")
-        for text, contents in ((b"block", letters), (b"\nblock\n", letters), (b"inline\nblock\n", letters), (b"block x\n", letters + b"<mi>x</mi>")):
-            with self.subTest(text):
-                self.expect(ask(*each, stdin=text), stdout=math(contents) + b"\n")
-        self.expect(ask(*each, stdin=b"block\n\\foo"), 1, stderr=b"tex2mathml: unknown command \\foo at 0\n")
-        self.expect(ask("--display", "block", stdin=b"block\n"), stdout=math(letters, "block") + b"\n")
+class Answers(Runs):
+    @each_row(runs_of("tex2mathml.txt"))
+    def are_written(self, runs):
+        self.do_each(runs)
 
     def test_input_that_cannot_be_read(self):
         folder = os.open("/", os.O_RDONLY)
@@ -61,214 +33,21 @@ class OneFormula(Case):
 
     def test_launcher(self):
         self.expect(run([ROOT / "tex2mathml"], stdin=b"x"), stdout=X_LINE)
-
-
-class ManyFormulas(Case):
-    def replies(self, given, replies, *words):
-        self.expect(ask("--null", *words, stdin=given), stdout=b"".join(it + b"\0" for it in replies))
-
-    def test_in_turn(self):
-        x, y = (b"mathml\n" + math(b"<mi>%s</mi>" % it) for it in (b"x", b"y"))
-        self.replies(b"x\0y", [x, y])
-        self.replies(b"x\0y\0", [x, y])
-
-    def test_none(self):
-        self.replies(b"", [])
-
-    def test_empty_ones(self):
-        nothing = b"mathml\n" + math(b"")
-        self.replies(b"\0", [nothing])
-        self.replies(b"\0\0", [nothing] * 2)
-
-    def test_a_refused_one_stops_no_other(self):
-        x = b"mathml\n" + math("<mi>x</mi>", "block")
-        self.replies(b"x\0x^\0{\0x", [x, b"error\nan argument is missing at 1", b"error\n{ is not closed at 0", x], "--display", "block")
-
-    def test_each_as_its_first_line_says(self):
-        texts = b"block\nx\0inline\nx\0x\0block\n{\0block\n\0"
-        x, block = (b"mathml\n" + math("<mi>x</mi>", display) for display in ("inline", "block"))
-        self.replies(texts, [block, x, x, b"error\n{ is not closed at 0", b"mathml\n" + math("", "block")], "--display", "each")
-        self.replies(b"block\nx\0x", [b"mathml\n" + annotated(b"<mi>x</mi>", b"x", "block"), b"mathml\n" + annotated(b"<mi>x</mi>", b"x")],
-                     "--display", "each", "--annotation")
+        put(self.folder, {"a b.tex": "\\def\\a{x}"})
+        self.expect(run([ROOT / "tex2mathml", "--definitions", "a b.tex"], stdin=b"\\a", cwd=self.folder), stdout=X_LINE)
 
     def test_as_if_each_were_alone(self):
         """What was read before leaves nothing behind."""
         formulas = [b"\\left(x", b"y", b"{{{", b"\\text{a", b"z", b"x_i"]
-        alone = [self.alone(it) for it in formulas]
-        self.replies(b"\0".join(formulas), alone)
+        self.expect(ask("--null", stdin=b"\0".join(formulas)), stdout=b"".join(map(self.alone, formulas)))
 
     def alone(self, formula):
         done = ask(stdin=formula)
         if done.returncode == 0:
-            return b"mathml\n" + done.stdout.removesuffix(b"\n")
-        return b"error\n" + done.stderr.removeprefix(b"tex2mathml: ").removesuffix(b"\n")
+            return b"mathml\n" + done.stdout.removesuffix(b"\n") + b"\0"
+        return b"error\n" + done.stderr.removeprefix(b"tex2mathml: ").removesuffix(b"\n") + b"\0"
 
-    def test_what_is_no_text(self):
-        self.expect(ask("--null", stdin=b"x\0\xff"), 1, b"", b"tex2mathml: The input is not UTF-8 text.\n")
-
-
-# definitions, and what may be between them
-WHOLE = ["\\newcommand{\\R}{\\mathbb{R}}", "\\newcommand*\\half[1]{\\frac{#1}{2}}", "\\def\\pair#1#2{(#1,#2)}", "\\DeclareMathOperator*{\\argmax}{arg\\,max}"]
-BETWEEN = "% é\n "
-
-
-class Definitions(Case):
-    """`--definitions FILE`."""
-
-    def setUp(self):
-        self.file = self.folder / "a b.tex"
-
-    def ask(self, definitions, formula, *words, **more):
-        self.file.write_bytes(definitions if isinstance(definitions, bytes) else definitions.encode())
-        return ask("--definitions", self.file, *words, stdin=formula.encode(), **more)
-
-    def answers(self, definitions, formula, contents, *words):
-        self.expect(self.ask(definitions, formula, *words), stdout=math(contents.encode()) + b"\n")
-
-    def refuses(self, definitions, told, **more):
-        self.expect(self.ask(definitions, "x", **more), 1, b"", f"tex2mathml: {self.file}{told}\n".encode())
-
-    def test_used(self):
-        self.answers("\\newcommand{\\R}{\\mathbb{R}}", "x\\in\\R", "<mi>x</mi><mo>∈</mo><mi>ℝ</mi>")
-        self.answers("\\def\\half#1{\\frac{#1}2}", "\\half x", "<mfrac><mi>x</mi><mn>2</mn></mfrac>")
-        self.answers("\\def\\alpha{x}", "\\alpha", "<mi>x</mi>")
-
-    def test_data(self):
-        """The file of the program's own run."""
-        words = ["--definitions", ROOT / "crates/latex2mathml_tex_app/data/macros.tex"]
-        self.expect(ask(*words, stdin=b"\\half{\\R}"), stdout=math("<mfrac><mi>ℝ</mi><mn>2</mn></mfrac>".encode()) + b"\n")
-
-    def test_spellings(self):
-        self.file.write_bytes(b"\\def\\a{x}")
-        for words in (["--definitions", self.file], [f"--definitions={self.file}"], ["--display", "inline", "--definitions", self.file]):
-            with self.subTest(words):
-                self.expect(ask(*words, stdin=b"\\a"), stdout=X_LINE)
-
-    def test_display(self):
-        self.expect(self.ask("\\def\\a{x}", "\\a", "--display", "block"), stdout=math("<mi>x</mi>", "block") + b"\n")
-
-    def test_many_formulas(self):
-        """They hold in each formula, and what a formula defines ends with it."""
-        x, y = (b"mathml\n" + math(b"<mi>%s</mi>" % it) + b"\0" for it in (b"x", b"y"))
-        self.expect(self.ask("\\def\\a{x}", "\\a\0\\def\\a{y}\\a\0\\a\0\\b", "--null"),
-                    stdout=x + y + x + b"error\nunknown command \\b at 0\0")
-
-    def test_nothing_defined(self):
-        """The usual macros hold, as they do after any definitions."""
-        for definitions in ("", " \n", "% nothing", "\\def\\a{x}"):
-            with self.subTest(definitions):
-                self.answers(definitions, "x", "<mi>x</mi>")
-                usual = ask(stdin=b"a\\pmod n\\dots")
-                self.expect(self.ask(definitions, "a\\pmod n\\dots"), stdout=usual.stdout)
-                self.assertEqual(usual.returncode, 0)
-
-    def test_place_of_the_use(self):
-        """What comes from a body has the place of the macro's use, in the formula."""
-        self.expect(self.ask("\\def\\a{\\foo}", "xy\\a"), 1, b"", b"tex2mathml: unknown command \\foo at 2\n")
-
-    @each_row(cases.by_heading("tex_definition_refusals.txt"))
-    def are_refused(self, refused):
-        for case in refused:
-            definitions, told = case.input.decode(), case.answer.decode()
-            with self.subTest(case.place):
-                self.refuses(definitions, f":{told}")
-                self.refuses(f"\n\n{definitions}", f":{int(told[0]) + 2}{told[1:]}")
-
-    def test_beginnings(self):
-        """A text of definitions that is cut off between two of them is read. Otherwise it is refused, at a place in it."""
-        text, between = "", {0}
-        for definition in WHOLE:
-            between |= set(range(len(text + definition), len(text + definition + BETWEEN) + 1))
-            text += definition + BETWEEN
-        for end in range(len(text) + 1):
-            with self.subTest(text[:end]):
-                done = self.ask(text[:end], "x")
-                if end in between:
-                    self.expect(done, stdout=X_LINE)
-                    continue
-                self.expect(done, 1, b"", None)
-                line, column = map(int, re.fullmatch(rb"tex2mathml: .*/a b\.tex:(\d+):(\d+): [^:]+\n", done.stderr).groups())
-                lines = text[:end].split("\n")
-                self.assertIn(line, range(1, len(lines) + 1))
-                self.assertIn(column, range(1, len(lines[line - 1]) + 2))
-
-    def test_input_is_left_alone(self):
-        """If there are no macros, nothing of the input is read."""
-        for definitions in (b"x", b"\xff", None):
-            with self.subTest(definitions), faulty.open_input(b"x") as given:
-                self.file.unlink(missing_ok=True)
-                if definitions is not None:
-                    self.file.write_bytes(definitions)
-                self.assertEqual(ask("--definitions", self.file, stdin=given).returncode, 1)
-                self.assertEqual(given.read(), b"x")
-
-    def test_what_is_no_text(self):
-        self.refuses(b"\\def\\a{\xff}", ": The input is not UTF-8 text.")
-
-    def test_what_cannot_be_read(self):
-        for path in (self.folder, self.folder / "none.tex", self.folder / "none/a.tex", ""):
-            with self.subTest(path):
-                self.expect(ask("--definitions", path, stdin=b"x"), 1, b"", f"tex2mathml: {path}: The input could not be read.\n".encode())
-
-    def test_a_hyphen_is_a_name(self):
-        """As is that of any file."""
-        words = [tex_program(), "--definitions", "-"]
-        self.expect(run(words, stdin=b"\\a", cwd=self.folder), 1, b"", b"tex2mathml: -: The input could not be read.\n")
-        (self.folder / "-").write_bytes(b"\\def\\a{x}")
-        self.expect(run(words, stdin=b"\\a", cwd=self.folder), stdout=X_LINE)
-
-    def test_pipes(self):
-        """A pipe with a name, and one of a shell."""
-        pipe = self.folder / "pipe"
-        os.mkfifo(pipe)
-        writer = threading.Thread(target=pipe.write_bytes, args=[b"\\def\\a{x}"])
-        writer.start()
-        self.expect(ask("--definitions", pipe, stdin=b"\\a"), stdout=X_LINE)
-        writer.join()
-        reading, writing = os.pipe()
-        os.write(writing, b"\\def\\a{y}")
-        os.close(writing)
-        self.addCleanup(os.close, reading)
-        self.expect(ask("--definitions", f"/dev/fd/{reading}", stdin=b"\\a", pass_fds=[reading]), stdout=math(b"<mi>y</mi>") + b"\n")
-
-    def test_launcher(self):
-        self.file.write_bytes(b"\\def\\a{x}")
-        done = run([ROOT / "tex2mathml", "--definitions", self.file.name], stdin=b"\\a", cwd=self.folder)
-        self.expect(done, stdout=X_LINE)
-
-
-def annotated(shown, tex, display="inline"):
-    annotation = b'<annotation encoding="application/x-tex">%s</annotation>' % tex
-    markup = math(b"<semantics>%s%s</semantics>" % (shown, annotation), display)
-    return markup.replace(b"><semantics>", b' alttext="%s"><semantics>' % tex.replace(b'"', b"&quot;"), 1)
-
-
-class Annotations(Case):
-    """`--annotation`."""
-
-    @each_row({
-        "several elements": (b"x<y", b"<mrow><mi>x</mi><mo>&lt;</mo><mi>y</mi></mrow>", b"x&lt;y"),
-        "one element": (b"x", b"<mi>x</mi>", b"x", "block"),
-        "nothing": (b"", b"<mrow></mrow>", b""),
-        # white space, comments and macros too, but no character that XML forbids
-        "as it was given": (
-            b"\\def\\a{x} \\a % &$\1\n", b"<mi>x</mi>", "\\def\\a{x} \\a % &amp;&#x24;\ufffd\n".encode()),
-        # they are escaped only in the alternative text
-        "quotation marks": (b"x%\"'", b"<mi>x</mi>", b"x%\"'"),
-    })
-    def answers(self, formula, shown, tex, display=None):
-        words = ["--display", display] if display else []
-        answer = annotated(shown, tex, display or "inline")
-        self.expect(ask("--annotation", *words, stdin=formula), stdout=answer + b"\n")
-
-    def test_many_formulas(self):
-        x, y = (b"mathml\n" + annotated(b"<mi>%s</mi>" % it, it) + b"\0" for it in (b"x", b"y"))
-        self.expect(ask("--null", "--annotation", stdin=b"x\0\\foo\0y\0"), stdout=x + b"error\nunknown command \\foo at 0\0" + y)
-
-    def test_refusal(self):
-        self.expect(ask("--annotation", stdin=b"x + \\foo"), 1, b"", b"tex2mathml: unknown command \\foo at 4\n")
-
-    def test_each_case(self):
+    def test_annotation_of_each_case(self):
         """An XML parser finds the formula in the annotation, and next to it what the case shows."""
         of_tex = [case for name in cases.files("tex/*.txt") for case in cases.read(name)]
         done = ask("--null", "--annotation", stdin=b"".join(case.input + b"\0" for case in of_tex))
@@ -288,39 +67,90 @@ class Annotations(Case):
         return found[0] if len(found) == 1 else ElementTree.fromstring(math(b"<mrow>%s</mrow>" % contents))[0]
 
 
-# the bytes that the program requests at a time
-ROOM = 4096
+# definitions, and what may be between them
+WHOLE = ["\\newcommand{\\R}{\\mathbb{R}}", "\\newcommand*\\half[1]{\\frac{#1}{2}}", "\\def\\pair#1#2{(#1,#2)}", "\\DeclareMathOperator*{\\argmax}{arg\\,max}"]
+BETWEEN = "% é\n "
+
+
+class Definitions(Case):
+    """`--definitions FILE`."""
+
+    def setUp(self):
+        self.file = self.folder / "a b.tex"
+
+    def ask(self, definitions, formula):
+        self.file.write_text(definitions, encoding="utf-8")
+        return ask("--definitions", self.file, stdin=formula)
+
+    def test_data(self):
+        """The file of the program's own run."""
+        words = ["--definitions", ROOT / "crates/latex2mathml_tex_app/data/macros.tex"]
+        self.expect(ask(*words, stdin=b"\\half{\\R}"), stdout=math("<mfrac><mi>ℝ</mi><mn>2</mn></mfrac>".encode()) + b"\n")
+
+    def test_nothing_defined(self):
+        """The usual macros hold, as they do after any definitions."""
+        usual = ask(stdin=b"a\\pmod n\\dots")
+        self.assertEqual(usual.returncode, 0)
+        for definitions in ("", " \n", "% nothing", "\\def\\a{x}"):
+            with self.subTest(definitions):
+                self.expect(self.ask(definitions, b"x"), stdout=X_LINE)
+                self.expect(self.ask(definitions, b"a\\pmod n\\dots"), stdout=usual.stdout)
+
+    @each_row(cases.by_heading("tex_definition_refusals.txt"))
+    def are_refused(self, refused):
+        for case in refused:
+            definitions, told = case.input.decode(), case.answer.decode()
+            with self.subTest(case.place):
+                for before, line in (("", int(told[0])), ("\n\n", int(told[0]) + 2)):
+                    reason = f"tex2mathml: {self.file}:{line}{told[1:]}\n"
+                    self.expect(self.ask(before + definitions, b"x"), 1, b"", reason.encode())
+
+    def test_beginnings(self):
+        """A text of definitions that is cut off between two of them is read. Otherwise it is refused, at a place in it."""
+        text, between = "", {0}
+        for definition in WHOLE:
+            between |= set(range(len(text + definition), len(text + definition + BETWEEN) + 1))
+            text += definition + BETWEEN
+        for end in range(len(text) + 1):
+            with self.subTest(text[:end]):
+                done = self.ask(text[:end], b"x")
+                if end in between:
+                    self.expect(done, stdout=X_LINE)
+                    continue
+                self.expect(done, 1, b"", None)
+                line, column = map(int, re.fullmatch(rb"tex2mathml: .*/a b\.tex:(\d+):(\d+): [^:]+\n", done.stderr).groups())
+                lines = text[:end].split("\n")
+                self.assertIn(line, range(1, len(lines) + 1))
+                self.assertIn(column, range(1, len(lines[line - 1]) + 2))
+
+    def test_input_is_left_alone(self):
+        """If there are no macros, nothing of the input is read."""
+        for definitions in (b"x", b"\xff", None):
+            with self.subTest(definitions), faulty.open_input(b"x") as given:
+                self.file.unlink(missing_ok=True)
+                if definitions is not None:
+                    self.file.write_bytes(definitions)
+                self.assertEqual(ask("--definitions", self.file, stdin=given).returncode, 1)
+                self.assertEqual(given.read(), b"x")
+
+    def test_pipes(self):
+        """A pipe with a name, and one of a shell."""
+        pipe = self.folder / "pipe"
+        os.mkfifo(pipe)
+        writer = threading.Thread(target=pipe.write_bytes, args=[b"\\def\\a{x}"])
+        writer.start()
+        self.expect(ask("--definitions", pipe, stdin=b"\\a"), stdout=X_LINE)
+        writer.join()
+        reading, writing = os.pipe()
+        os.write(writing, b"\\def\\a{y}")
+        os.close(writing)
+        self.addCleanup(os.close, reading)
+        self.expect(ask("--definitions", f"/dev/fd/{reading}", stdin=b"\\a", pass_fds=[reading]), stdout=math(b"<mi>y</mi>") + b"\n")
 
 
 @requires("cc")
 class Calls(faulty.OneByteAtATime):
-    """How often the program reads and writes, and what it does if one of these calls fails."""
-
-    INPUTS = [([], b"a<\\frac12"), (["--display", "block"], "é".encode()), (["--null"], b"x\0{\0y")]
-
-    def test_counted(self):
-        """A short input is read by two calls, one of which reports the end. The output is written by one."""
-        for words, piece in (([], b"x"), (["--null"], b"x_1^2\0")):
-            for size in (0, 1, ROOM - 1, ROOM, ROOM + 1, 1_000_000):
-                given = piece * (size // len(piece))
-                with self.subTest(words=words, size=size), faulty.open_input(given) as source:
-                    done, counts = faulty.counts_of([tex_program(), *words], stdin=source)
-                    self.expect(done, stdout=None)
-                    self.assertLessEqual(counts["read"], len(given) // ROOM + 2)
-                    self.assertEqual(counts["write"], int(bool(done.stdout)))
-
-    def test_each_read_fails(self):
-        for (words, given), number in itertools.product(self.INPUTS, (5, 4)):
-            due = ask(*words, stdin=given).stdout
-            self.fails_at_each("read", number, len(given) + 1, [tex_program(), *words], given, due,
-                               lambda call: (1, b"", f"tex2mathml: {UNREAD}\n".encode()))
-
-    def test_each_write_fails(self):
-        for (words, given), number in itertools.product(self.INPUTS, (28, 4, 0)):
-            due = ask(*words, stdin=given).stdout
-            self.assertGreater(len(due), 40)
-            self.fails_at_each("write", number, len(due), [tex_program(), *words], given, due, lambda call, due=due: (
-                1, due[:call - 1], f"tex2mathml: The output stopped after {call - 1} bytes.\n".encode()))
+    """What the program does if a call for its definitions fails. `test_faults` has all others."""
 
     def test_each_read_of_definitions_fails(self):
         """The file is read to its end before the input is."""
@@ -363,18 +193,13 @@ class Words(Case):
         self.expect(ask("--version"), stdout=f"tex2mathml {newest_version()}\n".encode())
 
     def test_wrong_ones(self):
+        definitions = ["--definitions", "/dev/null"]
         for words in (["--wrong"], ["--display"], ["--display", "wrong"], ["x"], ["--null", "--null"], ["--annotation", "--annotation"],
-                      ["--annotation=x"], ["--definitions"],
-                      ["--definitions", "/dev/null", "--definitions", "/dev/null"], ["--definitions", "--null"]):
+                      ["--annotation=x"], ["--definitions"], [*definitions, *definitions], ["--definitions", "--null"], [b"\xff"]):
             with self.subTest(words):
                 done = ask(*words, stdin=b"x")
                 self.expect(done, 2, b"", None)
                 self.assertTrue(done.stderr)
-
-    def test_what_is_no_text(self):
-        done = ask(b"\xff")
-        self.expect(done, 2, b"", None)
-        self.assertTrue(done.stderr)
 
 
 class Page(Case):
