@@ -1,1 +1,1 @@
-"""Commands of the checkout, and `progress`, which the tests use too."""
+"""Commands of the checkout, and modules that the tests use too."""
