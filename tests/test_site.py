@@ -18,7 +18,7 @@ def convert(text):
     """A page after its conversion, and its faults."""
     pages = proved(".site.pages")
     page = pages.convert(text.encode(), pages.Options())
-    return page.content.decode(), page.faults
+    return page.content.decode(), list(page.faults)
 
 
 def due(case):
