@@ -17,6 +17,7 @@ pub mod Putting
 pub mod Replacing
 pub mod Resting
 pub mod RowCharacters
+pub mod RowCommands
 pub mod Rows
 pub mod RuleSteps
 pub mod Scripting

@@ -5,6 +5,7 @@ pub mod Levels
 pub mod Numbers
 pub mod ReadRows
 pub mod RowCharacters
+pub mod RowCommands
 pub mod Steps
 pub mod Tables
 pub mod TakenBy

@@ -25,9 +25,10 @@ mod values;
 mod words;
 
 use crate::parse::frames::{Frame, Frames};
-use crate::parse::rows::ends_or_marks;
+use crate::parse::rows::{begins_atoms, ends_or_marks};
 use latex2mathml_builder::builder::Builder;
 use latex2mathml_tex_atoms::atoms::{Core, Operand, Scripts, Words};
+use latex2mathml_tex_commands::commands;
 use latex2mathml_tex_commands::meaning::{Alphabet, Style};
 use latex2mathml_tex_units::error::{TexError, TexErrorKind};
 use latex2mathml_tex_units::input::Input;
@@ -155,7 +156,7 @@ impl<'a> Parser<'a> {
         ensures holds { LeadsOn (HoldsIn State.Next) self.old self.new result }
         ensures step { Advances 1 self.old self.new result }
     {
-        // most units are letters and signs in a row: for these, no frame is copied
+        // most units are characters and commands in a row: for these, no frame is copied
         if let Next::Unit(unit) = self.input.next
             && let Piece::Character(c) = unit.piece
             && !ends_or_marks(c)
@@ -163,6 +164,24 @@ impl<'a> Parser<'a> {
         {
             self.input.advance();
             return self.character_in_row(c, unit.place, context);
+        }
+        self.next_command()
+    }
+
+    /// Reads what the innermost frame waits for, which may be a command in a row.
+    fn next_command(&mut self) -> Result<State, AllocError>
+        requires { Ready self.old State.Next }
+        ensures holds { LeadsOn (HoldsIn State.Next) self.old self.new result }
+        ensures step { Advances 1 self.old self.new result }
+    {
+        if let Next::Unit(unit) = self.input.next
+            && let Piece::Command(name) = unit.piece
+            && let Some(context) = self.frames.row_context(self.style)
+            && let Some(meaning) = commands::look_up(name)
+            && begins_atoms(meaning)
+        {
+            self.input.advance();
+            return self.command_in_row(meaning, unit.place, context);
         }
         self.next_part()
     }

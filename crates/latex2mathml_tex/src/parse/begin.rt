@@ -183,7 +183,7 @@ impl<'a> Parser<'a> {
     }
 
     /// Begins the rule of a command with this meaning.
-    fn meaning(
+    pub(crate) fn meaning(
         &mut self,
         meaning: Meaning,
         place: usize,

@@ -1,11 +1,11 @@
 //! Rows: how each of their atoms begins, how it is put after the others, and how a row ends.
 ghost use Rattle.std.specs.Prelude.{◌≡◌, ◌≢◌, ◌+◌, ◌≤◌, ℕ, false};
-ghost use Rattle.latex2mathml_tex_grammar.specs.{Makes.no_scripts, Meaning.Beside, Rules.character_rule, Starts.empty_base, Starts.ends};
-ghost use Rattle.latex2mathml_tex_commands.specs.Meanings.{change_of};
+ghost use Rattle.latex2mathml_tex_grammar.specs.{Makes.no_scripts, Meaning.Beside, Rules.character_rule, Rules.meaning_rule, Starts.empty_base, Starts.ends};
+ghost use Rattle.latex2mathml_tex_commands.specs.Meanings.{change_of, meaning_of};
 ghost use Rattle.latex2mathml_tex_units.specs.Taking.{piece_of};
 ghost use Rattle.latex2mathml_tex.specs.Frames.{ending_count, ending_of, Start};
 ghost use Rattle.latex2mathml_tex_atoms.specs.Models.{context_of, row_count};
-ghost use Rattle.latex2mathml_tex.specs.RowCharacters.{IsRowInnermost, ends_or_marks, is_symbol};
+ghost use Rattle.latex2mathml_tex.specs.{RowCharacters.IsRowInnermost, RowCharacters.ends_or_marks, RowCharacters.is_symbol, RowCommands.begins_atoms};
 ghost use Rattle.latex2mathml_tex.specs.Steps.{Awaits, AwaitsAtom, BeginsDivider, BeginsIn, BeginsRest, CanBegin, CanMake, ClosesRow, EndsFormula, EndsRow, EndsText, EndsWithText, HasElements, HoldsIn, InnermostIs, Advances, LeadsOn, MadeAtom, Ready, Took, TookMark, TookUnmarked, atom_made, core_made, ending_weight, level, row_makes, Closes, Follows, Holds, to_do};
 ghost use Rattle.latex2mathml_tex_atoms.specs.declared.atoms.{Context.Context, Row.Row};
 
@@ -124,6 +124,27 @@ impl<'a> Parser<'a> {
             return self.go_on(sign, Scripts::none(sign.kind, sign.limits));
         }
         self.character(c, place, context)
+    }
+
+    /// Begins an atom of a row with a command of this meaning, which was taken at this place.
+    pub(crate) fn command_in_row(
+        &mut self,
+        meaning: Meaning,
+        place: usize,
+        context: Context,
+    ) -> Result<State, AllocError>
+        requires begin { CanBegin 0 self.old }
+        requires row { IsRowInnermost self.old.style self.old.frames.stack.items context }
+        ensures holds { LeadsOn
+            (BeginsIn context (meaning_rule place (context_of context) (meaning_of meaning)) 0)
+            self.old self.new result }
+        ensures step { Advances 13 self.old self.new result }
+    {
+        let Meaning::Shows(symbol) = meaning else {
+            return self.meaning(meaning, place, context);
+        };
+        let sign = put_symbol(&mut self.builder, context.alphabet, symbol)?;
+        self.go_on(sign, Scripts::none(sign.kind, sign.limits))
     }
 
     /// Changes what follows this place in the innermost row.
@@ -375,4 +396,18 @@ fn is_symbol(c: char) -> bool
     ensures { result ≡ is_symbol c }
 {
     !matches!(c, '.' | '~' | '&' | '#' | '$' | '_' | '^' | '\'')
+}
+
+/// Whether a command of this meaning begins an atom in each row, and does nothing else.
+#[inline(always)]
+pub(crate) fn begins_atoms(meaning: Meaning) -> bool
+    ensures { result ≡ begins_atoms (meaning_of meaning) }
+{
+    match meaning {
+        Meaning::Changes(_) => false,
+        Meaning::Limits | Meaning::NoLimits => false,
+        Meaning::Middle | Meaning::Right => false,
+        Meaning::EndTable | Meaning::LineBreak => false,
+        _ => true,
+    }
 }
