@@ -9,7 +9,7 @@ from tests.support import ROOT, dist, each_row, newest_version, program, put, re
 CRATE = "crates/latex2mathml_c"
 
 # programs that replace those of the same names
-FAKES = ROOT / "tests/fakes/dist"
+FAKES = ROOT / "tests/fakes/making"
 
 
 @requires("cc", "objdump", "ldd")
