@@ -1,4 +1,4 @@
-use Rattle.std.proofs.Common.{◌≡◌, ◌+◌, ◌<◌, ◌≤◌, ◌^◌, ◌∷◌, [], ℕ, arith, length, refl, rules}
+use Rattle.std.proofs.Common.{◌+◌, ◌<◌, ◌≤◌, ◌^◌, ◌∷◌, [], arith, length, refl, rules}
 use Rattle.std.specs.Str.{IsUtf8}
 use Rattle.latex2mathml_tex_grammar.specs.Units.{Character, character}
 use Rattle.latex2mathml_tex_units.proofs.Taken.{end_within, piece_taken}
