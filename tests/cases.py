@@ -47,7 +47,7 @@ ELSEWHERE = {
     "runs/tex2mathml.txt": "test_tex_program.Answers",
     "site/elements.txt": "test_site.Elements",
     "site/formulas.txt": "test_site.Formulas",
-    "site_scripts.txt": "test_site.Scripts",
+    "site_scripts.txt": "test_site.Sites",
     "sphinx_rows.txt": "test_sphinx.Markup",
     "tex_definition_refusals.txt": "test_tex_program.Definitions",
     "tex_growth.txt": "test_tex_growth.Instructions",

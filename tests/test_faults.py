@@ -219,6 +219,7 @@ class Readings(Streams):
         "tex": (support.tex_program, [], b"x", 1_000_000), "tex many": (support.tex_program, ["--null"], b"x_1^2\0", 1_000_000),
     })
     def are_counted(self, program, words, piece, most):
+        drawn = b"x" if words == ["document"] else b"<mi>x</mi>"
         for size in (0, 1, ROOM - 1, ROOM, ROOM + 1, 1_000_000, most):
             given = piece * (size // len(piece))
             with self.subTest(size), open_input(given) as source:
@@ -226,3 +227,4 @@ class Readings(Streams):
                 self.expect(done, stdout=None)
                 self.assertLessEqual(counts["read"], len(given) // ROOM + 2)
                 self.assertEqual(counts["write"], int(bool(done.stdout)))
+                self.assertEqual(done.stdout.count(drawn), given.count(b"x"))

@@ -53,13 +53,9 @@ class Sites(Runs):
     def are_converted(self, runs):
         self.do_each(runs)
 
-
-@requires_python()
-class Scripts(Case):
-    """The macros in the settings of MathJax and KaTeX."""
-
     @each_row(by_heading("site_scripts.txt"))
-    def are_read(self, cases):
+    def scripts_are_read(self, cases):
+        """The macros in the settings of MathJax and KaTeX."""
         for case in cases:
             with self.subTest(case.place):
                 script = case.input.decode()
