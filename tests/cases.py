@@ -231,6 +231,14 @@ def by_heading(name):
     return {heading: (cases,) for heading, cases in rows.items()}
 
 
+def rows_of_lines(name):
+    """The cases of a file under each heading, as lines."""
+    found = collections.defaultdict(list)
+    for heading, lines in blocks(name):
+        found[key_of(heading)].append(lines)
+    return found
+
+
 def listed(path):
     """The texts that a file lists under headings, one per line."""
     return {line.expand().decode() for _, line in lines_of(path) if line.text}

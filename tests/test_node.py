@@ -8,8 +8,10 @@ import unittest
 
 import pytest
 
+from tests import texts
+from tests.cases import rows_of_lines
 from tests.integration import answer_of, tex_answer_of
-from tests.support import ROOT, Case, Has, c_library, limit, program, requires, run, scratch, tex_program
+from tests.support import ROOT, Case, Has, c_library, each_row, limit, program, requires, run, scratch, tex_program
 
 pytestmark = pytest.mark.long
 
@@ -67,6 +69,15 @@ class Package(Case):
 class Calls(Package):
     def test_calls(self):
         self.run_tests("calls.test.cjs")
+
+    @each_row(rows_of_lines("macros.txt"))
+    def has_macros(self, *cases):
+        """They are read as in the package for Python, and what is not a macro is refused in the same words."""
+        asked = [[json.loads(macros.text), formula.text] for macros, formula, _ in cases]
+        answers = json.loads(self.node(TESTS / "macros.cjs", stdin=json.dumps(asked).encode(), check=True).stdout)
+        for (macros, _, wanted), answer in zip(cases, answers, strict=True):
+            with self.subTest(macros.place):
+                self.assertEqual(answer, texts.math(wanted.text).decode() if wanted.text.startswith("<") else wanted.text)
 
     def test_an_answer_longer_than_a_string(self):
         """It is an error, and not a call that returns nothing. The library here is another one, which asks for that much room."""

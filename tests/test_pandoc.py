@@ -177,10 +177,10 @@ class Formulas(Pandoc):
 
     def test_refused_macros(self):
         for macros, fault in (
-            ({"fine": "x", "broken": "{x"}, "the macro \\broken is refused: { is not closed"),
-            ({"R2": "x"}, "the macro \\R2 is refused: no name to define"),
-            ({"a": "x}{y"}, "the macro \\a is refused: not a definition"),
-            ({"a": ["#2", "1"]}, "the macro \\a is refused: a body has no such argument"),
+            ({"fine": "x", "broken": "{x"}, "macros: \\broken: { is not closed: {x"),
+            ({"R2": "x"}, "macros: \"R2\" is not the name of a command: letters, or one other character"),
+            ({"a": "x}{y"}, "macros: \\a: not a definition: x}{y"),
+            ({"a": ["#2", "1"]}, "macros: \\a: a body has no such argument: #2"),
         ):
             with self.subTest(macros):
                 self.ends(json_of([], macros=macros), fault, "-f", "json", "-t", "html")

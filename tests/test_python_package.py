@@ -1,5 +1,4 @@
 """The Python package: its wheel in a fresh virtual environment, its calls, and the option `macros` of its extensions."""
-import collections
 import concurrent.futures
 import functools
 import json
@@ -11,7 +10,7 @@ import unittest.mock
 import zipfile
 
 from tests import texts
-from tests.cases import blocks, key_of, with_tags
+from tests.cases import rows_of_lines, with_tags
 from tests.environments import ask, environment, proved, requires_python, run_python, wheel
 from tests.runs import Runs, runs_of
 from tests.support import ROOT, Case, c_library, each_row, requires, run
@@ -75,14 +74,6 @@ def call(name, *words, **named):
         return f"TexRefused: {copy}: in the {'definitions' if copy.is_definition else 'formula'}, line {copy.line}, column {copy.column}"
     except ValueError as error:
         return f"{type(error).__qualname__}: {error}"
-
-
-def rows_of_lines(name):
-    """The cases of a file under each heading, as lines."""
-    found = collections.defaultdict(list)
-    for heading, lines in blocks(name):
-        found[key_of(heading)].append(lines)
-    return found
 
 
 @requires_python()
@@ -237,3 +228,6 @@ class Macros(Case):
     def test_no_file(self):
         with self.assertRaisesRegex(FileNotFoundError, "none.tex"):
             render_with("none.tex", "x")
+
+    def test_what_is_no_mapping(self):
+        self.check([], "x", "macros: neither a mapping nor the path of a file: []")

@@ -29,7 +29,7 @@ export function tex(formula: string, block?: boolean, definitions?: string, opti
  * Returns a text of definitions for `tex`.
  * @throws {Refused} if one of the definitions is refused
  * @throws {TypeError} if the macros are neither a mapping nor a text, a name is not the name of a command, a body is not a string,
- *     or a number of arguments is not from 0 to 9
+ *     a number of arguments is not from 0 to 9, or an argument has a default
  */
 export function definitionsOf(macros: Macros): string;
 

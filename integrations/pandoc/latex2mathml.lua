@@ -112,19 +112,42 @@ local function count_arguments(body)
   return count
 end
 
---- The definition of a macro, from its name and its value: TeX, or a list of TeX and the number of arguments.
-local function definition_of(name, value)
+--- The command that a name means, which may be written with or without its backslash.
+local function command_of(name)
+  local command = name:match('^\\') and name or '\\' .. name
+  if not command:match('^\\%a+$') and (utf8.len(command) ~= 2 or command:match('^\\%a')) then
+    fail('macros: "%s" is not the name of a command: letters, or one other character', name)
+  end
+  return command
+end
+
+--- The body of a macro, and the number of its arguments: as many as a list says, or as the body has.
+local function body_and_arguments(command, value)
   local is_list = type_of(value) == 'List'
   local body = tex_of(is_list and value[1] or value)
   if not body then
-    fail('write the body of the macro %s between backquotes', name)
+    fail('macros: write the body of %s between backquotes', command)
+  elseif not (is_list and value[2]) then
+    return body, count_arguments(body)
+  elseif value[3] then
+    fail('macros: %s has an argument with a default, which is not read', command)
   end
-  local count = is_list and value[2] and tonumber(pandoc.utils.stringify(value[2])) or count_arguments(body)
-  local command = name:match('^\\') and name or '\\' .. name
+  local count = pandoc.utils.stringify(value[2])
+  if not count:match('^%d$') then
+    fail('macros: %s has a number of arguments that is not from 0 to 9: %s', command, count)
+  end
+  return body, tonumber(count)
+end
+
+--- The definition of a macro, from its name and its value: TeX, or a list of TeX and the number of arguments.
+local function definition_of(name, value)
+  local command = command_of(name)
+  local body, count = body_and_arguments(command, value)
   -- a comment at the end of the body must not reach the brace
   local last = body:find('%%') and '\n' or ''
   local arguments = count > 0 and ('[%d]'):format(count) or ''
-  return {name = command, text = ('\\newcommand{%s}%s{%s%s}'):format(command, arguments, body, last), is_option = true}
+  local text = ('\\newcommand{%s}%s{%s%s}'):format(command, arguments, body, last)
+  return {name = command, text = text, body = body, is_option = true}
 end
 
 --- The definitions in a text.
@@ -133,11 +156,11 @@ local function definitions_in(value)
   local definitions = {}
   for _, part in ipairs(text and RAW_TEX:match(text) or {}) do
     if part.kind == 'definition' then
-      definitions[#definitions + 1] = {name = defined_name(part.text), text = part.text, is_option = true}
+      definitions[#definitions + 1] = {name = defined_name(part.text), text = part.text, body = part.text, is_option = true}
     end
   end
   if #definitions == 0 then
-    fail('the option macros is a mapping or a text of definitions')
+    fail('macros: neither a mapping from names to TeX nor a text of definitions')
   end
   return definitions
 end
@@ -327,7 +350,7 @@ local function check_definitions(options, definitions, replies)
     if not (reply.is_markup and is_empty(reply.said)) then
       local reason = reply.is_markup and 'not a definition' or reply.said:gsub(' at %d+$', '')
       if definition.is_option then
-        fail('the macro %s is refused: %s', definition.name, reason)
+        fail('macros: %s: %s: %s', definition.name, reason, definition.body)
       end
       report(options, definition.text, reason)
       definition.text, all = '', false

@@ -98,9 +98,9 @@ for (const [macros, latex, meaning] of [
 }
 
 for (const [macros, message] of [
-    [{ fine: 'x', broken: '{x' }, 'the macro broken is refused: { is not closed'],
-    [{ a: 'x}{y' }, 'the macro a is refused: not a definition'],
-    [{ a: ['#2', 1] }, 'the macro a is refused: a body has no such argument'],
+    [{ fine: 'x', broken: '{x' }, 'macros: \\broken: { is not closed: {x'],
+    [{ a: 'x}{y' }, 'macros: \\a: not a definition: x}{y'],
+    [{ a: ['#2', 1] }, 'macros: \\a: a body has no such argument: #2'],
     ['\\usepackage{bm}', 'not a definition at 0'],
 ]) {
     test(`macros that are refused: ${JSON.stringify(macros)}`, () => {
@@ -109,17 +109,14 @@ for (const [macros, message] of [
 }
 
 for (const [macros, message] of [
-    [{ R2: 'x' }, '"R2" is no name of a macro'],
-    [{ '': 'x' }, '"" is no name of a macro'],
-    [{ a: 1 }, 'the macro \\a must be a string'],
-    [{ a: [] }, 'the macro \\a must be a string'],
-    [{ a: ['x', 10] }, 'the macro \\a takes 0 to 9 arguments'],
-    [{ a: ['x', null] }, 'the macro \\a takes 0 to 9 arguments'],
-    [undefined, 'macros are a mapping from names to TeX, or a text of definitions'],
-    [['x'], 'macros are a mapping from names to TeX, or a text of definitions'],
+    [{ '': 'x' }, '"" is not the name of a command: letters, or one other character'],
+    [{ a: () => 'x' }, '\\a is neither a text nor a list of a text and a number of arguments: undefined'],
+    [{ a: ['x', NaN] }, '\\a has a number of arguments that is not from 0 to 9: null'],
+    [undefined, 'neither a mapping from names to TeX nor a text of definitions'],
+    [['x'], 'neither a mapping from names to TeX nor a text of definitions'],
 ]) {
     test(`no macros: ${JSON.stringify(macros)}`, () => {
-        assert.throws(() => definitionsOf(macros), { constructor: TypeError, message: `latex2mathml: ${message}` });
+        assert.throws(() => definitionsOf(macros), { constructor: TypeError, message: `latex2mathml: macros: ${message}` });
     });
 }
 

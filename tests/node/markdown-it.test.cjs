@@ -114,9 +114,9 @@ testPages([
 testPages([['$\\R$', '<p><i>\\mathbb{R}</i></p>\n']], { macros: '\\newcommand{\\R}{\\mathbb{R}}' });
 
 for (const [macros, message] of [
-    [{ R2: 'x' }, 'latex2mathml: "R2" is no name of a macro'],
-    [{ '\\R': 1 }, 'latex2mathml: the macro \\R must be a string'],
-    [{ '\\R': '{' }, 'the macro \\R is refused: { is not closed'],
+    [{ R2: 'x' }, 'latex2mathml: macros: "R2" is not the name of a command: letters, or one other character'],
+    [{ '\\R': 1 }, 'latex2mathml: macros: \\R is neither a text nor a list of a text and a number of arguments: 1'],
+    [{ '\\R': '{' }, 'macros: \\R: { is not closed: {'],
 ]) {
     test(message, () => assert.throws(() => markdownIt().use(latex2mathml, { macros }), { message }));
 }

@@ -131,7 +131,7 @@ for (const [plugin, tree, found] of [
     test(`${plugin.name}: macros`, () => {
         const [, messages] = run(plugin, tree(), { macros: { foo: 'x' } });
         assert.deepEqual(messages, []);
-        assert.throws(() => plugin({ macros: { foo: '{' } }), { message: 'the macro foo is refused: { is not closed' });
+        assert.throws(() => plugin({ macros: { foo: '{' } }), { message: 'macros: \\foo: { is not closed: {' });
     });
 
     test(`${plugin.name}: no such option`, () => {

@@ -2,6 +2,7 @@ r"""The option `macros` of the extensions: macros as MathJax and KaTeX take them
 
     {"RR": r"\mathbb{R}", "norm": [r"\lVert #1 \rVert", 1]}
 """
+import json
 import os
 import pathlib
 import re
@@ -50,10 +51,12 @@ def _definition(name: str, macro: Any) -> str:
     """Returns one macro as a line of definitions."""
     command = name if isinstance(name, str) and name.startswith("\\") else f"\\{name}"
     if not _COMMAND.fullmatch(command):
-        raise MacroError(f"macros: {name!r} is no name of a command: letters, or one other character")
+        raise MacroError(f"macros: {_shown(name)} is not the name of a command: letters, or one other character")
     body, arguments = _body_and_arguments(command, macro)
     count = f"[{arguments}]" if arguments else ""
-    definition = rf"\newcommand{{{command}}}{count}{{{body}}}" + "\n"
+    # a comment at the end of the body must not reach the brace
+    last = "\n" if "%" in body else ""
+    definition = rf"\newcommand{{{command}}}{count}{{{body}{last}}}" + "\n"
     try:
         tex("", definitions=definition)
     except TexRefused as refused:
@@ -62,14 +65,22 @@ def _definition(name: str, macro: Any) -> str:
 
 
 def _body_and_arguments(command: str, macro: Any) -> Tuple[str, int]:
-    """Returns the body of a macro and the number of its arguments: for a text alone, as many as the body has, as in KaTeX."""
-    if isinstance(macro, str):
-        return macro, max((int(found) for found in _ARGUMENT.findall(macro) if found), default=0)
-    if not isinstance(macro, Sequence) or not macro or not isinstance(macro[0], str):
-        raise MacroError(f"macros: {command} is neither a text nor a list of a text and a number of arguments: {macro!r}")
-    if len(macro) > 2:
-        raise MacroError(f"macros: {command} has an argument with a default, which is not read: {macro!r}")
-    arguments = macro[1] if len(macro) == 2 else 0
-    if not isinstance(arguments, int) or not 0 <= arguments <= _MOST_ARGUMENTS:
-        raise MacroError(f"macros: {command} has a number of arguments that is not from 0 to {_MOST_ARGUMENTS}: {arguments!r}")
-    return macro[0], arguments
+    """Returns the body of a macro and the number of its arguments. If no number is given, a macro takes as many as its body has, as
+    in KaTeX."""
+    is_list = isinstance(macro, Sequence) and not isinstance(macro, str)
+    body, *more = macro if is_list and macro else [macro]
+    if not isinstance(body, str):
+        raise MacroError(f"macros: {command} is neither a text nor a list of a text and a number of arguments: {_shown(macro)}")
+    if len(more) > 1:
+        raise MacroError(f"macros: {command} has an argument with a default, which is not read: {_shown(macro)}")
+    if not more:
+        return body, max((int(found) for found in _ARGUMENT.findall(body) if found), default=0)
+    [arguments] = more
+    if type(arguments) is not int or not 0 <= arguments <= _MOST_ARGUMENTS:
+        raise MacroError(f"macros: {command} has a number of arguments that is not from 0 to {_MOST_ARGUMENTS}: {_shown(arguments)}")
+    return body, arguments
+
+
+def _shown(value: Any) -> str:
+    """Returns a value as JSON shows it, as far as it has a form there."""
+    return json.dumps(value, ensure_ascii=False, separators=(",", ":"), default=repr)
