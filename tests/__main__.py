@@ -20,10 +20,13 @@ import time
 
 from tests import cases
 from tests.support import BUILD_NOTHING, COUNTS, ROOT, RUN, SCREEN, SKIP_NOTHING, kit, processors, scratch
+from tools.memory import free_memory
 from tools.progress import Screen, Stopwatch, clock, end_of, follow
 
 OUT = ROOT / "out"
 C_LIBRARY = "latex2mathml_c"
+# the most memory that a check has been seen to take, in bytes
+MEMORY = 3 << 30
 LAST_LINE = re.compile(r"(\d+) passed, (\d+) failed")
 NO_TOOLCHAIN = "test: the command rt of the Rattle toolchain is not on the path: README.md says under \"Try it\" what is needed"
 
@@ -75,6 +78,13 @@ def look_at_layout(screen):
     return int(not failed), failed
 
 
+def checks_at_once():
+    """How many checks `rt ci` is to run at once, each with one process. By itself it gives a check all processors that are idle. But each
+    process reads all libraries below the crate, so that together the checks take a third more of a processor.
+    """
+    return max(min(processors(), free_memory() // MEMORY), 1)
+
+
 def prove(screen, begun):
     """Runs `rt ci` here. Each line that reports its progress stays, and everything that it prints is kept in a file."""
     watch, log = Stopwatch(), OUT / "rt-ci.log"
@@ -87,7 +97,8 @@ def prove(screen, begun):
         if line.startswith("rt: ") or last:
             screen.say(f"    {line.removeprefix('rt: ')}")
 
-    status = follow(["rt", "ci"], log, cwd=ROOT, on_line=read, on_second=lambda: screen.renew(f"    {watch}"))
+    how = {"cwd": ROOT, "env": {"RT_JOBS": str(checks_at_once()), **os.environ}}
+    status = follow(["rt", "ci"], log, on_line=read, on_second=lambda: screen.renew(f"    {watch}"), **how)
     passed, failed = (int(last[1]), int(last[2])) if last else (0, 0)
     if status or failed or not last:
         screen.say(end_of(log))

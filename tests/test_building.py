@@ -23,11 +23,11 @@ class House(Case):
 
     def setUp(self):
         self.house = self.folder / "a house"  # a path may have spaces
-        tools = {f"tools/{name}": (ROOT / "tools" / name).read_text() for name in ("built", "build", "progress.py")}
+        tools = {f"tools/{name}": (ROOT / "tools" / name).read_text() for name in ("built", "build", "memory.py", "progress.py")}
         self.memory = self.folder / "meminfo"
         self.memory.write_text("MemTotal: 64000000 kB\nMemAvailable: 32000000 kB\n")
-        self.assertIn('"/proc/meminfo"', tools["tools/build"])
-        tools["tools/build"] = tools["tools/build"].replace("/proc/meminfo", str(self.memory))
+        self.assertIn('"/proc/meminfo"', tools["tools/memory.py"])
+        tools["tools/memory.py"] = tools["tools/memory.py"].replace("/proc/meminfo", str(self.memory))
         put(self.house, {**tools, "crates.txt": (FAKES / "crates").read_text()})
         sources = ("src/lib.rt", "src/inner/part.rt", "specs/Lib.antt", *(f"proofs/{it}/Answers.antt" for it in "fg"))
         for crate in CRATES:

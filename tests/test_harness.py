@@ -102,7 +102,7 @@ class Harness(Case):
     def setUp(self):
         self.house = self.folder / "house"
         names = ("pytest.ini", "tests/__init__.py", "tests/__main__.py", "tests/conftest.py", "tests/support.py",
-                 "tests/cases.py", "tests/texts.py", "tools/__init__.py", "tools/progress.py")
+                 "tests/cases.py", "tests/texts.py", "tools/__init__.py", "tools/memory.py", "tools/progress.py")
         put(self.house, {name: (ROOT / name).read_text() for name in names})
         put(self.house, {"crates.txt": "low:\none: low\nlatex2mathml_c staticlib: one\n", "HANDLES": "",
                          "crates/one/src/lib.rt": "\n", "crates/latex2mathml_c/src/lib.rt": "\n"})
@@ -181,13 +181,14 @@ class Whole(Harness):
     def test_all_passes(self):
         one = {min(os.sched_getaffinity(0))}
         shown = self.comes_to(7, 0, BUILDS="1", before=lambda: os.sched_setaffinity(0, one))
+        self.assertIn("    one proved, 1 at once\n", shown)
         self.assertIn("    3 passed, 0 failed (1 proved)\n", shown)
         self.assertEqual(self.order.read_text(), "Long 1\nShort 1\n")
         made, source = self.house / "crates/one/out/one", self.house / "crates/one/src/lib.rt"
         self.assertLess(made.stat().st_mtime, source.stat().st_mtime)
 
     def test_the_proofs_alone(self):
-        self.comes_to(5, 0, "proofs")
+        self.assertIn("    one proved, 7 at once\n", self.comes_to(5, 0, "proofs", RT_JOBS="7"))
         self.assertFalse(self.order.exists())
 
     def test_a_mark_that_is_misspelled(self):

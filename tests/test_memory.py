@@ -75,10 +75,12 @@ def this_and_all_that_follow(number):
     return faulty.Fault("memory", number, faulty.ALL, 12)
 
 
+WAYS = (one, this_and_all_that_follow)
+
+
 def in_each_way(table):
     """The rows of a table, each with a way to refuse memory."""
-    ways = (one, this_and_all_that_follow)
-    return {f"{way.__name__} of {name}": (*row, way) for way in ways for name, row in table.items()}
+    return {f"{way.__name__} of {name}": (*row, way) for way in WAYS for name, row in table.items()}
 
 
 @support.requires("cc")
@@ -114,11 +116,13 @@ class Library(Refused):
             self.assertIn(done.stdout, [answer] + [wanting] * is_refused)
         return self.in_turn([support.build("latex2mathml_single_calls"), *words], way, judge, marked=True)
 
-    @support.each_row(in_each_way(CALLS))
-    def call(self, name, text, answer, way):
-        refused = self.comes_to([name, text], way, answer + b"\n", f"refusal: {WANTING.get(name, NO_MEMORY)}\n".encode())
-        if name == "clone":
-            self.assertLessEqual(refused, COPIES[text], "a copy asks for memory more often than it has parts")
+    @support.each_row(CALLS)
+    def call(self, name, text, answer):
+        for way in WAYS:
+            with self.subTest(way.__name__):
+                refused = self.comes_to([name, text], way, answer + b"\n", f"refusal: {WANTING.get(name, NO_MEMORY)}\n".encode())
+                if name == "clone":
+                    self.assertLessEqual(refused, COPIES[text], "a copy asks for memory more often than it has parts")
 
     @support.each_row(in_each_way(CONVERTED))
     def convert_again(self, first, second, of_first, of_second, way):
