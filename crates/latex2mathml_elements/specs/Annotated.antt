@@ -15,6 +15,7 @@ annotation_print tex = codes "<annotation encoding=\"application/x-tex\">" ++ (c
 abbrev pub alternative_byte : ℕ → List ℕ
 alternative_byte b = if b == byte "\"" then codes "&quot;" else content_byte b
 
+-- a text in an attribute, where bytes that have a meaning in XML are references
 abbrev pub alternative : List ℕ → List ℕ
 alternative = flat_map alternative_byte
 
@@ -23,6 +24,7 @@ abbrev pub alternative_start : Bool → List ℕ
 alternative_start true = codes "<math xmlns=\"http://www.w3.org/1998/Math/MathML\" display=\"block\" alttext=\""
 alternative_start false = codes "<math xmlns=\"http://www.w3.org/1998/Math/MathML\" display=\"inline\" alttext=\""
 
+-- the start tag of a formula with this alternative text
 abbrev pub alternative_tag : Bool → List ℕ → List ℕ
 alternative_tag is_display tex = alternative_start is_display ++ (alternative tex ++ codes "\">")
 

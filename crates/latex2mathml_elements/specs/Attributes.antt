@@ -53,6 +53,7 @@ pub data Boxing : Type 0 where
   StruckDown : Boxing
   StruckTwice : Boxing
 
+-- the attributes of an element; one that is `None` or false is not written
 pub record Attributes : Type 0 where
   -- a single letter that is not italic
   pub upright : Bool

@@ -12,6 +12,7 @@ pub record Color : Type 0 where
 abbrev pub hexadecimal : ℕ → ℕ
 hexadecimal d = if nat_lt d 10 then byte "0" + d else byte "a" + (d - 10)
 
+-- a byte in hexadecimal digits
 abbrev pub two_digits : ℕ → List ℕ
 two_digits n = hexadecimal (n / 16 % 16) ∷ hexadecimal (n % 16) ∷ []
 

@@ -30,6 +30,7 @@ abbrev pub length_if_any : List ℕ → ℤ → List ℕ
 length_if_any name (pos zero) = []
 length_if_any name length = length_text name length
 
+-- the attribute of a black rectangle
 abbrev pub black_text : Bool → List ℕ
 black_text true = codes " mathbackground=\"black\""
 black_text false = []

@@ -9,12 +9,14 @@ use Rattle.latex2mathml_trees.specs.Width.{width_text}
 
 -- The names of elements
 
+-- the name of a token element
 abbrev pub token_name : Token → List ℕ
 token_name Mi = codes "mi"
 token_name Mn = codes "mn"
 token_name Mo = codes "mo"
 token_name Mtext = codes "mtext"
 
+-- the name of an element around others
 abbrev pub container_name : Container → List ℕ
 container_name Mrow = codes "mrow"
 container_name Msqrt = codes "msqrt"
@@ -22,6 +24,7 @@ container_name Mstyle = codes "mstyle"
 container_name Mpadded = codes "mpadded"
 container_name Mphantom = codes "mphantom"
 
+-- the name of an element of two
 abbrev pub pair_name : Pair → List ℕ
 pair_name Mfrac = codes "mfrac"
 pair_name Mroot = codes "mroot"
@@ -30,22 +33,26 @@ pair_name Msup = codes "msup"
 pair_name Munder = codes "munder"
 pair_name Mover = codes "mover"
 
+-- the name of an element of three
 abbrev pub triple_name : Triple → List ℕ
 triple_name Msubsup = codes "msubsup"
 triple_name Munderover = codes "munderover"
 
 -- Attributes
 
+-- this text, if so
 abbrev pub if_so : Bool → List ℕ → List ℕ
 if_so true text = text
 if_so false text = []
 
+-- the attribute for the form of an operator
 abbrev pub form_text : Option Form → List ℕ
 form_text None = []
 form_text (Some Prefix) = codes " form=\"prefix\""
 form_text (Some Infix) = codes " form=\"infix\""
 form_text (Some Postfix) = codes " form=\"postfix\""
 
+-- the attribute for stretching
 abbrev pub stretch_text : Option Stretch → List ℕ
 stretch_text None = []
 stretch_text (Some Stretching) = codes " stretchy=\"true\""
@@ -59,16 +66,19 @@ size_text (Some Bigger) = codes " symmetric=\"true\" minsize=\"1.623em\" maxsize
 size_text (Some VeryBig) = codes " symmetric=\"true\" minsize=\"2.047em\" maxsize=\"2.047em\""
 size_text (Some Biggest) = codes " symmetric=\"true\" minsize=\"2.47em\" maxsize=\"2.47em\""
 
+-- the attributes for the space at the sides
 abbrev pub space_text : Option Space → List ℕ
 space_text None = []
 space_text (Some NoSpace) = codes " lspace=\"0\" rspace=\"0\""
 space_text (Some Narrow) = codes " lspace=\"0.05em\" rspace=\"0.05em\""
 
+-- the attribute for an accent
 abbrev pub accent_text : Option Side → List ℕ
 accent_text None = []
 accent_text (Some Above) = codes " accent=\"true\""
 accent_text (Some Below) = codes " accentunder=\"true\""
 
+-- the attributes for a style
 abbrev pub style_text : Option MathStyle → List ℕ
 style_text None = []
 style_text (Some DisplayStyle) = codes " displaystyle=\"true\" scriptlevel=\"0\""
@@ -79,6 +89,7 @@ style_text (Some ScriptStyle) = codes " displaystyle=\"false\" scriptlevel=\"1\"
 abbrev pub line_up : List ℕ
 line_up = codes "linear-gradient(to top left, transparent calc(50% - 0.04em), currentcolor, transparent calc(50% + 0.04em))"
 
+-- the picture of a line from one corner to the other
 abbrev pub line_down : List ℕ
 line_down = codes "linear-gradient(to top right, transparent calc(50% - 0.04em), currentcolor, transparent calc(50% + 0.04em))"
 
@@ -126,9 +137,11 @@ column_text Dense = codes " style=\"padding: 0.1em 0.3em\""
 
 -- Elements
 
+-- a start tag
 abbrev pub start_tag : List ℕ → Attributes → List ℕ
 start_tag name a = codes "<" ++ (name ++ (attributes_text a ++ codes ">"))
 
+-- an end tag
 abbrev pub end_tag : List ℕ → List ℕ
 end_tag name = codes "</" ++ (name ++ codes ">")
 
@@ -136,9 +149,11 @@ end_tag name = codes "</" ++ (name ++ codes ">")
 abbrev pub row_print : List ℕ → List ℕ
 row_print cells = codes "<mtr>" ++ (cells ++ codes "</mtr>")
 
+-- the start tag of a cell
 abbrev pub cell_tag : Column → List ℕ
 cell_tag column = codes "<mtd" ++ (column_text column ++ codes ">")
 
+-- a cell with what is in it
 abbrev pub cell_print : Column → List ℕ → List ℕ
 cell_print column inside = cell_tag column ++ (inside ++ codes "</mtd>")
 

@@ -5,6 +5,7 @@ use Rattle.latex2mathml_tokens.specs.Among.{is_among}
 
 -- the character is one of these
 infix 60 ◌∈◌
+-- whether a character is in a text
 abbrev pub ◌∈◌ : ℕ → String → Bool
 c ∈ s = is_among c (codes s)
 
@@ -27,6 +28,7 @@ abbrev pub Stops : (ℕ → Bool) → Option ℕ → Type 0
 Stops p None = ⊤
 Stops p (Some c) = IsFalse (p c)
 
+-- whether a text is empty
 abbrev pub is_empty : List ℕ → Bool
 is_empty [] = true
 is_empty (c ∷ cs) = false

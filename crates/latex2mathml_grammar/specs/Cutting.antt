@@ -22,19 +22,24 @@ abbrev pub number_of : List ℕ → List ℕ
 number_of [] = []
 number_of (c ∷ cs) = if is_ascii_digit c then c ∷ number_of cs else if is_period c then c ∷ run_of is_ascii_digit cs else []
 
+-- a slice of its two parts
 abbrev pub slice : List ℕ → Tok → Slice
 slice w t = record { text = w; token = t }
 
+-- the slice of a number
 abbrev pub numbered : List ℕ → Slice
 numbered w = slice w (Number (encode_utf8_all w))
 
+-- the slice of a command of this name
 abbrev pub named : List ℕ → Slice
 named w = slice (byte "\\" ∷ w) (command_token (encode_utf8_all w))
 
+-- the slice that begins with a backslash: all letters that follow, or one other character
 abbrev pub behind_backslash : List ℕ → Slice
 behind_backslash [] = slice (codes "\\") (Command [])
 behind_backslash (c ∷ cs) = if is_ascii_alphabetic c then named (c ∷ run_of is_ascii_alphabetic cs) else named (c ∷ [])
 
+-- the slice that begins with a colon
 abbrev pub behind_colon : List ℕ → Slice
 behind_colon [] = slice (codes ":") (Operator (byte ":"))
 behind_colon (c ∷ cs) = if is_equals_sign c then slice (codes ":=") (Paren (codes ":=")) else slice (codes ":") (Operator (byte ":"))

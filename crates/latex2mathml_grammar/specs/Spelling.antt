@@ -33,12 +33,15 @@ character_token c =
     else if is_ascii_alphabetic c then Letter c Italic
     else Letter c Normal
 
+-- whether a character is a period
 abbrev pub is_period : ℕ → Bool
 is_period c = c ∈ "."
 
+-- whether a character is an equals sign
 abbrev pub is_equals_sign : ℕ → Bool
 is_equals_sign c = c ∈ "="
 
+-- whether a character may be in a number
 abbrev pub is_digit_or_period : ℕ → Bool
 is_digit_or_period c = is_ascii_digit c || is_period c
 

@@ -12,6 +12,7 @@ pub record Blocks : Type 0 where
   -- the letters that are elsewhere, each with its code point there
   pub elsewhere : List (ℕ × ℕ)
 
+-- where the letters and digits of an alphabet are among Unicode's mathematical characters. Upright ones are ordinary characters.
 abbrev pub blocks : Alphabet → Option Blocks
 blocks Upright = None
 blocks Italic = Some (record {
@@ -65,6 +66,7 @@ blocks Calligraphic = Some (record {
 blocks SansSerif = Some (record { capital = 0x1D5A0; small = 0x1D5BA; digit = Some 0x1D7E2; greek_capital = None; greek_small = None; elsewhere = [] })
 blocks Monospace = Some (record { capital = 0x1D670; small = 0x1D68A; digit = Some 0x1D7F6; greek_capital = None; greek_small = None; elsewhere = [] })
 
+-- whether a character is from the first to the last
 abbrev pub is_between : ℕ → ℕ → ℕ → Bool
 is_between first last c = nat_le first c && nat_le c last
 
@@ -88,6 +90,7 @@ in_blocks b c =
     else if is_between 0x03B1 0x03C9 c then moved 0x03B1 b.greek_small c
     else c
 
+-- a character in these blocks, or itself without blocks
 abbrev pub in_optional_blocks : Option Blocks → ℕ → ℕ
 in_optional_blocks None c = c
 in_optional_blocks (Some b) c = looked_up b.elsewhere c (in_blocks b c)

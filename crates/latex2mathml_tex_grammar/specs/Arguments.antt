@@ -10,6 +10,7 @@ pub data Brace : Type 0 where
   Closing : Brace
   NoBrace : Brace
 
+-- which brace a unit is, if it is one
 abbrev pub brace_of : Piece → Brace
 brace_of Open = Opening
 brace_of Close = Closing
@@ -45,6 +46,7 @@ argument_of Opening place u l = group u.place l 0
 argument_of Closing place u l = Refused (refusal_at MissingArgument place)
 argument_of NoBrace place u l = Read (u ∷ []) l
 
+-- the argument that comes next, of the macro at this place, and what is left. Spaces were passed.
 abbrev pub argument_here : ℕ → Units → Outcome (List Unit)
 argument_here place (Next u l) = argument_of (brace_of u.piece) place u l
 argument_here place (End at) = Refused (refusal_at MissingArgument place)

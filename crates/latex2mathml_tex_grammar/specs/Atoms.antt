@@ -27,9 +27,11 @@ pub record Atom : Type 0 where
   -- whether it is higher than a letter
   pub high : Bool
 
+-- an atom of its three parts
 abbrev pub atom : Kind → Bool → Element → Atom
 atom kind high element = record { element = element; kind = kind; high = high }
 
+-- whether an atom is upright letters
 abbrev pub is_letters : Kind → Bool
 is_letters UprightLetters = true
 is_letters kind = false

@@ -157,9 +157,11 @@ color_entries =
     (codes "yellowgreen", 0x9A, 0xCD, 0x32) ∷
     []
 
+-- a color of its three parts
 abbrev pub color : ℕ → ℕ → ℕ → Color
 color red green blue = record { red = red; green = green; blue = blue }
 
+-- what the first entry of this name says, where the case of letters does not matter
 abbrev pub entry_color : List (List ℕ × ℕ × ℕ × ℕ) → List ℕ → Option Color
 entry_color [] name = None
 entry_color (entry ∷ entries) name = if str_eq_ignore_ascii_case name entry.0 then Some (color entry.1 entry.2 entry.3) else entry_color entries name

@@ -3,6 +3,7 @@ use Rattle.std.specs.Prelude.{ℕ, ◌==◌, List, [], ◌∷◌, ◌++◌, Opti
 use Rattle.std.specs.Str.{bytes_eq}
 use Rattle.latex2mathml_tex_grammar.specs.{CommandsUpToL.commands_up_to_l, CommandsFromM.commands_from_m, Meaning.Meaning, Signs.sign_entries, Symbols.Symbol}
 
+-- the whole table of commands, in the order of bytes
 unfoldable pub command_entries : List (List ℕ × Meaning)
 command_entries = commands_up_to_l ++ commands_from_m
 

@@ -6,6 +6,7 @@ use Rattle.latex2mathml_tex_grammar.specs.Symbols.{Letter, UprightLetter, Sign, 
 use Rattle.latex2mathml_elements.specs.Attributes.{Above, Below, Stretching, Rigid}
 use Rattle.latex2mathml_tex_grammar.specs.Meaning.{Phantom, PhantomHeight, OverRight, OverLeft, OverBoth, StrikeTwice, Beside, ByStyle, Bar, NoBar}
 
+-- the table of commands, from those that begin with `m` on
 unfoldable pub commands_from_m : List (List ℕ × Meaning)
 commands_from_m =
     (codes "maltese", Shows (Sign Ordinary 0x2720)) ∷  -- ✠

@@ -5,6 +5,7 @@ use Rattle.latex2mathml_tex_grammar.specs.Meaning.{Meaning, Dots, Shows, Functio
 use Rattle.latex2mathml_tex_grammar.specs.Symbols.{Letter, UprightLetter, Sign, BigOperator, Integral, Ordinary, Binary, Relation, Opening, Closing, Punctuation, Inner, Italic, Bold, BoldItalic, DoubleStruck, Fraktur, Calligraphic, InDisplay}
 use Rattle.latex2mathml_elements.specs.Attributes.{Above, Rigid, Big, Bigger, VeryBig, Biggest}
 
+-- the table of commands, up to those that begin with `l`
 unfoldable pub commands_up_to_l : List (List ℕ × Meaning)
 commands_up_to_l =
     (codes " ", Spacing (pos 6)) ∷

@@ -13,5 +13,6 @@ pub record HasOneTableOrRefusal (text : List ℕ) : Type 0 where
   -- what defines a table is not refused
   pub never_both : (table : Table) (r : Refusal) → Defines text table → AreRefused text r → ⊥
 
+-- so it is for every text
 abbrev pub HaveOneTableOrRefusal : Type 0
 HaveOneTableOrRefusal = (text : List ℕ) → HasOneTableOrRefusal text

@@ -20,6 +20,7 @@ pub data Word : Type 0 where
   -- `\DeclareMathOperator`
   DeclareOperator : Word
 
+-- the word that has this name, if one does
 abbrev pub word_named : List ℕ → Option Word
 word_named name =
     if bytes_eq name (codes "newcommand") then Some NewCommand
@@ -34,15 +35,18 @@ pub record Definition : Type 0 where
   pub name : List ℕ
   pub stands_for : Macro
 
+-- a definition of this name
 abbrev pub definition : List ℕ → Macro → Definition
 definition name m = record { name = name; stands_for = m }
 
 -- Signs between the parts
 
+-- whether a unit is this character
 abbrev pub is_character : ℕ → Piece → Bool
 is_character c (Character d) = d == c
 is_character c piece = false
 
+-- whether the very next unit is this character, and the units after it, where it is
 abbrev pub sign_here : ℕ → Units → Bool × Units
 sign_here c (Next u l) = if is_character c u.piece then (true, l) else (false, Next u l)
 sign_here c (End place) = (false, End place)
@@ -52,14 +56,17 @@ sign_here c (Stop r) = (false, Stop r)
 abbrev pub sign : ℕ → Units → Bool × Units
 sign c l = sign_here c (past_space l)
 
+-- the digit that a unit is, if it is one
 abbrev pub digit_of : Piece → Option ℕ
 digit_of (Character c) = if is_ascii_digit c then Some (c - byte "0") else None
 digit_of piece = None
 
+-- this digit and the units after it, or all of the units
 abbrev pub digit_found : Option ℕ → Unit → Units → Option ℕ × Units
 digit_found (Some d) u l = (Some d, l)
 digit_found None u l = (None, Next u l)
 
+-- the digit that the very next unit is, if it is one, and the units after it
 abbrev pub digit_here : Units → Option ℕ × Units
 digit_here (Next u l) = digit_found (digit_of u.piece) u l
 digit_here (End place) = (None, End place)
@@ -71,10 +78,12 @@ digit l = digit_here (past_space l)
 
 -- The name, which may be between braces
 
+-- whether all of the units are spaces
 abbrev pub are_space : List Unit → Bool
 are_space [] = true
 are_space (u ∷ us) = is_space_piece u.piece && are_space us
 
+-- the name of this unit, if it is a command and only spaces follow it
 abbrev pub only_name : Piece → List Unit → Option (List ℕ)
 only_name (Command name) us = if are_space us then Some name else None
 only_name piece us = None
@@ -84,6 +93,7 @@ abbrev pub name_in : List Unit → Option (List ℕ)
 name_in [] = None
 name_in (u ∷ us) = if is_space_piece u.piece then name_in us else only_name u.piece us
 
+-- this name, or the refusal of what is none
 abbrev pub name_read : ℕ → Option (List ℕ) → Units → Outcome (List ℕ)
 name_read place (Some name) l = Read name l
 name_read place None l = Refused (refusal_at MissingMacroName place)
@@ -99,27 +109,33 @@ abbrev pub without_default : ℕ → ℕ → Bool × Units → Outcome ℕ
 without_default place n (true, l) = Refused (refusal_at OptionalArgument place)
 without_default place n (false, l) = Read n l
 
+-- this number of arguments, where its bracket is closed. What may follow is a default, which is refused.
 abbrev pub number_closed : ℕ → ℕ → Bool × Units → Outcome ℕ
 number_closed place n (true, l) = without_default place n (sign (byte "[") l)
 number_closed place n (false, l) = Refused (refusal_at WrongParameters place)
 
+-- the number of arguments from its digit on, if one was found
 abbrev pub number_in : ℕ → Option ℕ × Units → Outcome ℕ
 number_in place (Some n, l) = number_closed place n (sign (byte "]") l)
 number_in place (None, l) = Refused (refusal_at WrongParameters place)
 
+-- the number of arguments in brackets if one was opened, otherwise 0
 abbrev pub number_opened : ℕ → Bool × Units → Outcome ℕ
 number_opened place (true, l) = number_in place (digit l)
 number_opened place (false, l) = Read 0 l
 
+-- how many arguments a definition by `\newcommand` has
 abbrev pub number_of : ℕ → Units → Outcome ℕ
 number_of place l = number_opened place (sign (byte "[") l)
 
 -- How many arguments, given as `#1`, `#2` and so on, in this order
 
+-- what follows a parameter, if its own number comes after the `#`, or else its refusal
 abbrev pub numbered : ℕ → Bool × Units → (Units → Outcome ℕ) → Outcome ℕ
 numbered place (true, l) more = more l
 numbered place (false, l) more = Refused (refusal_at WrongParameters place)
 
+-- the number of parameters, once it is known whether the `#` of the one after n others comes next
 abbrev pub parameter : ℕ → ℕ → Bool × Units → (Units → Outcome ℕ) → Outcome ℕ
 parameter place n (true, l) more = numbered place (sign (byte "1" + n) l) more
 parameter place n (false, l) more = Read n l
@@ -142,6 +158,7 @@ abbrev pub parameter_part : ℕ → Piece → Option Part
 parameter_part n piece =
     if is_character (byte "#") piece then Some (Fixed piece) else argument_part n (digit_of piece)
 
+-- this part before the others. If one of them is none, nothing.
 abbrev pub part_before : Option Part → Option (List Part) → Option (List Part)
 part_before (Some part) (Some parts) = Some (part ∷ parts)
 part_before (Some part) None = None
@@ -156,9 +173,11 @@ parts_behind false n (u ∷ us) =
     if is_character (byte "#") u.piece then parts_behind true n us
     else part_before (Some (Fixed u.piece)) (parts_behind false n us)
 
+-- the parts of a body in which each `#` means something, where there are n arguments
 abbrev pub parts_of : ℕ → List Unit → Option (List Part)
 parts_of = parts_behind false
 
+-- this body, or the refusal of what is none
 abbrev pub body_read : ℕ → Option (List Part) → Units → Outcome (List Part)
 body_read place (Some parts) l = Read parts l
 body_read place None l = Refused (refusal_at UnknownParameter place)
@@ -232,6 +251,7 @@ abbrev pub provided : Definition → Option Macro → Table → Table
 provided d (Some m) table = table
 provided d None table = with_macro d.name d.stands_for table
 
+-- the table after a definition by this word
 abbrev pub behind_definition : Word → Definition → Table → Table
 behind_definition ProvideCommand d table = provided d (table d.name) table
 behind_definition NewCommand d table = with_macro d.name d.stands_for table

@@ -109,6 +109,7 @@ abbrev pub entry_of_name : List (List ℕ × ℕ) → List ℕ → Option ℕ
 entry_of_name [] name = None
 entry_of_name (entry ∷ entries) name = if bytes_eq entry.0 name then Some entry.1 else entry_of_name entries name
 
+-- what the first entry of this character says
 abbrev pub entry_of_character : List (ℕ × ℕ) → ℕ → Option ℕ
 entry_of_character [] c = None
 entry_of_character (entry ∷ entries) c = if entry.0 == c then Some entry.1 else entry_of_character entries c

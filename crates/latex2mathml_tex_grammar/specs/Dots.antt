@@ -5,9 +5,11 @@ use Rattle.latex2mathml_tex_grammar.specs.Meaning.{Meaning, Shows, StackedRelati
 use Rattle.latex2mathml_tex_grammar.specs.Symbols.{Class, Binary, Relation, Inner, Symbol, Sign, BigOperator, Integral}
 use Rattle.latex2mathml_tex_grammar.specs.Units.{Piece, Character, Command}
 
+-- dots on the line
 abbrev pub low_dots : Symbol
 low_dots = Sign Inner 0x2026  -- …
 
+-- dots in the middle of the line
 abbrev pub centered_dots : Symbol
 centered_dots = Sign Inner 0x22EF  -- ⋯
 

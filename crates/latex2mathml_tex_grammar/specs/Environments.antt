@@ -15,6 +15,7 @@ before_cell column = Nothing
 abbrev pub column_of : ℕ → Column
 column_of c = if c == byte "l" then LeftAligned else if c == byte "r" then RightAligned else Centered
 
+-- the columns that these letters say
 abbrev pub columns_of : List ℕ → List Column
 columns_of [] = []
 columns_of (c ∷ cs) = column_of c ∷ columns_of cs
@@ -27,6 +28,7 @@ pub data Bracket : Type 0 where
   -- a letter that says how cells are aligned in their columns
   Alignment : Bracket
 
+-- what an environment says of its table, and of what comes before the cells
 pub record Environment : Type 0 where
   -- the delimiters around it, where it has any; an empty text is no delimiter
   pub delimiters : Option (List ℕ × List ℕ)
@@ -37,21 +39,27 @@ pub record Environment : Type 0 where
   -- what is in braces after its name
   pub argument : Option Argument
 
+-- an environment of cells in these columns and this style, without anything else
 abbrev pub cells_in : Columns → Style → Environment
 cells_in columns style = record { delimiters = None; columns = columns; style = style; bracket = NoBracket; argument = None }
 
+-- centered columns in text style
 abbrev pub matrix : Environment
 matrix = cells_in (Alike Centered) InText
 
+-- an environment with delimiters around it
 abbrev pub between : List ℕ → List ℕ → Environment → Environment
 between opening closing e = record e { delimiters = Some (opening, closing) }
 
+-- centered columns in display style
 abbrev pub lines : Environment
 lines = cells_in (Alike Centered) InDisplay
 
+-- pairs of columns in display style
 abbrev pub pairs : Environment
 pairs = cells_in InPairs InDisplay
 
+-- an environment that may be given a position, in brackets
 abbrev pub placed : Environment → Environment
 placed e = record e { bracket = Position }
 
@@ -59,6 +67,7 @@ placed e = record e { bracket = Position }
 abbrev pub starred : Environment → Environment
 starred e = record e { bracket = Alignment }
 
+-- an environment with this argument, in braces
 abbrev pub with_argument : Argument → Environment → Environment
 with_argument argument e = record e { argument = Some argument }
 
@@ -66,6 +75,7 @@ with_argument argument e = record e { argument = Some argument }
 abbrev pub around_relation : Environment
 around_relation = cells_in (Listed (RightAligned ∷ Centered ∷ LeftAligned ∷ [])) InDisplay
 
+-- the table of environments, in the order of bytes
 unfoldable pub environments : List (List ℕ × Environment)
 environments =
     (codes "Bmatrix", between (codes "{") (codes "}") matrix) ∷
@@ -115,5 +125,6 @@ abbrev pub entry_environment : List (List ℕ × Environment) → List ℕ → O
 entry_environment [] name = None
 entry_environment (entry ∷ entries) name = if bytes_eq entry.0 name then Some entry.1 else entry_environment entries name
 
+-- the environment of this name, if there is one
 unfoldable pub environment_of : List ℕ → Option Environment
 environment_of name = entry_environment environments name

@@ -4,6 +4,7 @@ use Rattle.std.specs.Str.{byte}
 use Rattle.latex2mathml_tex_grammar.specs.Refusal.{LoneBackslash, ForbiddenCharacter, refusal_at}
 use Rattle.latex2mathml_tex_grammar.specs.Units.{Space, Open, Close, Command, Character, Next, End, Stop, unit, HasUnits}
 
+-- the units of some texts
 pub record AreUnitsOfExamples : Type 0 where
   pub nothing : HasUnits 0 [] (End 0)
   -- white space after a command of letters is ignored

@@ -12,6 +12,7 @@ use Rattle.latex2mathml_tex_grammar.specs.Units.{Piece, Command, Unit, Units, Ne
 abbrev pub most_uses : ℕ
 most_uses = 1000
 
+-- how many units macros may put in all
 abbrev pub most_units : ℕ
 most_units = 100000
 
@@ -24,10 +25,12 @@ pub data Role : Type 0 where
   -- neither
   Stands : Role
 
+-- a unit that defines, if its name is a word for that
 abbrev pub word_role : Option Word → Role
 word_role (Some word) = Defines word
 word_role None = Stands
 
+-- a unit that uses a macro, if its name means one
 abbrev pub name_role : Option Macro → List ℕ → Role
 name_role (Some m) name = Uses m
 name_role None name = word_role (word_named name)
@@ -68,6 +71,7 @@ abbrev pub defined : Table → ℕ → ℕ → Word → Outcome Definition → T
 defined table uses room word (Read d l) = Turns (behind_definition word d table) uses room l
 defined table uses room word (Refused r) = Fails r
 
+-- what becomes of a unit that has this role
 abbrev pub turn_of : Role → Table → ℕ → ℕ → Unit → Units → Turn
 turn_of (Uses m) table uses room u l = used table uses room u m l
 turn_of (Defines word) table uses room u l = defined table uses room word (definition_of word u.place l)

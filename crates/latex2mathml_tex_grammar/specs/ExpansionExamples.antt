@@ -9,6 +9,7 @@ use Rattle.latex2mathml_tex_grammar.specs.Units.{Open, Command, Character, Units
 abbrev pub ExpandsTo : List ℕ → Units → Type 0
 ExpandsTo text units = Expands usual_macros 4 10 (units_of 0 text) units
 
+-- the units that some texts expand to
 pub record AreExpansionExamples : Type 0 where
   -- a definition leaves nothing, and holds from there on. A body has the place of the use, an argument keeps its own.
   pub defined : ExpandsTo (codes "\\R\\def\\R#1{x#1}\\R y")

@@ -17,6 +17,7 @@ pub record HasOneExpansion (table : Table) (uses room : ℕ) (l : Units) : Type 
   pub some : (m : Units) × Expands table uses room l m
   pub one : (m n : Units) → Expands table uses room l m → Expands table uses room l n → m ≡ n
 
+-- so it is for all units
 abbrev pub HaveOneExpansion : Type 0
 HaveOneExpansion = (table : Table) (uses room : ℕ) (l : Units) → HasOneExpansion table uses room l
 
@@ -25,6 +26,7 @@ pub record HasOneTable (table : Table) (l : Units) : Type 0 where
   pub some : (o : Outcome Table) × ReadsDefinitions table l o
   pub one : (o p : Outcome Table) → ReadsDefinitions table l o → ReadsDefinitions table l p → o ≡ p
 
+-- so it is for all units
 abbrev pub HaveOneTable : Type 0
 HaveOneTable = (table : Table) (l : Units) → HasOneTable table l
 

@@ -22,6 +22,7 @@ abbrev pub is_outside : Kind → Bool
 is_outside OutsideTable = true
 is_outside kind = false
 
+-- whether atoms are refused for what is only between cells: then the text is read as rows
 abbrev pub asks_for_rows : Outcome Row → Bool
 asks_for_rows (Read row l) = false
 asks_for_rows (Refused r) = is_outside r.kind

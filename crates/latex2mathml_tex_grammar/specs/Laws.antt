@@ -25,6 +25,7 @@ pub record HasOneOutcome (ending : Ending) (c : Context) (row : Row) (l : Units)
   pub some : (o : Outcome Row) × ReadsAtoms ending c row l o
   pub one : (o p : Outcome Row) → ReadsAtoms ending c row l o → ReadsAtoms ending c row l p → o ≡ p
 
+-- so it is for every ending, context, row and list of units
 abbrev pub HaveOneOutcome : Type 0
 HaveOneOutcome = (ending : Ending) (c : Context) (row : Row) (l : Units) → HasOneOutcome ending c row l
 
@@ -39,6 +40,7 @@ pub record HasOneReading (macros : Table) (text : List ℕ) (style : Style) : Ty
   -- what has a reading is not refused
   pub never_both : (row : Row) (r : Refusal) → IsReading macros text style row → IsRefusal macros text style r → ⊥
 
+-- so it is for every table, text and style
 abbrev pub HaveOneReading : Type 0
 HaveOneReading = (macros : Table) (text : List ℕ) (style : Style) → HasOneReading macros text style
 

@@ -12,6 +12,7 @@ pub record Length : Type 0 where
   pub first : ℕ
   pub last : ℕ
 
+-- a length before its first character
 abbrev pub no_length : Length
 no_length = record { is_negative = false; number = 0; scale = 1; is_behind_point = false; first = 0; last = 0 }
 
@@ -19,16 +20,20 @@ no_length = record { is_negative = false; number = 0; scale = 1; is_behind_point
 abbrev pub at_most : ℕ → ℕ → ℕ
 at_most most n = if nat_lt most n then most else n
 
+-- the largest value of the digits; greater ones count as this
 abbrev pub most_digits : ℕ
 most_digits = 100000000000
 
+-- the largest factor for the digits after the point
 abbrev pub most_scale : ℕ
 most_scale = 1000000
 
+-- by what the digits are divided, after one more digit
 abbrev pub scaled : Bool → ℕ → ℕ
 scaled true scale = at_most most_scale (scale * 10)
 scaled false scale = scale
 
+-- a length after one more of its characters
 abbrev pub with_character : Length → ℕ → Length
 with_character l c =
     if is_ascii_digit c then record l { number = at_most most_digits (l.number * 10 + (c - byte "0")); scale = scaled l.is_behind_point l.scale }
@@ -41,6 +46,7 @@ abbrev pub with_all : Length → List ℕ → Length
 with_all l [] = l
 with_all l (c ∷ cs) = with_all (with_character l c) cs
 
+-- the length that these characters spell
 abbrev pub length_of : List ℕ → Length
 length_of cs = with_all no_length cs
 
@@ -65,10 +71,12 @@ thousandths_of first last number scale =
     else if first == byte "s" && last == byte "p" then rounded (number * 100) (scale * 65536)
     else rounded (number * 1000) scale
 
+-- minus this number
 abbrev pub negated : ℕ → ℤ
 negated zero = pos 0
 negated (suc n) = negsuc n
 
+-- this number with its sign
 abbrev pub signed : Bool → ℕ → ℤ
 signed true n = negated n
 signed false n = pos n
@@ -77,9 +85,11 @@ signed false n = pos n
 abbrev pub most_thousandths : ℕ
 most_thousandths = 1638400
 
+-- this number with its sign, unless it is too large
 abbrev pub within_most : Bool → ℕ → Option ℤ
 within_most is_negative n = if nat_lt most_thousandths n then None else Some (signed is_negative n)
 
+-- the width of a length, in thousandths of an em, if it is one and not too large
 abbrev pub width_in : Length → Option ℤ
 width_in l = within_most l.is_negative (thousandths_of l.first l.last l.number l.scale)
 

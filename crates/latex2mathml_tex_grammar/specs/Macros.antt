@@ -15,6 +15,7 @@ pub record Macro : Type 0 where
   pub arity : ℕ
   pub body : List Part
 
+-- a macro of its two parts
 abbrev pub macro : ℕ → List Part → Macro
 macro arity body = record { arity = arity; body = body }
 

@@ -28,6 +28,7 @@ text c = encode_utf8 c
 
 -- Letters and signs
 
+-- the attributes of a letter that is not italic
 abbrev pub upright : Attributes
 upright = record plain { upright = true }
 
@@ -47,6 +48,7 @@ abbrev pub digits_in : Option Alphabet → List ℕ → List ℕ
 digits_in None digits = digits
 digits_in (Some alphabet) digits = encode_utf8_all (map (in_alphabet alphabet) digits)
 
+-- a number of these digits
 abbrev pub number : Option Alphabet → List ℕ → Atom
 number alphabet digits = atom (Plain Ordinary) false (token Mn plain (digits_in alphabet digits))
 
@@ -59,6 +61,7 @@ stretches c = c == 0x7C || c == 0x2223 || c == 0x2225  -- | ∣ ∥
     || c == 0x21D0 || c == 0x21D1 || c == 0x21D2 || c == 0x21D3 || c == 0x21D4 || c == 0x21D5  -- ⇐ ⇑ ⇒ ⇓ ⇔ ⇕
     || c == 0x27F5 || c == 0x27F6 || c == 0x27F7 || c == 0x27F8 || c == 0x27F9 || c == 0x27FA || c == 0x27FC  -- ⟵ ⟶ ⟷ ⟸ ⟹ ⟺ ⟼
 
+-- the attributes of a sign that must not be stretched
 abbrev pub rigid : ℕ → Attributes
 rigid c = if stretches c then record plain { stretch = Some Rigid } else plain
 
@@ -69,12 +72,14 @@ leaves_space c = c == 0x3F || c == 0x2223 || c == 0x2225  -- ? ∣ ∥
     || c == 0x23B0 || c == 0x23B1  -- ⎰ ⎱
     || c == 0x250C || c == 0x2510 || c == 0x2514 || c == 0x2518  -- ┌ ┐ └ ┘
 
+-- the attributes of a delimiter outside of `\left` and `\right`: it is not stretched, and has no space if a browser would give it some
 abbrev pub delimiter_attributes : Form → ℕ → Attributes
 delimiter_attributes form c =
     if leaves_space c
     then record plain { form = Some form; stretch = Some Rigid; space = Some NoSpace }
     else record plain { form = Some form; stretch = Some Rigid }
 
+-- the attributes of a sign, by its class
 abbrev pub sign_attributes : Class → ℕ → Attributes
 sign_attributes Ordinary c = record plain { space = Some NoSpace; stretch = Some Rigid }
 sign_attributes Opening c = delimiter_attributes Prefix c
@@ -89,6 +94,7 @@ sign_attributes Relation c = rigid c
 abbrev pub is_plus_or_minus : ℕ → Bool
 is_plus_or_minus c = c == 0x2B || c == 0x2212 || c == 0xB1 || c == 0x2213
 
+-- what a sign is to its neighbours, by its class
 abbrev pub sign_kind : Class → ℕ → Kind
 sign_kind Binary c = if is_plus_or_minus c then PlusOrMinus else SignOf Binary
 sign_kind class c = SignOf class
@@ -101,6 +107,7 @@ sign class c = atom (sign_kind class c) false (token Mo (sign_attributes class c
 abbrev pub relation : List ℕ → Atom
 relation sign_text = atom (SignOf Relation) false (token Mo plain sign_text)
 
+-- a symbol, as an element with its kind
 abbrev pub symbol : Option Alphabet → Symbol → Core
 symbol alphabet (Letter c) = core (letter alphabet c)
 symbol alphabet (UprightLetter c) = core (upright_letter alphabet c)
@@ -112,6 +119,7 @@ symbol alphabet (Integral c) = core (atom (Plain Operator) true (token Mo plain 
 abbrev pub function_name : LimitPlace → List ℕ → Core
 function_name limits name = operator limits (atom FunctionWord false (token Mi plain name))
 
+-- a space of this width, in eighteenths of an em
 abbrev pub spacing : ℤ → Atom
 spacing width = atom Blank false (space width)
 
@@ -177,6 +185,7 @@ abbrev pub raised_by : Option ℤ → Element → Element
 raised_by None x = x
 raised_by (Some height) x = in_box (Raised height) x
 
+-- a black rectangle
 abbrev pub black : ℤ → ℤ → Element
 black width height = rectangle (record { width = width; height = height; depth = pos 0; is_black = true })
 
@@ -209,24 +218,29 @@ stack side class mark base = core (atom (Plain class) true (on_side side plain b
 abbrev pub arrow_sign : ℕ → Element
 arrow_sign sign_character = token Mo (record plain { stretch = Some Stretching }) (text sign_character)
 
+-- an arrow with a label above, and perhaps one below
 abbrev pub arrow_element : ℕ → Option Element → Element → Element
 arrow_element sign_character None above = pair Mover plain (arrow_sign sign_character) above
 arrow_element sign_character (Some below) above = triple Munderover plain (arrow_sign sign_character) below above
 
+-- an arrow with its labels is a relation
 abbrev pub arrow : ℕ → Option Element → Element → Core
 arrow sign_character below above = core (atom (Plain Relation) true (arrow_element sign_character below above))
 
 -- Fractions, roots, delimiters
 
+-- whether a style is that of a block
 abbrev pub is_display : Style → Bool
 is_display InDisplay = true
 is_display style = false
 
+-- how a style is written in MathML
 abbrev pub math_style : Style → MathStyle
 math_style InDisplay = DisplayStyle
 math_style InText = TextStyle
 math_style InScript = ScriptStyle
 
+-- the attributes of an element in a style of its own
 abbrev pub style_attributes : Style → Attributes
 style_attributes own = record plain { style = Some (math_style own) }
 
@@ -235,10 +249,12 @@ abbrev pub in_style : Option Style → Element → Element
 in_style None x = x
 in_style (Some style) x = container Mstyle (style_attributes style) (children (x ∷ []))
 
+-- stretched if what is between is high
 abbrev pub stretch_if : Bool → Stretch
 stretch_if true = Stretching
 stretch_if false = Rigid
 
+-- a delimiter by `\left`, `\middle` or `\right`, stretched if what is between is high
 abbrev pub delimiter : Bool → Form → List ℕ → Element
 delimiter high form sign_text = token Mo (record plain { form = Some form; stretch = Some (stretch_if high) }) sign_text
 
@@ -247,6 +263,7 @@ abbrev pub fenced : Bool → List ℕ → List ℕ → Element → Element
 fenced high opening closing inside =
     container Mrow plain (children (delimiter high Prefix opening ∷ inside ∷ delimiter high Postfix closing ∷ []))
 
+-- a fraction without its line
 abbrev pub without_bar : Element → Element → Element
 without_bar above below = pair Mfrac (record plain { no_line = true }) above below
 
@@ -270,6 +287,7 @@ pub record Outline : Type 0 where
   pub has_line : Bool
   pub own : Option Style
 
+-- a fraction with its line or without
 abbrev pub quotient : Bool → Element → Element → Element
 quotient true above below = pair Mfrac plain above below
 quotient false above below = without_bar above below
@@ -279,13 +297,16 @@ abbrev pub between_any : List ℕ → List ℕ → Element → Element
 between_any [] [] x = x
 between_any opening closing x = fenced true opening closing x
 
+-- a fraction that is drawn as this says
 abbrev pub outlined_fraction : Outline → Element → Element → Core
 outlined_fraction o above below =
     core (atom (Plain Inner) true (in_style o.own (between_any o.opening o.closing (quotient o.has_line above below))))
 
+-- a square root is ordinary, and high
 abbrev pub square_root : Element → Core
 square_root x = core (atom (Plain Ordinary) true (container Msqrt plain (children (x ∷ []))))
 
+-- so is a root with a degree
 abbrev pub root : Element → Element → Core
 root degree x = core (atom (Plain Ordinary) true (pair Mroot plain x degree))
 
@@ -298,6 +319,7 @@ abbrev pub lowered_divider : Element → Element
 lowered_divider (token t a sign_text) = token t (if a.fence then record a { stretch = Some Rigid } else a) sign_text
 lowered_divider x = x
 
+-- dividers stay stretched if what is between is high, and are not stretched otherwise
 abbrev pub lowered : Bool → List Element → List Element
 lowered true xs = xs
 lowered false xs = map lowered_divider xs
@@ -307,6 +329,7 @@ abbrev pub between_delimiters : List ℕ → List ℕ → Row → Core
 between_delimiters opening closing row =
     core (atom (Plain Inner) row.high (fenced row.high opening closing (row_element (lowered row.high row.elements))))
 
+-- the form of a delimiter by `\big` and its like, by its class
 abbrev pub form_of : Class → Option Form
 form_of Opening = Some Prefix
 form_of Closing = Some Postfix
@@ -344,6 +367,7 @@ abbrev pub primes_text : ℕ → List ℕ
 primes_text zero = []
 primes_text (suc n) = primes_text n ++ text 0x2032
 
+-- primes are one sign, of which Unicode has those up to four
 abbrev pub prime_mark : ℕ → Element
 prime_mark primes =
     token Mo (record plain { space = Some NoSpace }) (if primes == 2 then text 0x2033 else if primes == 3 then text 0x2034 else if primes == 4 then text 0x2057 else primes_text primes)

@@ -57,6 +57,7 @@ pub data Box : Type 0 where
   Colored : Color → Box
   OnColor : Color → Box
 
+-- what a command means
 pub data Meaning : Type 0 where
   -- a character
   Shows : Symbol → Meaning

@@ -3,6 +3,7 @@ use Rattle.std.specs.Prelude.{ℕ, Bool, true, false, List, [], ◌∷◌, ◌++
 use Rattle.latex2mathml_tex_grammar.specs.{Refusal.Kind, Refusal.Refusal, Refusal.refusal_at, Rules.a_digit}
 use Rattle.latex2mathml_tex_grammar.specs.Units.{Piece, Space, Units, Next, End, Stop}
 
+-- whether a unit is a space
 abbrev pub is_space_piece : Piece → Bool
 is_space_piece Space = true
 is_space_piece piece = false
@@ -31,10 +32,12 @@ refusal_here kind (Stop refusal) = refusal
 
 -- Units that pass tests, which answer with texts
 
+-- what was found, after this text
 abbrev pub with_text : List ℕ → Option (List ℕ × Units) → Option (List ℕ × Units)
 with_text first (Some found) = Some (first ++ found.0, found.1)
 with_text first None = None
 
+-- what the other tests find, after what the first one found
 abbrev pub first_passes : Option (List ℕ) → Option (List ℕ × Units) → Option (List ℕ × Units)
 first_passes (Some first) others = with_text first others
 first_passes None others = None

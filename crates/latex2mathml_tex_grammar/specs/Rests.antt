@@ -32,6 +32,7 @@ abbrev pub has_own_style : Option Restyled → Bool
 has_own_style None = false
 has_own_style (Some change) = change.has_own_style
 
+-- the color that was set last, if one was
 abbrev pub color_after : Option Restyled → Option Color
 color_after None = None
 color_after (Some change) = change.color
@@ -62,6 +63,7 @@ begun_anew group has_own_style color row = record row {
 abbrev pub restyled : Style → Row → Row
 restyled style row = begun_anew (style_of_group row.restyled style) true (color_after row.restyled) (settled style row)
 
+-- the row after a change of color
 abbrev pub recolored : Color → Style → Row → Row
 recolored color style row = begun_anew (style_of_group row.restyled style) (has_own_style row.restyled) (Some color) (settled style row)
 
@@ -86,6 +88,7 @@ finished style row = whole_fraction (settled style row)
 
 -- What follows a change
 
+-- what follows a change of style or color
 pub data Rest : Type 0 where
   -- it is read in this context, after this row, from these units on
   GoesOnIn : Context → Row → Units → Rest
@@ -104,6 +107,7 @@ abbrev pub rest_in : List ℕ → Context → Row → ℕ → Units → Option C
 rest_in name c row place l None = NoRest (refusal_at (UnknownColor name) place)
 rest_in name c row place l (Some color) = GoesOnIn c (recolored color c.style row) l
 
+-- what follows a change of color whose name was found, or was missing
 abbrev pub rest_behind_name : Context → Row → ℕ → Found → Rest
 rest_behind_name c row place (Given name l) = rest_in name c row place l (color_of name)
 rest_behind_name c row place (Missing refusal) = NoRest refusal

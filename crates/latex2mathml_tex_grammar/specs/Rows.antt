@@ -20,6 +20,7 @@ pub record Upper : Type 0 where
   pub rule : FractionRule
   pub element : Element
 
+-- what was read of a row
 pub record Row : Type 0 where
   -- the elements since the last change of style or color
   pub elements : List Element
@@ -36,12 +37,15 @@ pub record Row : Type 0 where
   -- the upper part of the fraction whose lower part it is, where it is one
   pub under : Option Upper
 
+-- a row before its first atom
 abbrev pub empty_row : Row
 empty_row = record { elements = []; before = Nothing; ends_in_word = false; high = false; class = Ordinary; restyled = None; under = None }
 
+-- a thin space
 abbrev pub thin_space : Element
 thin_space = space (pos 3)
 
+-- these elements, with a thin space before them if one is due
 abbrev pub parted : Bool → List Element → List Element
 parted true xs = thin_space ∷ xs
 parted false xs = xs
@@ -51,6 +55,7 @@ abbrev pub join : Element → List Element → List Element
 join (token t a letter) (token u b word ∷ xs) = token u plain (word ++ letter) ∷ xs
 join x xs = x ∷ xs
 
+-- whether a row has no element yet
 abbrev pub is_empty : List Element → Bool
 is_empty [] = true
 is_empty (x ∷ xs) = false

@@ -21,9 +21,11 @@ pub record Context : Type 0 where
   pub style : Style
   pub alphabet : Option Alphabet
 
+-- a context of its two parts
 abbrev pub in_context : Style → Option Alphabet → Context
 in_context style alphabet = record { style = style; alphabet = alphabet }
 
+-- a context in another style
 abbrev pub styled : Context → Style → Context
 styled c style = in_context style c.alphabet
 
@@ -45,6 +47,7 @@ pub data Ending : Type 0 where
   -- in a cell of a table: up to what ends the cell
   InCell : TableEnd → ℕ → Ending
 
+-- what a command or character reads next, and what it then makes
 pub data Rule : Type 0 where
   -- nothing more is read, and this is the atom
   gives : Core → Rule
@@ -76,35 +79,43 @@ pub data Rule : Type 0 where
 
 -- The tests of units, which answer with a text
 
+-- this text, if so
 abbrev pub only_if : Bool → List ℕ → Option (List ℕ)
 only_if true cs = Some cs
 only_if false cs = None
 
+-- the test for a digit
 abbrev pub a_digit : Piece → Option (List ℕ)
 a_digit (Character c) = only_if (is_ascii_digit c) (c ∷ [])
 a_digit piece = None
 
+-- the test for a character
 abbrev pub a_character : ℕ → Piece → Option (List ℕ)
 a_character d (Character c) = only_if (c == d) (c ∷ [])
 a_character d piece = None
 
 -- Rules of one operand and of two
 
+-- a rule of one operand
 abbrev pub of_one : ℕ → Context → (Operand → Core) → Rule
 of_one place c whole = reads_operand place c (λ x. gives (whole x))
 
+-- a rule of two operands
 abbrev pub of_two : ℕ → Context → Context → (Operand → Operand → Core) → Rule
 of_two place c d whole = reads_operand place c (λ x. of_one place d (whole x))
 
 -- Numbers: digits, and a point between digits
 
+-- the digits after the point of a number
 abbrev pub decimal : Context → List ℕ → Rule
 decimal c whole = takes_digits (λ more. gives (core (number c.alphabet (whole ++ more))))
 
+-- a point and a digit go on with a number
 abbrev pub after_digits : Context → List ℕ → Rule
 after_digits c whole =
     takes_if (a_character (byte ".") ∷ a_digit ∷ []) (λ point. decimal c (whole ++ point)) (gives (core (number c.alphabet whole)))
 
+-- a number begins with a digit
 abbrev pub a_number : Context → ℕ → Rule
 a_number c digit = takes_digits (λ more. after_digits c (digit ∷ more))
 
@@ -160,6 +171,7 @@ abbrev pub struck_atom : ℕ → Core → Option Element → Rule
 struck_atom place x None = refuses (refusal_at NothingToNegate place)
 struck_atom place x (Some element) = gives (core (atom (no_letters x.atom.kind) x.atom.high element))
 
+-- a negated relation has a character of its own, or a stroke
 abbrev pub a_negation : ℕ → Context → Rule
 a_negation place c =
     takes_if (negated_of ∷ []) (λ sign_text. gives (core (relation sign_text))) (reads_core place c (λ x. struck_atom place x (struck x.atom.element)))
@@ -281,10 +293,12 @@ a_continued_fraction place c =
 
 -- Fractions whose delimiters, line and style the author gives
 
+-- the test for a left brace
 abbrev pub a_left_brace : Piece → Option (List ℕ)
 a_left_brace Open = Some []
 a_left_brace piece = None
 
+-- the test for a right brace
 abbrev pub a_right_brace : Piece → Option (List ℕ)
 a_right_brace Close = Some []
 a_right_brace piece = None
@@ -305,6 +319,7 @@ abbrev pub has_width : ℤ → Bool
 has_width (pos zero) = false
 has_width width = true
 
+-- whether a fraction has a line, as `\genfrac` says: the usual one by empty braces, or one of some width
 abbrev pub a_line : ℕ → (Bool → Rule) → Rule
 a_line place more = takes_if empty_braces (λ usual. more true) (a_length place BeforeLengthInBraces (λ width. more (has_width width)))
 
@@ -318,6 +333,7 @@ numbered_style (c ∷ []) =
     else None
 numbered_style digits = None
 
+-- the style of a fraction, as `\genfrac` says
 abbrev pub a_style : ℕ → (Option Style → Rule) → Rule
 a_style place more = takes_found (BeforeArgument Number) place (λ number. with_value (refusal_at MissingArgument place) more (numbered_style number))
 
@@ -327,10 +343,12 @@ an_outline place more =
     an_outer_delimiter place (λ opening. an_outer_delimiter place (λ closing. a_line place (λ has_line. a_style place (λ own.
     more (record { opening = opening; closing = closing; has_line = has_line; own = own })))))
 
+-- the two parts of a fraction that is drawn as this says
 abbrev pub an_outlined_fraction : ℕ → Context → Outline → Rule
 an_outlined_fraction place c o =
     let part = styled c (smaller (own_style o.own c.style)) in of_two place part part (λ above below. outlined_fraction o above.element below.element)
 
+-- a fraction by `\genfrac`
 abbrev pub a_general_fraction : ℕ → Context → Rule
 a_general_fraction place c = an_outline place (an_outlined_fraction place c)
 

@@ -69,14 +69,17 @@ pub data Deed : Type 0 where
   -- the unit is refused
   Refuses : Kind → Deed
 
+-- passes a unit if it may be there
 abbrev pub passes_if : Bool → Spot → Deed
 passes_if true spot = Passes spot
 passes_if false spot = Misses
 
+-- takes a unit for the text if it may be there
 abbrev pub adds_if : Bool → ℕ → Spot → Deed
 adds_if true c spot = Adds c spot
 adds_if false c spot = Misses
 
+-- ends here if that is allowed
 abbrev pub ends_if : Bool → Deed
 ends_if true = Ends
 ends_if false = Misses
@@ -96,6 +99,7 @@ column_deed c =
     else if c == byte "@" then Passes BeforeGap
     else Refuses UnknownColumn
 
+-- a character in an argument
 abbrev pub character_deed : Argument → ℕ → Deed
 character_deed Name c = name_deed c
 character_deed ColumnList c = column_deed c
@@ -109,6 +113,7 @@ other_deed ColumnList = Refuses UnknownColumn
 other_deed Number = Misses
 other_deed ColorName = Misses
 
+-- a unit in an argument, which a brace ends
 abbrev pub argument_deed : Argument → Piece → Deed
 argument_deed a (Character c) = character_deed a c
 argument_deed a Close = Ends
@@ -133,6 +138,7 @@ gap_deed n (Command name) = if takes_words (meaning_of name) then Refuses Unknow
 gap_deed n (Character c) = if c == byte "$" then Refuses UnknownColumn else Passes (InGap n)
 gap_deed n Space = Passes (InGap n)
 
+-- one deed for an opening brace, the other for any other unit
 abbrev pub brace_deed : Deed → Deed → Piece → Deed
 brace_deed opened otherwise Open = opened
 brace_deed opened otherwise piece = otherwise
@@ -151,6 +157,7 @@ is_unit_of_length c d =
     || (d == byte "u" && c == byte "m")
     || (d == byte "x" && (c == byte "e" || c == byte "p"))
 
+-- whether a letter begins the name of a unit of length, such as `em`
 abbrev pub begins_unit_of_length : ℕ → Bool
 begins_unit_of_length c =
     c == byte "b" || c == byte "c" || c == byte "d" || c == byte "e" || c == byte "i" || c == byte "m" || c == byte "p" || c == byte "s"
@@ -159,12 +166,14 @@ begins_unit_of_length c =
 abbrev pub number_deed : LengthEnd → ℕ → Deed
 number_deed end c = if is_ascii_digit c then Adds c (InNumber end) else adds_if (c == byte ".") c (InDecimals end 0)
 
+-- a character where a length has its sign
 abbrev pub sign_deed : LengthEnd → ℕ → Deed
 sign_deed end c =
     if c == byte "-" then Adds c (BehindSign end)
     else if c == byte "+" then Passes (BehindSign end)
     else number_deed end c
 
+-- a character where the unit of a length begins
 abbrev pub unit_deed : LengthEnd → ℕ → Deed
 unit_deed end c = adds_if (begins_unit_of_length c) c (BehindLetter end c)
 
@@ -172,6 +181,7 @@ unit_deed end c = adds_if (begins_unit_of_length c) c (BehindLetter end c)
 abbrev pub most_decimals : ℕ
 most_decimals = 5
 
+-- a character after the point of a length, where decimals that change nothing are passed
 abbrev pub decimal_deed : LengthEnd → ℕ → ℕ → Deed
 decimal_deed end n c =
     if is_ascii_digit c then (if nat_lt n most_decimals then Adds c (InDecimals end (n + 1)) else Passes (InDecimals end n))
@@ -189,6 +199,7 @@ length_deed (InDecimals end n) c = decimal_deed end n c
 length_deed (BehindLetter end first) c = adds_if (is_unit_of_length first c) c (BehindLength end)
 length_deed spot c = Misses
 
+-- a unit in a length
 abbrev pub in_length : Spot → Piece → Deed
 in_length spot (Character c) = length_deed spot c
 in_length spot piece = Misses
@@ -200,6 +211,7 @@ ending_deed AtBrace Close = Ends
 ending_deed AtUnit piece = Leaves
 ending_deed end piece = Misses
 
+-- whether a letter is a position of a table
 abbrev pub is_position : ℕ → Bool
 is_position c = c == byte "t" || c == byte "b" || c == byte "c"
 
@@ -211,12 +223,14 @@ bracket_deed BehindPosition c = ends_if (c == byte "]")
 bracket_deed BeforeLength c = passes_if (c == byte "[") (InLength AtBracket)
 bracket_deed spot c = Misses
 
+-- a unit in brackets
 abbrev pub in_brackets : Spot → Piece → Deed
 in_brackets spot (Character c) = bracket_deed spot c
 in_brackets spot piece = Misses
 
 -- Rows
 
+-- a unit where a star may be
 abbrev pub star_deed : Piece → Deed
 star_deed (Character c) = if c == byte "*" then Passes BehindStar else Leaves
 star_deed piece = Leaves
@@ -225,6 +239,7 @@ star_deed piece = Leaves
 abbrev pub is_line : List ℕ → Bool
 is_line name = bytes_eq name (codes "hline") || bytes_eq name (codes "hdashline") || bytes_eq name (codes "toprule") || bytes_eq name (codes "midrule") || bytes_eq name (codes "bottomrule")
 
+-- a unit before a row, where lines are passed
 abbrev pub row_deed : Piece → Deed
 row_deed (Command name) = if is_line name then Passes BeforeRow else Leaves
 row_deed piece = Leaves
@@ -281,6 +296,7 @@ pub data Found : Type 0 where
   Given : List ℕ → Units → Found
   Missing : Refusal → Found
 
+-- what was found, after this character
 abbrev pub with_character : ℕ → Found → Found
 with_character c (Given more l) = Given (encode_utf8 c ++ more) l
 with_character c (Missing r) = Missing r
@@ -294,6 +310,7 @@ done place spot Leaves u l behind = Given [] (Next u l)
 done place spot Misses u l behind = Missing (refusal_at (missing spot) place)
 done place spot (Refuses kind) u l behind = Missing (refusal_at kind u.place)
 
+-- where units end: an empty text if it may end there
 abbrev pub found_at_end : Bool → Units → Refusal → Found
 found_at_end true l refusal = Given [] l
 found_at_end false l refusal = Missing refusal
@@ -309,6 +326,7 @@ abbrev pub behind_found : Units → Found → Units
 behind_found l (Given text m) = m
 behind_found l (Missing refusal) = l
 
+-- the units after what is found from a spot on, or all of them if nothing is
 abbrev pub past : Spot → Units → Units
 past spot l = behind_found l (scan 0 l spot)
 

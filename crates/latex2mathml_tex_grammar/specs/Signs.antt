@@ -3,6 +3,7 @@
 use Rattle.std.specs.Prelude.{ℕ, List, [], ◌∷◌}
 use Rattle.latex2mathml_tex_grammar.specs.Symbols.{Symbol, Letter, UprightLetter, Sign, BigOperator, Integral, Ordinary, Binary, Relation, Opening, Closing, Punctuation, Inner}
 
+-- the table of characters, in the order of their numbers
 unfoldable pub sign_entries : List (ℕ × Symbol)
 sign_entries =
     (0x21, Sign Closing 0x21) ∷  -- !

@@ -30,6 +30,7 @@ behind_open (BeforeWords at) = InWords at
 behind_open (InWords at) = InWords (InWords at)
 behind_open (BetweenDollars at) = BetweenDollars at
 
+-- where the units after a closing brace are
 abbrev pub behind_close : Standing → Standing
 behind_close InFormula = InFormula
 behind_close (BeforeWords at) = at
@@ -51,6 +52,7 @@ standing_behind Close at = behind_close at
 standing_behind (Command name) at = if takes_words (meaning_of name) then BeforeWords (behind_unit at) else behind_unit at
 standing_behind (Character c) at = if c == byte "$" then behind_dollar at else behind_unit at
 
+-- whether units are in words, where spaces count
 abbrev pub is_in_words : Standing → Bool
 is_in_words (InWords at) = true
 is_in_words at = false

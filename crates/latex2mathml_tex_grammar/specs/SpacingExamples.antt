@@ -2,6 +2,7 @@
 use Rattle.std.specs.Prelude.{codes}
 use Rattle.latex2mathml_tex_grammar.specs.Spacing.{HaveAlikeUnits}
 
+-- where white space changes nothing, and where it does
 pub record AreSpacingExamples : Type 0 where
   pub around_signs : HaveAlikeUnits (codes "a+b^2") (codes " a + b ^\n2 ")
   -- a comment is not a unit

@@ -11,14 +11,17 @@ use Rattle.latex2mathml_tex_grammar.specs.Units.{Piece, Open, Close, Command, Ch
 
 -- What ends a sequence of atoms
 
+-- whether a unit is the command of this name
 abbrev pub is_command : List ℕ → Piece → Bool
 is_command name (Command other) = bytes_eq name other
 is_command name piece = false
 
+-- whether a unit is this character
 abbrev pub is_character : ℕ → Piece → Bool
 is_character c (Character d) = c == d
 is_character c piece = false
 
+-- whether a unit is a closing brace
 abbrev pub is_close : Piece → Bool
 is_close Close = true
 is_close piece = false
@@ -113,14 +116,17 @@ abbrev pub change_meant : Option Meaning → Option Change
 change_meant (Some (Changes change)) = Some change
 change_meant meaning = None
 
+-- the change of style or color that a unit begins, if it begins one
 abbrev pub change_by : Piece → Option Change
 change_by (Command name) = change_meant (meaning_of name)
 change_by piece = None
 
+-- how an atom starts that is not a mark
 abbrev pub start_of_change : Option Change → AtomStart
 start_of_change (Some change) = ChangeStart change
 start_of_change None = RuleStart
 
+-- how an atom starts: with a script that has no base, a change, or a rule
 abbrev pub start_of_mark : Option Change → Option Mark → AtomStart
 start_of_mark change (Some Prime) = ScriptStart
 start_of_mark change (Some Below) = ScriptStart
@@ -139,10 +145,12 @@ is_no_operand piece =
     is_close piece || is_character (byte "&") piece || is_character (byte "_") piece || is_character (byte "^") piece || is_character (byte "'") piece
     || is_break piece || is_command (codes "end") piece || is_command (codes "right") piece || is_command (codes "middle") piece || is_command (codes "limits") piece || is_command (codes "nolimits") piece || is_command (codes "displaylimits") piece
 
+-- whether a unit is an opening brace
 abbrev pub is_open : Piece → Bool
 is_open Open = true
 is_open piece = false
 
+-- how an operand starts that is no group: with this digit, or otherwise
 abbrev pub start_of_digit : Option (List ℕ) → OperandStart
 start_of_digit (Some digit) = DigitStart digit
 start_of_digit None = OtherStart
@@ -178,6 +186,7 @@ abbrev pub step_of_mark : Scripts → Option Mark → Option Step
 step_of_mark scripts None = None
 step_of_mark scripts (Some mark) = Some (step_of scripts scripts.below scripts.above mark)
 
+-- what the next unit adds to these scripts, if it adds anything
 abbrev pub step_next : Scripts → Units → Option Step
 step_next scripts (Next u us) = step_of_mark scripts (mark_of u.piece)
 step_next scripts (End place) = None

@@ -27,6 +27,7 @@ abbrev pub with_last : List Element → List Element → List Element → Lines
 with_last (row ∷ rows) [] [] = record { last = row; others = rows }
 with_last rows cells cell = record { last = a_row (row_element cell ∷ cells); others = rows }
 
+-- the rows of a table: those before one, the last of them first, then this one, and those after it
 abbrev pub rows_onto : Columns → List Element → Element → List Element → Rows
 rows_onto columns [] x xs = rows_in columns x xs
 rows_onto columns (y ∷ ys) x xs = rows_onto columns ys y (x ∷ xs)
@@ -44,6 +45,7 @@ said_style InText InDisplay = None
 said_style InText InText = None
 said_style style around = Some (math_style style)
 
+-- an element between delimiters, if there are any
 abbrev pub between_any : Option (List ℕ × List ℕ) → Element → Element
 between_any None x = x
 between_any (Some delimiters) x = fenced true delimiters.0 delimiters.1 x

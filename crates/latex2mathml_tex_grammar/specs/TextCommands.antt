@@ -2,6 +2,7 @@
 -- backslash; a character is its code point, and is also shown after its line.
 use Rattle.std.specs.Prelude.{ℕ, List, [], ◌∷◌, codes}
 
+-- the commands that are a character in words, in the order of bytes
 unfoldable pub text_commands : List (List ℕ × ℕ)
 text_commands =
     (codes "#", 0x23) ∷  -- #

@@ -22,6 +22,7 @@ pub record Unit : Type 0 where
   pub piece : Piece
   pub place : ℕ
 
+-- a unit of its two parts
 abbrev pub unit : Piece → ℕ → Unit
 unit piece place = record { piece = piece; place = place }
 

@@ -87,9 +87,11 @@ listed l = []
 abbrev pub macro_with : ℕ → List ℕ → Macro
 macro_with arity text = macro arity (unwrap_or (parts_of arity (listed (units_of 0 (chars text)))) [])
 
+-- the macro of the first entry of this name
 abbrev pub entry_macro : List (List ℕ × ℕ × List ℕ) → Table
 entry_macro [] name = None
 entry_macro (entry ∷ entries) name = if bytes_eq entry.0 name then Some (macro_with entry.1 entry.2) else entry_macro entries name
 
+-- what a name means among the usual macros, if it is one of theirs
 unfoldable pub usual_macros : Table
 usual_macros name = entry_macro usual_entries name

@@ -73,6 +73,7 @@ pub record Words : Type 0 where
   pub elements : List Element
   pub ends_in_text : Bool
 
+-- words before their first part
 abbrev pub no_words : Words
 no_words = record { elements = []; ends_in_text = false }
 

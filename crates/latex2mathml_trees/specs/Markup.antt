@@ -39,6 +39,7 @@ is_word test (b ∷ bs) = test b && list_all test bs
 abbrev pub is_name : Name → Bool
 is_name = is_word is_ascii_lowercase
 
+-- whether a reference is well formed
 abbrev pub is_reference : Reference → Bool
 is_reference (named letters) = is_word is_ascii_alphabetic letters
 is_reference (numbered digits) = is_word is_ascii_hexdigit digits
@@ -52,9 +53,11 @@ abbrev pub is_part : Part → Bool
 is_part (refers r) = is_reference r
 is_part (plain b) = not (is_among b (codes "<>&\""))
 
+-- whether an attribute is well formed
 abbrev pub is_attribute : Attribute → Bool
 is_attribute (attribute name parts) = is_name name && list_all is_part parts
 
+-- whether an event is well formed
 abbrev pub is_event : Event → Bool
 is_event (open_tag name attributes) = is_name name && list_all is_attribute attributes
 is_event (close_tag name) = is_name name
@@ -67,13 +70,16 @@ abbrev pub spell_reference : Reference → List ℕ
 spell_reference (named letters) = codes "&" ++ (letters ++ codes ";")
 spell_reference (numbered digits) = codes "&#x" ++ (digits ++ codes ";")
 
+-- how a part of a value is written
 abbrev pub spell_part : Part → List ℕ
 spell_part (refers r) = spell_reference r
 spell_part (plain b) = b ∷ []
 
+-- how an attribute is written
 abbrev pub spell_attribute : Attribute → List ℕ
 spell_attribute (attribute name parts) = codes " " ++ (name ++ (codes "=\"" ++ (flat_map spell_part parts ++ codes "\"")))
 
+-- how an event is written
 abbrev pub spell_event : Event → List ℕ
 spell_event (open_tag name attributes) = codes "<" ++ (name ++ (flat_map spell_attribute attributes ++ codes ">"))
 spell_event (close_tag name) = codes "</" ++ (name ++ codes ">")
@@ -81,6 +87,7 @@ spell_event (empty_tag name attributes) = codes "<" ++ (name ++ (flat_map spell_
 spell_event (reference r) = spell_reference r
 spell_event (data_byte b) = b ∷ []
 
+-- how events are written
 abbrev pub spell : List Event → List ℕ
 spell = flat_map spell_event
 

@@ -49,6 +49,7 @@ abbrev pub holding : List (Name × Holding) → Name → Option Holding
 holding [] name = None
 holding (entry ∷ entries) name = if bytes_eq entry.0 name then Some entry.1 else holding entries name
 
+-- whether there are children
 abbrev pub has_some : List Name → Bool
 has_some [] = false
 has_some (name ∷ names) = true
@@ -62,10 +63,12 @@ holds (Some (exactly count)) children has_text = length children == count && not
 holds (Some elements) children has_text = not has_text
 holds (Some (all_of name)) children has_text = has_some children && (not has_text && list_all (bytes_eq name) children)
 
+-- whether the parent has this name
 abbrev pub is_parent : Name → Option Name → Bool
 is_parent name None = false
 is_parent name (Some parent) = bytes_eq name parent
 
+-- whether there is no parent
 abbrev pub is_outermost : Option Name → Bool
 is_outermost None = true
 is_outermost (Some parent) = false

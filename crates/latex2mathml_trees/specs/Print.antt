@@ -38,6 +38,7 @@ member_print new_line own = codes "</mtd></mtr><mtr><mtd>"
 member_print ampersand own = codes "</mtd><mtd>"
 member_print x own = own
 
+-- the start tag of an `mstyle` element
 abbrev pub style_open : Option DisplayStyle → List ℕ
 style_open None = codes "<mstyle>"
 style_open (Some Block) = codes "<mstyle displaystyle=\"true\">"

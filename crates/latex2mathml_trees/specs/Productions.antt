@@ -29,6 +29,7 @@ binomial_tree (Some display) upper lower = style (Some display) (row (more_trees
 abbrev pub overbrace_tree : ℕ → Tree → Tree
 overbrace_tree c x = overset (operator c) x
 
+-- a brace with a label above an operand
 abbrev pub labelled_overbrace_tree : ℕ → Tree → Tree → Tree
 labelled_overbrace_tree c label x = overset (overset label (operator c)) x
 
@@ -36,6 +37,7 @@ labelled_overbrace_tree c label x = overset (overset label (operator c)) x
 abbrev pub underbrace_tree : ℕ → Tree → Tree
 underbrace_tree c x = underset (operator c) x
 
+-- a brace with a label below an operand
 abbrev pub labelled_underbrace_tree : ℕ → Tree → Tree → Tree
 labelled_underbrace_tree c label x = underset (underset label (operator c)) x
 
@@ -56,6 +58,7 @@ abbrev pub matrix_members : Tree → Trees
 matrix_members (row members) = members
 matrix_members x = more_trees x no_trees
 
+-- a matrix of the members of a group
 abbrev pub matrix_of : ColumnAlign → Tree → Tree
 matrix_of align group = matrix (matrix_members group) align
 
