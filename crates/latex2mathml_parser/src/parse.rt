@@ -15,6 +15,7 @@ mod deliver;
 pub(crate) mod frames;
 mod marks;
 
+use crate::Steps;
 use crate::lexer::Lexer;
 use frames::{Due, Frame, Frames};
 use latex2mathml_parts::parts::Parts;
@@ -103,6 +104,20 @@ impl<'a> Parser<'a> {
                 State::Refused => return Ok(false),
                 going_on => state = self.step(going_on)?,
             }
+        }
+    }
+
+    /// Returns how many steps the reading took so far.
+    pub(crate) fn steps(&self) -> Steps
+        ensures tokens { result.tokens ≡ self.now.lexer.tokens }
+        ensures comparisons { result.comparisons ≡ self.now.lexer.comparisons }
+        ensures frames { result.frames ≡ self.now.frames.greatest }
+        ensures left { self.now.lexer.backslashes ≡ backslashes self.now.lexer.slices }
+    {
+        Steps {
+            tokens: self.lexer.tokens(),
+            comparisons: self.lexer.comparisons(),
+            frames: self.frames.greatest,
         }
     }
 
