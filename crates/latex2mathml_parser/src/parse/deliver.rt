@@ -23,7 +23,6 @@ use std::alloc::AllocError;
 
 impl<'a> Parser<'a> {
     /// Gives the innermost frame the part that it waits for. Without frames the part is a node of the formula.
-    #[tactic(auto, using(crate::proofs::Stacks::taken_off))]
     pub(crate) fn after_part(&mut self) -> Result<State, AllocError>
         requires { HasTrees 1 self.old }
         ensures holds { Keeps State.Part self.old self.new result }
