@@ -27,3 +27,27 @@ returns-in-Stretch-clause-holds c = λ input k. c.end_stretch.ensures.holds inpu
 
 pub returns-in-Script-clause-holds : goal.returns-in-Script-clause-holds
 returns-in-Script-clause-holds c = λ input k. c.end_script.ensures.holds input (rw c.in-Script.is at k)
+
+pub returns-in-Members-clause-step : goal.returns-in-Members-clause-step
+returns-in-Members-clause-step c = rw c.in-Members.is c.end_member.ensures.step
+
+pub returns-in-Operand-clause-step : goal.returns-in-Operand-clause-step
+returns-in-Operand-clause-step c = rw c.in-Operand.is c.put.ensures.step
+
+pub returns-in-Last-clause-step : goal.returns-in-Last-clause-step
+returns-in-Last-clause-step c = rw c.in-Last.is c.put-in-Last.ensures.step
+
+pub returns-in-First-clause-step : goal.returns-in-First-clause-step
+returns-in-First-clause-step c = rw c.in-First.is c.put_back.ensures.step
+
+pub returns-in-Single-clause-step : goal.returns-in-Single-clause-step
+returns-in-Single-clause-step c = rw c.in-Single.is c.after_first.ensures.step
+
+pub returns-in-Slashed-clause-step : goal.returns-in-Slashed-clause-step
+returns-in-Slashed-clause-step c = rw c.in-Slashed.is c.end_slash.ensures.step
+
+pub returns-in-Stretch-clause-step : goal.returns-in-Stretch-clause-step
+returns-in-Stretch-clause-step c = rw c.in-Stretch.is c.end_stretch.ensures.step
+
+pub returns-in-Script-clause-step : goal.returns-in-Script-clause-step
+returns-in-Script-clause-step c = rw c.in-Script.is c.end_script.ensures.step
