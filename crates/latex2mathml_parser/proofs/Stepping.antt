@@ -3,9 +3,10 @@ use Rattle.std.proofs.Common.{◌≡◌, ℕ, ◌+◌, ◌≤◌, ◌∷◌, Res
 use Rattle.std.specs.Prelude.{IfOk}
 use Rattle.std.specs.declared.alloc.AllocError.{AllocError}
 use Rattle.latex2mathml_grammar.specs.Openers.{openers, opens}
-use Rattle.latex2mathml_parser.specs.{Marks.rest_of, Steps.Counted, Steps.Follows, Steps.StacksWithin, Unread.GoesOn}
+use Rattle.latex2mathml_parser.specs.{Marks.rest_of, Marks.sign_token, Steps.Counted, Steps.Follows, Steps.StacksWithin, Unread.GoesOn}
 use Rattle.latex2mathml_tokens.specs.Tok.{Tok}
-use Rattle.latex2mathml_parser.specs.{declared.parse.Parser.Parser, declared.parse.State.State}
+use Rattle.latex2mathml_parser.specs.{declared.lexer.mark.Sign.Sign, declared.parse.Parser.Parser, declared.parse.State.State}
+use Rattle.latex2mathml_parser.specs.declared.lexer.mark.Sign.TheVariants.{Sub, Sup}
 use Rattle.latex2mathml_parser.proofs.Progress.{GoesOn-trans, OpensFor-one, OpensFor-rest, OpensFor-trans}
 
 -- what is counted from step to step
@@ -36,6 +37,11 @@ pub counted_taken : (t : Tok) (p q r : Parser) → p.lexer.list ≡ t ∷ q.lexe
 counted_taken t p q r stood counts same h =
     let opened = OpensFor-one t p.lexer q.lexer (p.frames.greatest + 0) q.frames.greatest stood counts (omega arith) in
     record { counts = GoesOn-trans _ _ _ counts h.counts; frames = OpensFor-trans _ _ _ _ _ _ opened h.frames }
+
+-- a sign is taken, which opens the frame of its script
+pub counted_signed : (sign : Sign) (p q r : Parser) → p.lexer.list ≡ sign_token sign ∷ q.lexer.list → GoesOn p.lexer q.lexer → q.frames.greatest ≡ p.frames.greatest → Counted 1 q r → Counted 0 p r
+counted_signed Sub p q r stood counts same h = counted_taken _ p q r stood counts same h
+counted_signed Sup p q r stood counts same h = counted_taken _ p q r stood counts same h
 
 -- a token is passed over
 pub counted_skipped : (p q r : Parser) (n : ℕ) → q.lexer.list ≡ rest_of p.lexer.list → GoesOn p.lexer q.lexer → q.frames.greatest ≡ p.frames.greatest → Counted 0 q r → Counted n p r
