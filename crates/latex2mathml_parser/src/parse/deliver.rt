@@ -35,6 +35,7 @@ impl<'a> Parser<'a> {
     }
 
     /// Gives a frame, which was taken off the stack, the part that it waits for.
+    #[tactic(auto, using(crate::proofs::Combining::first_read))]
     fn deliver(&mut self, frame: Frame<'a>) -> Result<State, AllocError>
         requires fit { unfit frame ≡ 0 }
         requires trees { HasTrees (tree_count frame + 1) self.old }

@@ -1,4 +1,4 @@
-use Rattle.latex2mathml_parser.proofs.Combining.{first_read, last_read}
+use Rattle.latex2mathml_parser.proofs.Combining.{last_read}
 use Rattle.latex2mathml_parser.proofs.parse.Parser.deliver.Goals as goal
 
 pub returns-in-Members-clause-holds : goal.returns-in-Members-clause-holds
@@ -11,10 +11,6 @@ returns-in-Operand-clause-holds c = λ input k.
 pub returns-in-Last-clause-holds : goal.returns-in-Last-clause-holds
 returns-in-Last-clause-holds c = λ input k.
     c.put-in-Last.ensures.holds input (last_read input c.args.self.now _ (rw c.in-Last.is at c.requires.fit) (rw c.in-Last.is at k))
-
-pub returns-in-First-clause-holds : goal.returns-in-First-clause-holds
-returns-in-First-clause-holds c = λ input k.
-    c.put_back.ensures.holds input (first_read input c.args.self.now _ (rw c.in-First.is at c.requires.fit) (rw c.in-First.is at k))
 
 pub returns-in-Single-clause-holds : goal.returns-in-Single-clause-holds
 returns-in-Single-clause-holds c = λ input k. c.after_first.ensures.holds input (rw c.in-Single.is at k)
@@ -36,9 +32,6 @@ returns-in-Operand-clause-step c = rw c.in-Operand.is c.put.ensures.step
 
 pub returns-in-Last-clause-step : goal.returns-in-Last-clause-step
 returns-in-Last-clause-step c = rw c.in-Last.is c.put-in-Last.ensures.step
-
-pub returns-in-First-clause-step : goal.returns-in-First-clause-step
-returns-in-First-clause-step c = rw c.in-First.is c.put_back.ensures.step
 
 pub returns-in-Single-clause-step : goal.returns-in-Single-clause-step
 returns-in-Single-clause-step c = rw c.in-Single.is c.after_first.ensures.step
