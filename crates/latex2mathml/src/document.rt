@@ -10,7 +10,7 @@ pub(crate) mod plain;
 use crate::document::plain::Plain;
 
 /// A piece of a document, as a slice of it, without the dollar signs around it.
-#[derive(Debug, Clone, Copy)]
+#[derive(Clone, Copy)]
 pub(crate) enum Piece<'a> {
     Prose(Plain<'a>),
     /// A formula in a line of text.
@@ -20,11 +20,11 @@ pub(crate) enum Piece<'a> {
 }
 
 /// Reports that a document has no cut into pieces.
-#[derive(Debug, Clone, Copy)]
+#[derive(Clone, Copy)]
 pub(crate) struct NoCut;
 
 /// The pieces of a document, one at a time. If the document has no cut, `NoCut` comes once, and nothing follows it.
-#[derive(Debug, Drop)]
+#[derive(Drop)]
 pub(crate) struct Pieces<'a> {
     rest: &'a str,
 }

@@ -1,9 +1,12 @@
 -- The steps of the parser: what they answer, and what they count.
-use Rattle.std.proofs.Common.{◌≡◌, ℕ, ◌+◌, ◌∷◌, arith}
-use Rattle.latex2mathml_grammar.specs.Openers.{opens}
-use Rattle.latex2mathml_parser.specs.{Marks.rest_of, Steps.Counted, Steps.StacksWithin, Unread.GoesOn}
+use Rattle.std.proofs.Common.{◌≡◌, ℕ, ◌+◌, ◌≤◌, ◌∷◌, Result, Ok, Err, ap, arith}
+use Rattle.std.specs.Prelude.{IfOk}
+use Rattle.std.specs.declared.alloc.AllocError.{AllocError}
+use Rattle.latex2mathml_grammar.specs.Openers.{openers, opens}
+use Rattle.latex2mathml_parser.specs.{Marks.rest_of, Marks.sign_token, Steps.Counted, Steps.Follows, Steps.StacksWithin, Unread.GoesOn}
 use Rattle.latex2mathml_tokens.specs.Tok.{Tok}
-use Rattle.latex2mathml_parser.specs.declared.parse.Parser.{Parser}
+use Rattle.latex2mathml_parser.specs.{declared.lexer.mark.Sign.Sign, declared.parse.Parser.Parser, declared.parse.State.State}
+use Rattle.latex2mathml_parser.specs.declared.lexer.mark.Sign.TheVariants.{Sub, Sup}
 use Rattle.latex2mathml_parser.proofs.Progress.{GoesOn-trans, OpensFor-one, OpensFor-rest, OpensFor-trans}
 
 -- what is counted from step to step
@@ -35,6 +38,11 @@ counted_taken t p q r stood counts same h =
     let opened = OpensFor-one t p.lexer q.lexer (p.frames.greatest + 0) q.frames.greatest stood counts (omega arith) in
     record { counts = GoesOn-trans _ _ _ counts h.counts; frames = OpensFor-trans _ _ _ _ _ _ opened h.frames }
 
+-- a sign is taken, which opens the frame of its script
+pub counted_signed : (sign : Sign) (p q r : Parser) → p.lexer.list ≡ sign_token sign ∷ q.lexer.list → GoesOn p.lexer q.lexer → q.frames.greatest ≡ p.frames.greatest → Counted 1 q r → Counted 0 p r
+counted_signed Sub p q r stood counts same h = counted_taken _ p q r stood counts same h
+counted_signed Sup p q r stood counts same h = counted_taken _ p q r stood counts same h
+
 -- a token is passed over
 pub counted_skipped : (p q r : Parser) (n : ℕ) → q.lexer.list ≡ rest_of p.lexer.list → GoesOn p.lexer q.lexer → q.frames.greatest ≡ p.frames.greatest → Counted 0 q r → Counted n p r
 counted_skipped p q r n passed counts same h =
@@ -43,3 +51,18 @@ counted_skipped p q r n passed counts same h =
       counts = GoesOn-trans _ _ _ counts h.counts;
       frames = record { taken = omega arith; openers = omega arith };
     }
+
+-- a token is passed over, and nothing else
+pub counted_passed : (p q : Parser) → q.lexer.list ≡ rest_of p.lexer.list → GoesOn p.lexer q.lexer → q.frames.greatest ≡ p.frames.greatest → Counted 0 p q
+counted_passed p q passed counts same = counted_skipped p q q 0 passed counts same (counted_none q)
+
+-- no token is taken
+pub counted_kept : (p q : Parser) → q.lexer.list ≡ p.lexer.list → GoesOn p.lexer q.lexer → q.frames.greatest ≡ p.frames.greatest → Counted 0 p q
+counted_kept p q kept counts same =
+    let still : openers q.lexer.list ≡ openers p.lexer.list = ap openers kept in
+    record { counts = counts; frames = record { taken = omega (arith, counts.more); openers = omega arith } }
+
+-- less is left to do than a greater bound
+pub follows_within : {a b : ℕ} (p : Parser) (r : Result State AllocError) → IfOk r (Follows a p) → a ≤ b → IfOk r (Follows b p)
+follows_within p (Ok s) h within = record { trees = h.trees; falls = omega arith }
+follows_within p (Err e) h within = tt

@@ -82,10 +82,5 @@ pub fn latex_to_mathml_counted(
 {
     let mut parser = Parser::new(alloc, latex);
     let result = formula::math(&mut parser, display);
-    let steps = Steps {
-        tokens: parser.lexer.tokens(),
-        comparisons: parser.lexer.comparisons(),
-        frames: parser.frames.greatest,
-    };
-    (result, steps)
+    (result, parser.steps())
 }

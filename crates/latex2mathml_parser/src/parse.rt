@@ -15,6 +15,7 @@ mod deliver;
 pub(crate) mod frames;
 mod marks;
 
+use crate::Steps;
 use crate::lexer::Lexer;
 use frames::{Due, Frame, Frames};
 use latex2mathml_parts::parts::Parts;
@@ -106,6 +107,20 @@ impl<'a> Parser<'a> {
         }
     }
 
+    /// Returns how many steps the reading took so far.
+    pub(crate) fn steps(&self) -> Steps
+        ensures tokens { result.tokens ≡ self.now.lexer.tokens }
+        ensures comparisons { result.comparisons ≡ self.now.lexer.comparisons }
+        ensures frames { result.frames ≡ self.now.frames.greatest }
+        ensures left { self.now.lexer.backslashes ≡ backslashes self.now.lexer.slices }
+    {
+        Steps {
+            tokens: self.lexer.tokens(),
+            comparisons: self.lexer.comparisons(),
+            frames: self.frames.greatest,
+        }
+    }
+
     /// Takes out the reason why the formula is refused.
     #[cold]
     pub(crate) fn refusal(&mut self) -> LatexError
@@ -149,7 +164,6 @@ impl<'a> Parser<'a> {
     }
 
     /// Goes on where no token is left: an open group is refused, and any other part that is due is `EOF`, marked as an error.
-    #[tactic(auto, using(crate::proofs::Stacks::group_open, crate::proofs::Stacks::nothing_begun))]
     fn at_end(&mut self) -> Result<State, AllocError>
         requires { HasTrees 0 self.old }
         ensures holds { self.old.lexer.list ≡ [] → Keeps State.Next self.old self.new result }

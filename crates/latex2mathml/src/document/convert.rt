@@ -1,5 +1,5 @@
 //! Converts documents to their answers, piece by piece.
-ghost use Rattle.std.specs.Prelude.{◌≡◌, ◌⊎◌, ℕ, ◌++◌, List, IfOk, OnOk, Some, string_bytes};
+ghost use Rattle.std.specs.Prelude.{◌≡◌, ◌⊎◌, ℕ, ◌++◌, [], List, IfOk, OnOk, Some, string_bytes};
 ghost use Rattle.latex2mathml.specs.Pieces.{piece_of};
 ghost use Rattle.latex2mathml.specs.Documents.{HasCut, HasNoCut, IsAnswer, IsPiece, IsPlain};
 ghost use Rattle.latex2mathml.specs.Documents.{IsRefusal, PieceAnswer, PieceRefuses, prose_answer};
@@ -28,14 +28,39 @@ pub(crate) fn convert(alloc: Global, document: &str) -> Result<String, LatexErro
     ensures refusal { IfRefused result (IsRefusal document.now) }
 {
     let mut answer = String::new(alloc);
+    append_answer(alloc, &mut answer, document)?;
+    Ok(answer)
+}
+
+/// Appends the answer of the document to an empty text.
+#[inline(always)]
+fn append_answer(alloc: Global, text: &mut String, document: &str) -> Result<(), LatexError>
+    requires { string_bytes text.old ≡ [] }
+    ensures answer { OnOk result (IsAnswer document.now (string_bytes text.new)) }
+    ensures refusal { IfRefused result (IsRefusal document.now) }
+{
     let mut formulas = Converter::new(alloc);
+    append_pieces(&mut formulas, text, document)
+}
+
+/// Appends the answers of the document's pieces, one by one, to an empty text.
+#[inline(always)]
+fn append_pieces<'a>(
+    formulas: &mut Converter<'a>,
+    text: &mut String,
+    document: &'a str,
+) -> Result<(), LatexError>
+    requires { string_bytes text.old ≡ [] }
+    ensures answer { OnOk result (IsAnswer document.now (string_bytes text.new)) }
+    ensures refusal { IfRefused result (IsRefusal document.now) }
+{
     for piece in Pieces::new(document) {
         let piece = piece?;
-        if let Err(error) = append_piece(&mut formulas, &mut answer, piece) {
+        if let Err(error) = append_piece(formulas, text, piece) {
             return Err(refusal(document, error));
         }
     }
-    Ok(answer)
+    Ok(())
 }
 
 /// Returns the error of a document in which a formula caused this first error. Errors of dollar signs take precedence, and the
@@ -62,11 +87,10 @@ fn append_piece<'a>(
     ensures refusal { IfRefused result (PieceRefuses (piece_of piece.entry)) }
 {
     match piece {
-        Piece::Prose(prose) => append_prose(text, prose)?,
-        Piece::Inline(body) => formulas.append(text, body, DisplayStyle::Inline)?,
-        Piece::Display(body) => formulas.append(text, body, DisplayStyle::Block)?,
+        Piece::Prose(prose) => Ok(append_prose(text, prose)?),
+        Piece::Inline(body) => formulas.append(text, body, DisplayStyle::Inline),
+        Piece::Display(body) => formulas.append(text, body, DisplayStyle::Block),
     }
-    Ok(())
 }
 
 /// Appends prose to the text, with a character reference for each dollar sign that a backslash takes.

@@ -19,16 +19,16 @@ pub returns-clause-dollars : goal.returns-clause-dollars
 returns-clause-dollars c = refused_so c.math-result.result (refused c.args.latex.now c.math-result.result c.new-parser.ensures.list c.math-result.ensures.refused) (never_dollars c.args.latex.now)
 
 pub returns-clause-tokens : goal.returns-clause-tokens
-returns-clause-tokens c = token_count c.math-result.result c.new-parser.ensures.list c.new-parser.ensures.tokens c.math-result.ensures.counted.counts c.math-result.ensures.all c.tokens.ensures
+returns-clause-tokens c = token_count c.math-result.result c.new-parser.ensures.list c.new-parser.ensures.tokens c.math-result.ensures.counted.counts c.math-result.ensures.all c.steps.ensures.tokens
 
 pub returns-clause-refused_within : goal.returns-clause-refused_within
-returns-clause-refused_within c = refusal_count _ c.math-result.result c.new-parser.ensures.list c.new-parser.ensures.tokens c.math-result.ensures.counted.counts c.math-result.ensures.within c.tokens.ensures
+returns-clause-refused_within c = refusal_count _ c.math-result.result c.new-parser.ensures.list c.new-parser.ensures.tokens c.math-result.ensures.counted.counts c.math-result.ensures.within c.steps.ensures.tokens
 
 pub returns-clause-length : goal.returns-clause-length
-returns-clause-length c = tokens_within_text c.args.latex.now _ _ c.utf8.latex (token_count c.math-result.result c.new-parser.ensures.list c.new-parser.ensures.tokens c.math-result.ensures.counted.counts c.math-result.ensures.all c.tokens.ensures)
+returns-clause-length c = tokens_within_text c.args.latex.now _ _ c.utf8.latex (token_count c.math-result.result c.new-parser.ensures.list c.new-parser.ensures.tokens c.math-result.ensures.counted.counts c.math-result.ensures.all c.steps.ensures.tokens)
 
 pub returns-clause-comparisons : goal.returns-clause-comparisons
-returns-clause-comparisons c = comparison_count _ _ _ _ _ c.new-parser.ensures.slices c.new-parser.ensures.tokens c.new-parser.ensures.backslashes c.new-parser.ensures.comparisons c.math-result.ensures.counted.counts c.comparisons.ensures.left c.tokens.ensures c.comparisons.ensures.same
+returns-clause-comparisons c = comparison_count _ _ _ _ _ c.new-parser.ensures.slices c.new-parser.ensures.tokens c.new-parser.ensures.backslashes c.new-parser.ensures.comparisons c.math-result.ensures.counted.counts c.steps.ensures.left c.steps.ensures.tokens c.steps.ensures.comparisons
 
 pub returns-clause-frames : goal.returns-clause-frames
-returns-clause-frames c = frame_count _ _ _ _ _ _ c.new-parser.ensures.list c.new-parser.ensures.tokens c.new-parser.ensures.greatest c.math-result.ensures.counted.frames c.tokens.ensures
+returns-clause-frames c = rw c.steps.ensures.frames (frame_count _ _ _ _ _ _ c.new-parser.ensures.list c.new-parser.ensures.tokens c.new-parser.ensures.greatest c.math-result.ensures.counted.frames c.steps.ensures.tokens)

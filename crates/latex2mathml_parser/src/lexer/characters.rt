@@ -6,7 +6,7 @@ ghost use Rattle.latex2mathml_grammar.specs.{Beginnings.IsLongestRun, Characters
 ghost use Rattle.latex2mathml_parser.specs.Lexing.{in_class};
 
 /// The characters that make runs.
-#[derive(Debug, Clone, Copy)]
+#[derive(Clone, Copy)]
 pub(crate) enum Class {
     /// The white space between tokens.
     Space,

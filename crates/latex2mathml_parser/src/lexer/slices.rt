@@ -99,7 +99,7 @@ pub(crate) fn stands_alone(c: char) -> bool
 }
 
 /// Returns the lexeme of a character that is a token by itself.
-pub(crate) fn character(c: char) -> Lexeme<'static>
+pub(crate) fn character<'a>(c: char) -> Lexeme<'a>
     requires { IsFalse (begins_longer c) }
     ensures lexeme { lexeme_tok result ≡ character_token c }
     ensures no_digit { IsFalse (Spelling.takes_digit (Some (lexeme_tok result))) }

@@ -221,7 +221,6 @@ impl<'a> Parser<'a> {
     }
 
     /// Begins a fence, which must come next, and the members after it.
-    #[tactic(auto, using(crate::proofs::Stepping::counted_skipped))]
     fn open_fence(&mut self) -> Result<State, AllocError>
         requires { HasTrees 0 self.old }
         ensures holds { Proceeds (rule Left) 0 self.old self.new result }

@@ -23,7 +23,6 @@ use std::alloc::AllocError;
 
 impl<'a> Parser<'a> {
     /// Gives the innermost frame the part that it waits for. Without frames the part is a node of the formula.
-    #[tactic(auto, using(crate::proofs::Stacks::taken_off))]
     pub(crate) fn after_part(&mut self) -> Result<State, AllocError>
         requires { HasTrees 1 self.old }
         ensures holds { Keeps State.Part self.old self.new result }
@@ -36,7 +35,7 @@ impl<'a> Parser<'a> {
     }
 
     /// Gives a frame, which was taken off the stack, the part that it waits for.
-    #[tactic(auto, using(crate::proofs::Combining::member_read, crate::proofs::Combining::first_read))]
+    #[tactic(auto, using(crate::proofs::Combining::first_read))]
     fn deliver(&mut self, frame: Frame<'a>) -> Result<State, AllocError>
         requires fit { unfit frame ≡ 0 }
         requires trees { HasTrees (tree_count frame + 1) self.old }
@@ -45,11 +44,7 @@ impl<'a> Parser<'a> {
         ensures step { IsStep 0 (frame_weight frame.entry + 3) self.old self.new result }
     {
         match frame {
-            Frame::Members(group, count) => {
-                // All members are among the parts, so their number fits in a `usize`.
-                let _ = self.parts.len();
-                self.put_back(Frame::Members(group, count + 1))
-            }
+            Frame::Members(group, count) => self.end_member(group, count),
             Frame::Operand(kind) => self.put(kind),
             Frame::Last(kind) => self.put(kind),
             Frame::First(kind) => self.put_back(Frame::Operand(kind)),
@@ -60,11 +55,33 @@ impl<'a> Parser<'a> {
             Frame::Single(pair) => self.after_first(pair),
             Frame::Slashed => self.end_slash(),
             Frame::Stretch(got) => self.end_stretch(got),
-            Frame::Script(sign) => {
-                self.parts.put(script(sign))?;
-                Ok(State::Part)
-            }
+            Frame::Script(sign) => self.end_script(sign),
         }
+    }
+
+    /// Counts the last tree as a member of a group. The next member, or the end, is then due.
+    #[inline(always)]
+    #[tactic(auto, using(crate::proofs::Combining::member_read))]
+    fn end_member(&mut self, group: Group, count: usize) -> Result<State, AllocError>
+        requires trees { HasTrees (tree_count (Frame.Members group count) + 1) self.old }
+        requires room { vec_len self.old.frames.stack < self.old.frames.greatest }
+        ensures holds { Delivers (Frame.Members group count) self.old self.new result }
+        ensures step { IsStep 0 4 self.old self.new result }
+    {
+        // All members are among the parts, so their number fits in a `usize`.
+        let _ = self.parts.len();
+        self.put_back(Frame::Members(group, count + 1))
+    }
+
+    /// Gives a base, which is the last tree but one, its script.
+    #[inline(always)]
+    fn end_script(&mut self, sign: Sign) -> Result<State, AllocError>
+        requires { HasTrees 2 self.old }
+        ensures holds { Delivers (Frame.Script sign) self.old self.new result }
+        ensures step { IsStep 0 5 self.old self.new result }
+    {
+        self.parts.put(script(sign))?;
+        Ok(State::Part)
     }
 
     /// Puts a part after its operands, if it has any.
@@ -123,6 +140,17 @@ impl<'a> Parser<'a> {
         let Some(Frame::Members(group, count)) = self.frames.pop() else {
             unreachable!()
         };
+        self.end_group(group, count)
+    }
+
+    /// Ends a group whose members were read.
+    #[inline(always)]
+    fn end_group(&mut self, group: Group, count: usize) -> Result<State, AllocError>
+        requires trees { HasTrees (tree_count (Frame.Members group count)) self.old }
+        requires room { vec_len self.old.frames.stack < self.old.frames.greatest }
+        ensures holds { EndsGroup group count self.old self.new result }
+        ensures step { IsStep 0 8 self.old self.new result }
+    {
         match group {
             Group::Brace => {
                 self.parts.group(count)?;
@@ -167,7 +195,7 @@ impl<'a> Parser<'a> {
 }
 
 /// Returns the part that a script of this sign makes.
-fn script(sign: Sign) -> Kind<'static>
+fn script<'a>(sign: Sign) -> Kind<'a>
     ensures arity { arity result ≡ 2 }
     ensures trees { (ts : List Tree) → put result ts ≡ with_script sign ts }
 {

@@ -134,7 +134,7 @@ impl Pair {
     }
 
     /// Returns what is made of one single.
-    pub(crate) fn one(self) -> Kind<'static>
+    pub(crate) fn one<'a>(self) -> Kind<'a>
         ensures { result ≡ one_of_pair self }
     {
         match self {
@@ -148,7 +148,7 @@ impl Pair {
     }
 
     /// Returns what is made of two.
-    pub(crate) fn two(self) -> Kind<'static>
+    pub(crate) fn two<'a>(self) -> Kind<'a>
         ensures { result ≡ two_of_pair self }
     {
         match self {

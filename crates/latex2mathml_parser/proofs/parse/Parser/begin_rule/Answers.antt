@@ -39,6 +39,51 @@ returns-in-Integral-clause-holds c = λ input k. c.limits-in-Integral.ensures.ho
 pub returns-in-Style-clause-holds : goal.returns-in-Style-clause-holds
 returns-in-Style-clause-holds c = λ input k. c.open-in-Style.ensures.holds input (rw c.in-Style.is at k)
 
+pub returns-in-Sqrt-clause-holds : goal.returns-in-Sqrt-clause-holds
+returns-in-Sqrt-clause-holds c = λ input k. c.root.ensures.holds input (rw c.in-Sqrt.is at k)
+
+pub returns-in-Lim-clause-holds : goal.returns-in-Lim-clause-holds
+returns-in-Lim-clause-holds c = λ input k. c.limit.ensures.holds input (rw c.in-Lim.is at k)
+
+pub returns-in-Big-clause-holds : goal.returns-in-Big-clause-holds
+returns-in-Big-clause-holds c = λ input k. c.size_paren.ensures.holds input (rw c.in-Big.is at k)
+
+pub returns-in-Text-clause-holds : goal.returns-in-Text-clause-holds
+returns-in-Text-clause-holds c = λ input k. c.words.ensures.holds input (rw c.in-Text.is at k)
+
+pub returns-in-OperatorName-clause-holds : goal.returns-in-OperatorName-clause-holds
+returns-in-OperatorName-clause-holds c = λ input k. c.function.ensures.holds input (rw c.in-OperatorName.is at k)
+
+pub returns-in-Slashed-clause-holds : goal.returns-in-Slashed-clause-holds
+returns-in-Slashed-clause-holds c = λ input k. c.slash.ensures.holds input (rw c.in-Slashed.is at k)
+
+pub returns-in-Left-clause-holds : goal.returns-in-Left-clause-holds
+returns-in-Left-clause-holds c = λ input k. c.open_fence.ensures.holds input (rw c.in-Left.is at k)
+
+pub returns-in-Begin-clause-holds : goal.returns-in-Begin-clause-holds
+returns-in-Begin-clause-holds c = λ input k. c.begin_environment.ensures.holds input (rw c.in-Begin.is at k)
+
+pub returns-in-Number-clause-holds : goal.returns-in-Number-clause-holds
+returns-in-Number-clause-holds c = λ input k. c.put.ensures.holds input (rw c.in-Number.is at k)
+
+pub returns-in-Letter-clause-holds : goal.returns-in-Letter-clause-holds
+returns-in-Letter-clause-holds c = λ input k. c.put-in-Letter.ensures.holds input (rw c.in-Letter.is at k)
+
+pub returns-in-Operator-clause-holds : goal.returns-in-Operator-clause-holds
+returns-in-Operator-clause-holds c = λ input k. c.put-in-Operator.ensures.holds input (rw c.in-Operator.is at k)
+
+pub returns-in-Paren-clause-holds : goal.returns-in-Paren-clause-holds
+returns-in-Paren-clause-holds c = λ input k. c.put-in-Paren.ensures.holds input (rw c.in-Paren.is at k)
+
+pub returns-in-Ampersand-clause-holds : goal.returns-in-Ampersand-clause-holds
+returns-in-Ampersand-clause-holds c = λ input k. c.put-in-Ampersand.ensures.holds input (rw c.in-Ampersand.is at k)
+
+pub returns-in-Function-clause-holds : goal.returns-in-Function-clause-holds
+returns-in-Function-clause-holds c = λ input k. c.put-in-Function.ensures.holds input (rw c.in-Function.is at k)
+
+pub returns-in-NewLine-clause-holds : goal.returns-in-NewLine-clause-holds
+returns-in-NewLine-clause-holds c = λ input k. c.put-in-NewLine.ensures.holds input (rw c.in-NewLine.is at k)
+
 pub returns-in-Illegal-clause-holds : goal.returns-in-Illegal-clause-holds
 returns-in-Illegal-clause-holds c = λ input k.
     let bare : rule (lexeme_tok c.args.lexeme) ≡ error_rule (lexeme_tok c.args.lexeme) = grind (arith, c.in-Illegal.is) in

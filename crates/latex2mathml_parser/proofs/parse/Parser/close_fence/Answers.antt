@@ -16,3 +16,9 @@ returns-in_default-clause-step c = record {
   counted = counted_skipped c.args.self.now _ _ 0 c.take-got.ensures.list c.take-got.ensures.counts refl c.refuse_fence.ensures.step.counted;
   follows = search rules;
 }
+
+pub returns-clause-step : goal.returns-clause-step
+returns-clause-step c = record {
+  counted = counted_skipped c.args.self.now _ _ 0 c.take-got.ensures.list c.take-got.ensures.counts refl c.put.ensures.step.counted;
+  follows = search rules;
+}

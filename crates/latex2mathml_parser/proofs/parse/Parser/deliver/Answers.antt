@@ -1,8 +1,8 @@
-use Rattle.std.proofs.Common.{arith, drop, ◌∙◌}
-use Rattle.latex2mathml_parser.specs.Frames.{inside, script}
-use Rattle.latex2mathml_parts.specs.{Forests.trees_in, Parts.top}
-use Rattle.latex2mathml_parser.proofs.{Combining.drop_from_one, Combining.last_read, Levels.node_due}
+use Rattle.latex2mathml_parser.proofs.Combining.{last_read}
 use Rattle.latex2mathml_parser.proofs.parse.Parser.deliver.Goals as goal
+
+pub returns-in-Members-clause-holds : goal.returns-in-Members-clause-holds
+returns-in-Members-clause-holds c = λ input k. c.end_member.ensures.holds input (rw c.in-Members.is at k)
 
 pub returns-in-Operand-clause-holds : goal.returns-in-Operand-clause-holds
 returns-in-Operand-clause-holds c = λ input k.
@@ -12,9 +12,35 @@ pub returns-in-Last-clause-holds : goal.returns-in-Last-clause-holds
 returns-in-Last-clause-holds c = λ input k.
     c.put-in-Last.ensures.holds input (last_read input c.args.self.now _ (rw c.in-Last.is at c.requires.fit) (rw c.in-Last.is at k))
 
-pub returns-in_ok-put-in-Script-clause-holds : goal.returns-in_ok-put-in-Script-clause-holds
-returns-in_ok-put-in-Script-clause-holds c = λ input k.
-    let p = c.args.self.now in
-    let ts = trees_in p.parts in
-    rw (c.in_ok-put-in-Script.ensures ∙ c.script.ensures.trees ts, drop_from_one 2 ts (omega arith))
-    (node_due (inside input p.frames.stack.items (drop 1 (drop 1 ts))) (script c.in-Script.sign (top (drop 1 ts)) (top ts)) p.lexer.list (rw c.in-Script.is at k))
+pub returns-in-Single-clause-holds : goal.returns-in-Single-clause-holds
+returns-in-Single-clause-holds c = λ input k. c.after_first.ensures.holds input (rw c.in-Single.is at k)
+
+pub returns-in-Slashed-clause-holds : goal.returns-in-Slashed-clause-holds
+returns-in-Slashed-clause-holds c = λ input k. c.end_slash.ensures.holds input (rw c.in-Slashed.is at k)
+
+pub returns-in-Stretch-clause-holds : goal.returns-in-Stretch-clause-holds
+returns-in-Stretch-clause-holds c = λ input k. c.end_stretch.ensures.holds input (rw c.in-Stretch.is at k)
+
+pub returns-in-Script-clause-holds : goal.returns-in-Script-clause-holds
+returns-in-Script-clause-holds c = λ input k. c.end_script.ensures.holds input (rw c.in-Script.is at k)
+
+pub returns-in-Members-clause-step : goal.returns-in-Members-clause-step
+returns-in-Members-clause-step c = rw c.in-Members.is c.end_member.ensures.step
+
+pub returns-in-Operand-clause-step : goal.returns-in-Operand-clause-step
+returns-in-Operand-clause-step c = rw c.in-Operand.is c.put.ensures.step
+
+pub returns-in-Last-clause-step : goal.returns-in-Last-clause-step
+returns-in-Last-clause-step c = rw c.in-Last.is c.put-in-Last.ensures.step
+
+pub returns-in-Single-clause-step : goal.returns-in-Single-clause-step
+returns-in-Single-clause-step c = rw c.in-Single.is c.after_first.ensures.step
+
+pub returns-in-Slashed-clause-step : goal.returns-in-Slashed-clause-step
+returns-in-Slashed-clause-step c = rw c.in-Slashed.is c.end_slash.ensures.step
+
+pub returns-in-Stretch-clause-step : goal.returns-in-Stretch-clause-step
+returns-in-Stretch-clause-step c = rw c.in-Stretch.is c.end_stretch.ensures.step
+
+pub returns-in-Script-clause-step : goal.returns-in-Script-clause-step
+returns-in-Script-clause-step c = rw c.in-Script.is c.end_script.ensures.step

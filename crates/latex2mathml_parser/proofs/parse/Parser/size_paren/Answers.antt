@@ -18,3 +18,9 @@ returns-in_ok-got-in_default-clause-step c = record {
   counted = rw c.refuse.ensures.refusal (counted_skipped c.args.self.now _ _ 0 c.take.ensures.list c.take.ensures.counts refl (counted_none _));
   follows = search rules;
 }
+
+pub returns-in-Paren-clause-step : goal.returns-in-Paren-clause-step
+returns-in-Paren-clause-step c = record {
+  counted = counted_skipped c.args.self.now _ _ 0 c.take.ensures.list c.take.ensures.counts refl c.put.ensures.step.counted;
+  follows = search rules;
+}

@@ -4,7 +4,7 @@ use Rattle.latex2mathml.specs.Pieces.{piece_of}
 use Rattle.latex2mathml_tokens.specs.Refusal.{refusal_of}
 use Rattle.latex2mathml.proofs.Answering.{dollars_first, is_answer, no_cut_refused, one_more_answer, refused}
 use Rattle.latex2mathml.proofs.Cuts.{all_made, never_made, one_more_made}
-use Rattle.latex2mathml.proofs.document.convert.convert.Goals as goal
+use Rattle.latex2mathml.proofs.document.convert.append_pieces.Goals as goal
 
 pub returns-in_err-piece-clause-refusal : goal.returns-in_err-piece-clause-refusal
 returns-in_err-piece-clause-refusal c =
