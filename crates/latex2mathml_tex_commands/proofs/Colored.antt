@@ -1,11 +1,12 @@
 -- Which color a name is, and which digits are no color.
-use Rattle.std.proofs.Common.{◌≡◌, ◌≢◌, ◌==◌, ℕ, Bool, true, false, inl, inr, List, [], ◌∷◌, Option, Some, None, length, map, refl, sym, ap, ◌∙◌, arith}
+use Rattle.std.proofs.Common.{◌≡◌, ◌≢◌, ◌==◌, ◌+◌, ◌*◌, ℕ, Bool, true, false, inl, inr, List, [], ◌∷◌, Option, Some, None, get_or, length, map, refl, sym, ap, ◌∙◌, arith}
 use Rattle.std.proofs.{lemmas.Bool.cases_Bool, lemmas.Slice.Eq.bytes_eq-Decides}
 use Rattle.std.specs.{Bool.Decides, Char.to_ascii_lowercase}
 use Rattle.std.specs.Str.{byte, str_eq_ignore_ascii_case}
 use Rattle.std.specs.Bool.{⊤}
+use Rattle.latex2mathml_elements.specs.Colors.{Color}
 use Rattle.latex2mathml_tex_grammar.specs.Colors.{color, color_entries, color_of, color_of_digits, digit_value, digit_values, entry_color, named_color, with_digit}
-use Rattle.latex2mathml_tex_commands.specs.{Colors.entry_of, declared.colors.Named.Named}
+use Rattle.latex2mathml_tex_commands.specs.{Colors.component, Colors.entry_of, Colors.with_components, declared.colors.Named.Named}
 use Rattle.latex2mathml_tex_grammar.proofs.OneList.{is_byte}
 
 -- Names
@@ -71,3 +72,42 @@ of_values cs (Some ds) h three six = other_count ds (λ e. three (sym h ∙ e)) 
 -- digits are no color unless there are three or six of them
 pub no_color : (cs : List ℕ) → (length cs ≡ 3 → ⊥) → (length cs ≡ 6 → ⊥) → color_of_digits (digit_values cs) ≡ None
 no_color cs three six = of_values cs (digit_values cs) (as_many cs) three six
+
+twice : (d : ℕ) → d * 16 + d ≡ d * 17
+twice d = omega arith
+
+three_digits : (a b c : Option ℕ) → with_components (component a a) (component b b) (component c c) ≡ color_of_digits (with_digit a (with_digit b (with_digit c (Some []))))
+three_digits None b c = refl
+three_digits (Some a) None c = refl
+three_digits (Some a) (Some b) None = refl
+three_digits (Some a) (Some b) (Some c) = rw (twice a, twice b, twice c) refl
+
+six_digits : (a b c d e f : Option ℕ) → with_components (component a b) (component c d) (component e f) ≡ color_of_digits (with_digit a (with_digit b (with_digit c (with_digit d (with_digit e (with_digit f (Some [])))))))
+six_digits None b c d e f = refl
+six_digits (Some a) None c d e f = refl
+six_digits (Some a) (Some b) None d e f = refl
+six_digits (Some a) (Some b) (Some c) None e f = refl
+six_digits (Some a) (Some b) (Some c) (Some d) None f = refl
+six_digits (Some a) (Some b) (Some c) (Some d) (Some e) None = refl
+six_digits (Some a) (Some b) (Some c) (Some d) (Some e) (Some f) = refl
+
+-- the component that the digits at these two places give
+abbrev component_at : List ℕ → ℕ → ℕ → Option ℕ
+component_at cs i j = component (digit_value (get_or cs i 0)) (digit_value (get_or cs j 0))
+
+pub by_three : (cs : List ℕ) (r g b : Option ℕ) (found : Option Color) → length cs ≡ 3 → r ≡ component_at cs 0 0 → g ≡ component_at cs 1 1 → b ≡ component_at cs 2 2 → found ≡ with_components r g b → found ≡ color_of_digits (digit_values cs)
+by_three (x ∷ y ∷ z ∷ []) r g b found n e f h is = rw (is, e, f, h) (three_digits (digit_value x) (digit_value y) (digit_value z))
+by_three [] r g b found n e f h is = absurd (omega (arith, n))
+by_three (x ∷ []) r g b found n e f h is = absurd (omega (arith, n))
+by_three (x ∷ y ∷ []) r g b found n e f h is = absurd (omega (arith, n))
+by_three (x ∷ y ∷ z ∷ w ∷ cs) r g b found n e f h is = absurd (omega (arith, n))
+
+pub by_six : (cs : List ℕ) (r g b : Option ℕ) (found : Option Color) → length cs ≡ 6 → r ≡ component_at cs 0 1 → g ≡ component_at cs 2 3 → b ≡ component_at cs 4 5 → found ≡ with_components r g b → found ≡ color_of_digits (digit_values cs)
+by_six (u ∷ v ∷ w ∷ x ∷ y ∷ z ∷ []) r g b found n e f h is = rw (is, e, f, h) (six_digits (digit_value u) (digit_value v) (digit_value w) (digit_value x) (digit_value y) (digit_value z))
+by_six [] r g b found n e f h is = absurd (omega (arith, n))
+by_six (u ∷ []) r g b found n e f h is = absurd (omega (arith, n))
+by_six (u ∷ v ∷ []) r g b found n e f h is = absurd (omega (arith, n))
+by_six (u ∷ v ∷ w ∷ []) r g b found n e f h is = absurd (omega (arith, n))
+by_six (u ∷ v ∷ w ∷ x ∷ []) r g b found n e f h is = absurd (omega (arith, n))
+by_six (u ∷ v ∷ w ∷ x ∷ y ∷ []) r g b found n e f h is = absurd (omega (arith, n))
+by_six (u ∷ v ∷ w ∷ x ∷ y ∷ z ∷ t ∷ cs) r g b found n e f h is = absurd (omega (arith, n))

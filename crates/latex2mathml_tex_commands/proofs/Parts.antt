@@ -5,17 +5,26 @@ use Rattle.std.proofs.{lemmas.Bool.cases_Bool, lemmas.Bool.Decides.nat_tests, le
 use Rattle.latex2mathml_tex_grammar.specs.{Commands.command_entries, Commands.entry_meaning, Commands.meaning_of, CommandsUpToL.commands_up_to_l, CommandsFromM.commands_from_m, Meaning.Meaning, Sorted.ascending}
 use Rattle.latex2mathml_tex_commands.specs.{declared.meaning.Entry.Entry, Meanings.entry_of, Parts.entries_in, Parts.part_of}
 
--- a name is in one of four parts
+-- a name is in one of seven parts
 
-by_part : (P : ℕ → Type 0) → P 0 → P 1 → P 2 → P 3 → (name : List ℕ) → P (part_of name)
-by_part P a b c d [] = a
-by_part P a b c d (x ∷ name) = elim (cases_Bool (nat_lt x (byte "c"))) [
-  | inl h ↦ rw h a
-  | inr h ↦ elim (cases_Bool (nat_lt x (byte "m"))) [
-    | inl i ↦ rw (h, i) b
-    | inr i ↦ elim (cases_Bool (nat_lt x (byte "r"))) [
-      | inl j ↦ rw (h, i, j) c
-      | inr j ↦ rw (h, i, j) d
+by_part : (P : ℕ → Type 0) → P 0 → P 1 → P 2 → P 3 → P 4 → P 5 → P 6 → (name : List ℕ) → P (part_of name)
+by_part P a b c d e f g [] = a
+by_part P a b c d e f g (x ∷ name) = elim (cases_Bool (nat_lt x (byte "a"))) [
+  | inl h0 ↦ rw h0 a
+  | inr h0 ↦ elim (cases_Bool (nat_lt x (byte "c"))) [
+    | inl h1 ↦ rw (h0, h1) b
+    | inr h1 ↦ elim (cases_Bool (nat_lt x (byte "f"))) [
+      | inl h2 ↦ rw (h0, h1, h2) c
+      | inr h2 ↦ elim (cases_Bool (nat_lt x (byte "m"))) [
+        | inl h3 ↦ rw (h0, h1, h2, h3) d
+        | inr h3 ↦ elim (cases_Bool (nat_lt x (byte "r"))) [
+          | inl h4 ↦ rw (h0, h1, h2, h3, h4) e
+          | inr h4 ↦ elim (cases_Bool (nat_lt x (byte "t"))) [
+            | inl h5 ↦ rw (h0, h1, h2, h3, h4, h5) f
+            | inr h5 ↦ rw (h0, h1, h2, h3, h4, h5) g
+          ]
+        ]
+      ]
     ]
   ]
 ]
@@ -38,27 +47,52 @@ sorted_3 : ascending (entries_in 3) ≡ true
 unfolding ascending entries_in command_entries commands_up_to_l commands_from_m
 sorted_3 = refl
 
-length_0 : length (entries_in 0) ≡ 172
+sorted_4 : ascending (entries_in 4) ≡ true
+unfolding ascending entries_in command_entries commands_up_to_l commands_from_m
+sorted_4 = refl
+
+sorted_5 : ascending (entries_in 5) ≡ true
+unfolding ascending entries_in command_entries commands_up_to_l commands_from_m
+sorted_5 = refl
+
+sorted_6 : ascending (entries_in 6) ≡ true
+unfolding ascending entries_in command_entries commands_up_to_l commands_from_m
+sorted_6 = refl
+
+length_0 : length (entries_in 0) ≡ 89
 unfolding entries_in command_entries commands_up_to_l commands_from_m
 length_0 = refl
 
-length_1 : length (entries_in 1) ≡ 239
+length_1 : length (entries_in 1) ≡ 83
 unfolding entries_in command_entries commands_up_to_l commands_from_m
 length_1 = refl
 
-length_2 : length (entries_in 2) ≡ 146
+length_2 : length (entries_in 2) ≡ 108
 unfolding entries_in command_entries commands_up_to_l commands_from_m
 length_2 = refl
 
-length_3 : length (entries_in 3) ≡ 206
+length_3 : length (entries_in 3) ≡ 131
 unfolding entries_in command_entries commands_up_to_l commands_from_m
 length_3 = refl
 
+length_4 : length (entries_in 4) ≡ 146
+unfolding entries_in command_entries commands_up_to_l commands_from_m
+length_4 = refl
+
+length_5 : length (entries_in 5) ≡ 93
+unfolding entries_in command_entries commands_up_to_l commands_from_m
+length_5 = refl
+
+length_6 : length (entries_in 6) ≡ 113
+unfolding entries_in command_entries commands_up_to_l commands_from_m
+length_6 = refl
+
 few : (name : List ℕ) → length (entries_in (part_of name)) < 512
-few = by_part (λ k. length (entries_in k) < 512) (omega (arith, length_0)) (omega (arith, length_1)) (omega (arith, length_2)) (omega (arith, length_3))
+few =
+    by_part (λ k. length (entries_in k) < 512) (omega (arith, length_0)) (omega (arith, length_1)) (omega (arith, length_2)) (omega (arith, length_3)) (omega (arith, length_4)) (omega (arith, length_5)) (omega (arith, length_6))
 
 pub part_sorted : (entries : List Entry) (name : List ℕ) → map entry_of entries ≡ entries_in (part_of name) → ascending (map entry_of entries) ≡ true
-part_sorted entries name e = ap ascending e ∙ by_part (λ k. ascending (entries_in k) ≡ true) sorted_0 sorted_1 sorted_2 sorted_3 name
+part_sorted entries name e = ap ascending e ∙ by_part (λ k. ascending (entries_in k) ≡ true) sorted_0 sorted_1 sorted_2 sorted_3 sorted_4 sorted_5 sorted_6 name
 
 pub part_few : (entries : List Entry) (name : List ℕ) → map entry_of entries ≡ entries_in (part_of name) → length entries < 512
 part_few entries name e =

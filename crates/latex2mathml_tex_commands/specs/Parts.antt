@@ -6,7 +6,14 @@ use Rattle.latex2mathml_tex_grammar.specs.{Commands.command_entries, Meaning.Mea
 -- the number of the part in which a name is looked up
 abbrev pub part_of : List ℕ → ℕ
 part_of [] = 0
-part_of (c ∷ name) = if nat_lt c (byte "c") then 0 else if nat_lt c (byte "m") then 1 else if nat_lt c (byte "r") then 2 else 3
+part_of (c ∷ name) =
+    if nat_lt c (byte "a") then 0
+    else if nat_lt c (byte "c") then 1
+    else if nat_lt c (byte "f") then 2
+    else if nat_lt c (byte "m") then 3
+    else if nat_lt c (byte "r") then 4
+    else if nat_lt c (byte "t") then 5
+    else 6
 
 -- the entries of a part
 unfoldable pub entries_in : ℕ → List (List ℕ × Meaning)

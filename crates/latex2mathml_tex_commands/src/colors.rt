@@ -3,7 +3,7 @@ ghost use Rattle.std.specs.Prelude.{◌≡◌, ◌<◌, ◌≤◌, ◌∷◌, �
 ghost use Rattle.latex2mathml_attributes.specs.Arounds.{color_of};
 ghost use Rattle.latex2mathml_tex_grammar.specs.Colors;
 ghost use Rattle.latex2mathml_tex_grammar.specs.Colors.{color_entries, color_of_digits, digit_value, digit_values, entry_color, named_color};
-ghost use Rattle.latex2mathml_tex_commands.specs.Colors.{entry_of};
+ghost use Rattle.latex2mathml_tex_commands.specs.Colors.{component, entry_of, with_components};
 
 use latex2mathml_attributes::around::Color;
 
@@ -208,18 +208,28 @@ fn color_of_digits(digits: &[u8]) -> Option<Color>
     ensures { option_map color_of result ≡ color_of_digits (digit_values digits.now) }
 {
     match *digits {
-        [r, g, b] => Some(Color {
-            red: digit_value(r)? * 17,
-            green: digit_value(g)? * 17,
-            blue: digit_value(b)? * 17,
-        }),
-        [r, s, g, h, b, c] => Some(Color {
-            red: digit_value(r)? * 16 + digit_value(s)?,
-            green: digit_value(g)? * 16 + digit_value(h)?,
-            blue: digit_value(b)? * 16 + digit_value(c)?,
-        }),
+        [r, g, b] => with_components(component(r, r), component(g, g), component(b, b)),
+        [r, s, g, h, b, c] => with_components(component(r, s), component(g, h), component(b, c)),
         _ => None,
     }
+}
+
+/// Returns the color with these components, if all of them are there.
+fn with_components(red: Option<u8>, green: Option<u8>, blue: Option<u8>) -> Option<Color>
+    ensures { option_map color_of result ≡ with_components red green blue }
+{
+    Some(Color {
+        red: red?,
+        green: green?,
+        blue: blue?,
+    })
+}
+
+/// Returns the component that two hexadecimal digits give, if they are such digits.
+fn component(high: u8, low: u8) -> Option<u8>
+    ensures { result ≡ component (digit_value high) (digit_value low) }
+{
+    Some(digit_value(high)? * 16 + digit_value(low)?)
 }
 
 /// Returns the value of a hexadecimal digit.

@@ -5,10 +5,13 @@ ghost use Rattle.latex2mathml_tex_grammar.specs.{Commands.entry_meaning, Command
 ghost use Rattle.latex2mathml_tex_commands.specs.Meanings;
 ghost use Rattle.latex2mathml_tex_commands.specs.{Meanings.entry_of, Parts.entries_in, Parts.part_of};
 
-mod c_to_l;
-mod from_r;
+mod a_and_b;
+mod before_a;
+mod c_to_e;
+mod f_to_l;
+mod from_t;
 mod m_to_q;
-mod up_to_b;
+mod r_and_s;
 
 use crate::meaning::{Entry, Meaning};
 use std::cmp::Ordering;
@@ -26,10 +29,13 @@ fn part_for(name: &str) -> &'static [Entry]
     ensures { map entry_of result.now ≡ entries_in (part_of name.now) }
 {
     match name.as_bytes() {
-        [c, ..] if *c >= b'r' => from_r::entries(),
+        [c, ..] if *c >= b't' => from_t::entries(),
+        [c, ..] if *c >= b'r' => r_and_s::entries(),
         [c, ..] if *c >= b'm' => m_to_q::entries(),
-        [c, ..] if *c >= b'c' => c_to_l::entries(),
-        _ => up_to_b::entries(),
+        [c, ..] if *c >= b'f' => f_to_l::entries(),
+        [c, ..] if *c >= b'c' => c_to_e::entries(),
+        [c, ..] if *c >= b'a' => a_and_b::entries(),
+        _ => before_a::entries(),
     }
 }
 

@@ -1,7 +1,7 @@
 //! Why a formula or a text of definitions is refused.
-ghost use Rattle.std.specs.Prelude.{◌≡◌, Some};
-ghost use Rattle.std.specs.Option.{is_some};
-ghost use Rattle.latex2mathml_tex_units.specs.ErrorTexts.{error_kind_text, error_text};
+ghost use Rattle.std.specs.Prelude.{◌≡◌, ◌++◌, Some, codes};
+ghost use Rattle.std.specs.{Char.encode_utf8, Fmt.WritesOnOk, Option.is_some};
+ghost use Rattle.latex2mathml_tex_units.specs.ErrorTexts.{error_kind_text, error_text, four_digits};
 ghost use Rattle.latex2mathml_tex_units.specs.{Errors.kind_of_error, Errors.out_of_memory, Taking.kind_of};
 
 use crate::unit::Fault;
@@ -102,55 +102,89 @@ impl fmt::Display for TexErrorKind {
     ghost output = { λ kind. Some (error_kind_text kind) };
 
     fn fmt<W: fmt::Write>(&self, f: &mut fmt::Formatter<W>) -> fmt::Result {
-        match self {
-            TexErrorKind::LoneBackslash => f.write_str("a backslash ends the formula"),
-            TexErrorKind::ForbiddenCharacter(c) => {
-                write!(f, "forbidden character U+{:04X}", u32::from(*c))
-            }
-            TexErrorKind::UnknownCommand(name) => write!(f, "unknown command \\{name}"),
-            TexErrorKind::MissingArgument => f.write_str("an argument is missing"),
-            TexErrorKind::UnclosedBrace => f.write_str("{ is not closed"),
-            TexErrorKind::UnclosedBracket => f.write_str("[ is not closed"),
-            TexErrorKind::UnclosedDollar => f.write_str("$ is not closed"),
-            TexErrorKind::LeftWithoutRight => f.write_str("\\left without \\right"),
-            TexErrorKind::UnopenedBrace => f.write_str("} closes nothing"),
-            TexErrorKind::RightWithoutLeft => f.write_str("\\right without \\left"),
-            TexErrorKind::MiddleWithoutLeft => f.write_str(
-                "\\middle outside of \\left and \\right",
+        let text = match self {
+            TexErrorKind::LoneBackslash => "a backslash ends the formula",
+            TexErrorKind::ForbiddenCharacter(c) => return write_forbidden(*c, f),
+            TexErrorKind::UnknownCommand(name) => return write_two("unknown command \\", name, f),
+            TexErrorKind::MissingArgument => "an argument is missing",
+            TexErrorKind::UnclosedBrace => "{ is not closed",
+            TexErrorKind::UnclosedBracket => "[ is not closed",
+            TexErrorKind::UnclosedDollar => "$ is not closed",
+            TexErrorKind::LeftWithoutRight => "\\left without \\right",
+            TexErrorKind::UnopenedBrace => "} closes nothing",
+            TexErrorKind::RightWithoutLeft => "\\right without \\left",
+            TexErrorKind::MiddleWithoutLeft => "\\middle outside of \\left and \\right",
+            TexErrorKind::LimitsWithoutOperator => "limits without an operator",
+            TexErrorKind::SecondSubscript => "a second subscript",
+            TexErrorKind::SecondSuperscript => "a second superscript",
+            TexErrorKind::MissingLength => "a length is missing",
+            TexErrorKind::LengthTooLarge => "a length of more than 16384 points",
+            TexErrorKind::UnknownColor(name) => return write_two("unknown color ", name, f),
+            TexErrorKind::ChangeAsArgument => "a command for the rest of a group is no argument",
+            TexErrorKind::SecondInfix => "a second \\over or the like in one group",
+            TexErrorKind::MissingDelimiter => "a delimiter is missing",
+            TexErrorKind::NothingToNegate => "nothing to negate",
+            TexErrorKind::OutsideTable => "a sign of tables outside of a table",
+            TexErrorKind::MissingName => "the name of an environment is missing",
+            TexErrorKind::UnknownEnvironment(name) => return write_two(
+                "unknown environment ",
+                name,
+                f,
             ),
-            TexErrorKind::LimitsWithoutOperator => f.write_str("limits without an operator"),
-            TexErrorKind::SecondSubscript => f.write_str("a second subscript"),
-            TexErrorKind::SecondSuperscript => f.write_str("a second superscript"),
-            TexErrorKind::MissingLength => f.write_str("a length is missing"),
-            TexErrorKind::LengthTooLarge => f.write_str("a length of more than 16384 points"),
-            TexErrorKind::UnknownColor(name) => write!(f, "unknown color {name}"),
-            TexErrorKind::ChangeAsArgument => f.write_str(
-                "a command for the rest of a group is no argument",
+            TexErrorKind::BeginWithoutEnd => "\\begin without \\end",
+            TexErrorKind::EndWithoutBegin => "\\end without \\begin",
+            TexErrorKind::OtherName => "\\end has another name than \\begin",
+            TexErrorKind::UnknownColumn => "unknown column",
+            TexErrorKind::TooManyColumns => "more than 16 columns",
+            TexErrorKind::MisplacedCharacter(c) => return write_character(
+                *c,
+                " has no meaning here",
+                f,
             ),
-            TexErrorKind::SecondInfix => f.write_str("a second \\over or the like in one group"),
-            TexErrorKind::MissingDelimiter => f.write_str("a delimiter is missing"),
-            TexErrorKind::NothingToNegate => f.write_str("nothing to negate"),
-            TexErrorKind::OutsideTable => f.write_str("a sign of tables outside of a table"),
-            TexErrorKind::MissingName => f.write_str("the name of an environment is missing"),
-            TexErrorKind::UnknownEnvironment(name) => write!(f, "unknown environment {name}"),
-            TexErrorKind::BeginWithoutEnd => f.write_str("\\begin without \\end"),
-            TexErrorKind::EndWithoutBegin => f.write_str("\\end without \\begin"),
-            TexErrorKind::OtherName => f.write_str("\\end has another name than \\begin"),
-            TexErrorKind::UnknownColumn => f.write_str("unknown column"),
-            TexErrorKind::TooManyColumns => f.write_str("more than 16 columns"),
-            TexErrorKind::MisplacedCharacter(c) => write!(f, "{c} has no meaning here"),
-            TexErrorKind::CommandInWords(name) => write!(f, "\\{name} in words"),
-            TexErrorKind::CharacterInWords(c) => write!(f, "{c} in words"),
-            TexErrorKind::TooManyExpansions => f.write_str("too many macros are expanded"),
-            TexErrorKind::MissingMacroName => f.write_str("no name to define"),
-            TexErrorKind::WrongParameters => f.write_str("wrong parameters of a definition"),
-            TexErrorKind::OptionalArgument => f.write_str("optional arguments are not read"),
-            TexErrorKind::DelimitedArgument => f.write_str("an argument up to a sign is not read"),
-            TexErrorKind::UnknownParameter => f.write_str("a body has no such argument"),
-            TexErrorKind::NoDefinition => f.write_str("not a definition"),
-            TexErrorKind::OutOfMemory => f.write_str("out of memory"),
-        }
+            TexErrorKind::CommandInWords(name) => return write_command_in_words(name, f),
+            TexErrorKind::CharacterInWords(c) => return write_character(*c, " in words", f),
+            TexErrorKind::TooManyExpansions => "too many macros are expanded",
+            TexErrorKind::MissingMacroName => "no name to define",
+            TexErrorKind::WrongParameters => "wrong parameters of a definition",
+            TexErrorKind::OptionalArgument => "optional arguments are not read",
+            TexErrorKind::DelimitedArgument => "an argument up to a sign is not read",
+            TexErrorKind::UnknownParameter => "a body has no such argument",
+            TexErrorKind::NoDefinition => "not a definition",
+            TexErrorKind::OutOfMemory => "out of memory",
+        };
+        f.write_str(text)
     }
+}
+
+fn write_forbidden<W: fmt::Write>(c: char, f: &mut fmt::Formatter<W>) -> fmt::Result
+    ensures { WritesOnOk W.write_str_gives f.old result
+        (codes "forbidden character U+" ++ four_digits c) f.new }
+{
+    write!(f, "forbidden character U+{:04X}", u32::from(c))
+}
+
+fn write_command_in_words<W: fmt::Write>(name: &str, f: &mut fmt::Formatter<W>) -> fmt::Result
+    ensures { WritesOnOk W.write_str_gives f.old result
+        (codes "\\" ++ (name.now ++ codes " in words")) f.new }
+{
+    f.write_str("\\")?;
+    write_two(name, " in words", f)
+}
+
+/// Writes two texts, one after the other.
+fn write_two<W: fmt::Write>(first: &str, second: &str, f: &mut fmt::Formatter<W>) -> fmt::Result
+    ensures { WritesOnOk W.write_str_gives f.old result (first.now ++ second.now) f.new }
+{
+    f.write_str(first)?;
+    f.write_str(second)
+}
+
+/// Writes a character, and what follows it.
+fn write_character<W: fmt::Write>(c: char, after: &str, f: &mut fmt::Formatter<W>) -> fmt::Result
+    ensures { WritesOnOk W.write_str_gives f.old result (encode_utf8 c ++ after.now) f.new }
+{
+    f.write_char(c)?;
+    f.write_str(after)
 }
 
 /// Prints the kind in words and, if the error is about a place, the place, such as `unknown command \foo at 7`.

@@ -160,6 +160,9 @@ drop_half entries h = simp length-drop (omega arith)
 nonempty : (entries : List Entry) → (length entries == 0) ≡ false → 0 < length entries
 nonempty entries h = grind (arith, nat_tests)
 
+pub empty : (entries : List Entry) → (length entries == 0) ≡ true → length entries ≡ 0
+empty entries h = grind (arith, nat_tests)
+
 -- the left half remains if the name is less than the middle entry's
 half_left : (entries : List Entry) (name : List ℕ) (n : ℕ) (d : Entry) → Narrowed entries name n → 0 < length entries → slice_cmp nat_cmp name (get_or entries (length entries / 2) d).name.now ≡ Less → Narrowed (take (length entries / 2) entries) name (n + 1)
 half_left entries name n d inv h less =

@@ -11,4 +11,5 @@ pub mod Ordered
 pub mod Refusal
 pub mod Same
 pub mod Tok
+pub mod TokenContents
 pub mod TokenText

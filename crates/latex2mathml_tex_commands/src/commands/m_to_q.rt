@@ -10,7 +10,7 @@ use latex2mathml_attributes::attributes::{Side, Stretch};
 /// Returns the entries.
 #[tactic(auto, unfolding(crate::specs::Parts::entries_in, latex2mathml_tex_grammar::specs::Commands::command_entries, latex2mathml_tex_grammar::specs::CommandsUpToL::commands_up_to_l, latex2mathml_tex_grammar::specs::CommandsFromM::commands_from_m))]
 pub(crate) fn entries() -> &'static [Entry]
-    ensures { map entry_of result.now ≡ entries_in 2 }
+    ensures { map entry_of result.now ≡ entries_in 4 }
 {
     &M_TO_Q
 }

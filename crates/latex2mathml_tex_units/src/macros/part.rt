@@ -96,11 +96,13 @@ pub(crate) fn operator_parts<'a>(
         parts_in parts ≡ operator_parts star (map part_of name.now)) }
 {
     let mut parts = Vec::new(alloc);
-    parts.push(Part::Fixed(Piece::Command("operatorname")))?;
+    let command = Part::Fixed(Piece::Command("operatorname"));
     if star {
-        parts.push(Part::Fixed(Piece::Character('*')))?;
+        let star = Part::Fixed(Piece::Character('*'));
+        parts.extend_from_slice(&[command, star, Part::Fixed(Piece::Open)])?;
+    } else {
+        parts.extend_from_slice(&[command, Part::Fixed(Piece::Open)])?;
     }
-    parts.push(Part::Fixed(Piece::Open))?;
     parts.extend_from_slice(name)?;
     parts.push(Part::Fixed(Piece::Close))?;
     Ok(parts)

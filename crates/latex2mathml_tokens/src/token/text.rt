@@ -1,7 +1,8 @@
 //! The text of a token, as refusals and marked errors name it.
-ghost use Rattle.std.specs.{Prelude.Some, Char.encode_utf8, List.flat_map};
+ghost use Rattle.std.specs.Prelude.{◌≡◌, ◌++◌, Some};
+ghost use Rattle.std.specs.{Char.encode_utf8, Fmt.WritesOnOk, List.flat_map};
 ghost use Rattle.latex2mathml_tokens.specs.{Escape.quoted, Escape.quoted_byte, Escape.quoted_char, Tok.tok};
-ghost use Rattle.latex2mathml_tokens.specs.TokenText.{accent_name, token_text, variant_name};
+ghost use Rattle.latex2mathml_tokens.specs.{TokenContents.contents_text, TokenText.accent_name, TokenText.token_text, TokenText.variant_name};
 
 use crate::DisplayStyle;
 use crate::attribute::{Accent, Variant};
@@ -101,6 +102,65 @@ impl fmt::Display for AccentName {
     }
 }
 
+/// What a token contains, which its text has in parentheses.
+#[derive(Clone, Copy)]
+enum Contents<'a> {
+    Nothing,
+    Character(char),
+    Text(&'a str),
+    Width(i32),
+    Style(Variant),
+    Sign(char, Accent),
+    Letter(char, Variant),
+}
+
+/// Returns the name of the kind of the token, and what the token contains. The style of a binomial coefficient is in the name.
+fn parts(token: &Token) -> (&'static str, Contents<'_>)
+    ensures { result.0.now ++ contents_text result.1 ≡ token_text (tok token.now) }
+{
+    match token {
+        Token::Illegal(c) => ("Illegal", Contents::Character(*c)),
+        Token::EOF => ("EOF", Contents::Nothing),
+        Token::Begin => ("Begin", Contents::Nothing),
+        Token::End => ("End", Contents::Nothing),
+        Token::Ampersand => ("Ampersand", Contents::Nothing),
+        Token::NewLine => ("NewLine", Contents::Nothing),
+        Token::Left => ("Left", Contents::Nothing),
+        Token::Right => ("Right", Contents::Nothing),
+        Token::Middle => ("Middle", Contents::Nothing),
+        Token::Paren(text) => ("Paren", Contents::Text(text)),
+        Token::LBrace => ("LBrace", Contents::Nothing),
+        Token::RBrace => ("RBrace", Contents::Nothing),
+        Token::Frac => ("Frac", Contents::Nothing),
+        Token::Underscore => ("Underscore", Contents::Nothing),
+        Token::Circumflex => ("Circumflex", Contents::Nothing),
+        Token::Binom(None) => ("Binom(None)", Contents::Nothing),
+        Token::Binom(Some(DisplayStyle::Block)) => ("Binom(Some(Block))", Contents::Nothing),
+        Token::Binom(Some(DisplayStyle::Inline)) => ("Binom(Some(Inline))", Contents::Nothing),
+        Token::Overset => ("Overset", Contents::Nothing),
+        Token::Underset => ("Underset", Contents::Nothing),
+        Token::Overbrace(c) => ("Overbrace", Contents::Character(*c)),
+        Token::Underbrace(c) => ("Underbrace", Contents::Character(*c)),
+        Token::Sqrt => ("Sqrt", Contents::Nothing),
+        Token::Integral(c) => ("Integral", Contents::Character(*c)),
+        Token::Lim(text) => ("Lim", Contents::Text(text)),
+        Token::Space(width) => ("Space", Contents::Width(*width)),
+        Token::Style(variant) => ("Style", Contents::Style(*variant)),
+        Token::Big(text) => ("Big", Contents::Text(text)),
+        Token::Over(c, accent) => ("Over", Contents::Sign(*c, *accent)),
+        Token::Under(c, accent) => ("Under", Contents::Sign(*c, *accent)),
+        Token::Operator(c) => ("Operator", Contents::Character(*c)),
+        Token::BigOp(c) => ("BigOp", Contents::Character(*c)),
+        Token::Letter(c, variant) => ("Letter", Contents::Letter(*c, *variant)),
+        Token::Number(text) => ("Number", Contents::Text(text)),
+        Token::Function(text) => ("Function", Contents::Text(text)),
+        Token::OperatorName => ("OperatorName", Contents::Nothing),
+        Token::Slashed => ("Slashed", Contents::Nothing),
+        Token::Text => ("Text", Contents::Nothing),
+        Token::Command(text) => ("Command", Contents::Text(text)),
+    }
+}
+
 /// The text of a token, such as `Operator('<')` or `Command("foo")`.
 #[derive(Drop)]
 pub struct TokenText<'a>(pub &'a Token);
@@ -109,61 +169,24 @@ impl fmt::Display for TokenText<'_> {
     ghost output = { λ text. Some (token_text (tok text.0.now)) };
 
     fn fmt<W: fmt::Write>(&self, f: &mut fmt::Formatter<W>) -> fmt::Result {
-        match self.0 {
-            Token::Illegal(c) => write!(f, "Illegal({})", QuotedChar(*c)),
-            Token::EOF => f.write_str("EOF"),
-            Token::Begin => f.write_str("Begin"),
-            Token::End => f.write_str("End"),
-            Token::Ampersand => f.write_str("Ampersand"),
-            Token::NewLine => f.write_str("NewLine"),
-            Token::Left => f.write_str("Left"),
-            Token::Right => f.write_str("Right"),
-            Token::Middle => f.write_str("Middle"),
-            Token::Paren(text) => write!(f, "Paren({})", Quoted(text)),
-            Token::LBrace => f.write_str("LBrace"),
-            Token::RBrace => f.write_str("RBrace"),
-            Token::Frac => f.write_str("Frac"),
-            Token::Underscore => f.write_str("Underscore"),
-            Token::Circumflex => f.write_str("Circumflex"),
-            Token::Binom(None) => f.write_str("Binom(None)"),
-            Token::Binom(Some(DisplayStyle::Block)) => f.write_str("Binom(Some(Block))"),
-            Token::Binom(Some(DisplayStyle::Inline)) => f.write_str("Binom(Some(Inline))"),
-            Token::Overset => f.write_str("Overset"),
-            Token::Underset => f.write_str("Underset"),
-            Token::Overbrace(c) => write!(f, "Overbrace({})", QuotedChar(*c)),
-            Token::Underbrace(c) => write!(f, "Underbrace({})", QuotedChar(*c)),
-            Token::Sqrt => f.write_str("Sqrt"),
-            Token::Integral(c) => write!(f, "Integral({})", QuotedChar(*c)),
-            Token::Lim(text) => write!(f, "Lim({})", Quoted(text)),
-            Token::Space(width) => write!(f, "Space({})", width),
-            Token::Style(variant) => write!(f, "Style({})", VariantName(*variant)),
-            Token::Big(text) => write!(f, "Big({})", Quoted(text)),
-            Token::Over(c, accent) => write!(
-                f,
-                "Over({}, {})",
-                QuotedChar(*c),
-                AccentName(*accent)
-            ),
-            Token::Under(c, accent) => write!(
-                f,
-                "Under({}, {})",
-                QuotedChar(*c),
-                AccentName(*accent)
-            ),
-            Token::Operator(c) => write!(f, "Operator({})", QuotedChar(*c)),
-            Token::BigOp(c) => write!(f, "BigOp({})", QuotedChar(*c)),
-            Token::Letter(c, variant) => write!(
-                f,
-                "Letter({}, {})",
-                QuotedChar(*c),
-                VariantName(*variant)
-            ),
-            Token::Number(text) => write!(f, "Number({})", Quoted(text)),
-            Token::Function(text) => write!(f, "Function({})", Quoted(text)),
-            Token::OperatorName => f.write_str("OperatorName"),
-            Token::Slashed => f.write_str("Slashed"),
-            Token::Text => f.write_str("Text"),
-            Token::Command(text) => write!(f, "Command({})", Quoted(text)),
+        let (name, contents) = parts(self.0);
+        f.write_str(name)?;
+        write_contents(contents, f)
+    }
+}
+
+fn write_contents<W: fmt::Write>(contents: Contents<'_>, f: &mut fmt::Formatter<W>) -> fmt::Result
+    ensures { WritesOnOk W.write_str_gives f.old result (contents_text contents.entry) f.new }
+{
+    match contents {
+        Contents::Nothing => Ok(()),
+        Contents::Character(c) => write!(f, "({})", QuotedChar(c)),
+        Contents::Text(text) => write!(f, "({})", Quoted(text)),
+        Contents::Width(width) => write!(f, "({width})"),
+        Contents::Style(variant) => write!(f, "({})", VariantName(variant)),
+        Contents::Sign(c, accent) => write!(f, "({}, {})", QuotedChar(c), AccentName(accent)),
+        Contents::Letter(c, variant) => {
+            write!(f, "({}, {})", QuotedChar(c), VariantName(variant))
         }
     }
 }

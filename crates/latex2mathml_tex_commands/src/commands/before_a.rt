@@ -1,22 +1,20 @@
-//! The commands up to those that begin with b.
+//! The commands that begin before a: with signs and capital letters.
 ghost use Rattle.std.specs.Prelude.{◌≡◌, map};
 ghost use Rattle.latex2mathml_tex_commands.specs.{Meanings.entry_of, Parts.entries_in};
 
-use crate::meaning::{
-    Alphabet, Change, Class, Entry, FractionRule, LimitPlace, Meaning, OperandBox, Symbol,
-};
-use latex2mathml_attributes::attributes::{Side, Size, Stretch};
+use crate::meaning::{Alphabet, Class, Entry, LimitPlace, Meaning, Symbol};
+use latex2mathml_attributes::attributes::Size;
 
 /// Returns the entries.
 #[tactic(auto, unfolding(crate::specs::Parts::entries_in, latex2mathml_tex_grammar::specs::Commands::command_entries, latex2mathml_tex_grammar::specs::CommandsUpToL::commands_up_to_l, latex2mathml_tex_grammar::specs::CommandsFromM::commands_from_m))]
 pub(crate) fn entries() -> &'static [Entry]
     ensures { map entry_of result.now ≡ entries_in 0 }
 {
-    &UP_TO_B
+    &BEFORE_A
 }
 
 #[rattlefmt::skip]
-static UP_TO_B: [Entry; 172] = [
+static BEFORE_A: [Entry; 89] = [
     Entry { name: " ", meaning: Meaning::Spacing(6) },
     Entry { name: "!", meaning: Meaning::Spacing(-3) },
     Entry { name: "#", meaning: Meaning::Shows(Symbol::Sign(Class::Ordinary, '#')) },
@@ -106,87 +104,4 @@ static UP_TO_B: [Entry; 172] = [
     Entry { name: "Zeta", meaning: Meaning::Shows(Symbol::UprightLetter('Ζ')) },
     Entry { name: "\\", meaning: Meaning::LineBreak },
     Entry { name: "_", meaning: Meaning::Shows(Symbol::Sign(Class::Ordinary, '_')) },
-    Entry { name: "a", meaning: Meaning::Shows(Symbol::UprightLetter('å')) },
-    Entry { name: "acute", meaning: Meaning::Accent(Side::Above, '´', Stretch::Rigid) },
-    Entry { name: "ae", meaning: Meaning::Shows(Symbol::UprightLetter('æ')) },
-    Entry { name: "aleph", meaning: Meaning::Shows(Symbol::UprightLetter('ℵ')) },
-    Entry { name: "alpha", meaning: Meaning::Shows(Symbol::Letter('α')) },
-    Entry { name: "amalg", meaning: Meaning::Shows(Symbol::Sign(Class::Binary, '⨿')) },
-    Entry { name: "angle", meaning: Meaning::Shows(Symbol::Sign(Class::Ordinary, '∠')) },
-    Entry { name: "approx", meaning: Meaning::Shows(Symbol::Sign(Class::Relation, '≈')) },
-    Entry { name: "approxeq", meaning: Meaning::Shows(Symbol::Sign(Class::Relation, '≊')) },
-    Entry { name: "arccos", meaning: Meaning::FunctionName(LimitPlace::Beside, "arccos") },
-    Entry { name: "arcctg", meaning: Meaning::FunctionName(LimitPlace::Beside, "arcctg") },
-    Entry { name: "arcsin", meaning: Meaning::FunctionName(LimitPlace::Beside, "arcsin") },
-    Entry { name: "arctan", meaning: Meaning::FunctionName(LimitPlace::Beside, "arctan") },
-    Entry { name: "arctg", meaning: Meaning::FunctionName(LimitPlace::Beside, "arctg") },
-    Entry { name: "arg", meaning: Meaning::FunctionName(LimitPlace::Beside, "arg") },
-    Entry { name: "argmax", meaning: Meaning::FunctionName(LimitPlace::ByStyle, "arg\u{2009}max") },
-    Entry { name: "argmin", meaning: Meaning::FunctionName(LimitPlace::ByStyle, "arg\u{2009}min") },
-    Entry { name: "ascnode", meaning: Meaning::Shows(Symbol::Sign(Class::Ordinary, '☊')) },
-    Entry { name: "ast", meaning: Meaning::Shows(Symbol::Sign(Class::Binary, '∗')) },
-    Entry { name: "astrosun", meaning: Meaning::Shows(Symbol::Sign(Class::Ordinary, '☉')) },
-    Entry { name: "asymp", meaning: Meaning::Shows(Symbol::Sign(Class::Relation, '≍')) },
-    Entry { name: "atop", meaning: Meaning::Changes(Change::Divides(FractionRule::Bare)) },
-    Entry { name: "backepsilon", meaning: Meaning::Shows(Symbol::Sign(Class::Relation, '∍')) },
-    Entry { name: "backprime", meaning: Meaning::Shows(Symbol::Sign(Class::Ordinary, '‵')) },
-    Entry { name: "backsim", meaning: Meaning::Shows(Symbol::Sign(Class::Relation, '∽')) },
-    Entry { name: "backsimeq", meaning: Meaning::Shows(Symbol::Sign(Class::Relation, '⋍')) },
-    Entry { name: "backslash", meaning: Meaning::Shows(Symbol::Sign(Class::Ordinary, '\\')) },
-    Entry { name: "bar", meaning: Meaning::Accent(Side::Above, '¯', Stretch::Rigid) },
-    Entry { name: "barwedge", meaning: Meaning::Shows(Symbol::Sign(Class::Binary, '⊼')) },
-    Entry { name: "bcancel", meaning: Meaning::Boxed(OperandBox::StrikeDown) },
-    Entry { name: "because", meaning: Meaning::Shows(Symbol::Sign(Class::Relation, '∵')) },
-    Entry { name: "begin", meaning: Meaning::BeginTable },
-    Entry { name: "beta", meaning: Meaning::Shows(Symbol::Letter('β')) },
-    Entry { name: "beth", meaning: Meaning::Shows(Symbol::UprightLetter('ℶ')) },
-    Entry { name: "between", meaning: Meaning::Shows(Symbol::Sign(Class::Relation, '≬')) },
-    Entry { name: "bf", meaning: Meaning::Changes(Change::ToAlphabet(Alphabet::Bold)) },
-    Entry { name: "big", meaning: Meaning::Sized(Size::Big, Class::Ordinary) },
-    Entry { name: "bigcap", meaning: Meaning::Shows(Symbol::BigOperator('⋂')) },
-    Entry { name: "bigcirc", meaning: Meaning::Shows(Symbol::Sign(Class::Binary, '◯')) },
-    Entry { name: "bigcup", meaning: Meaning::Shows(Symbol::BigOperator('⋃')) },
-    Entry { name: "bigg", meaning: Meaning::Sized(Size::VeryBig, Class::Ordinary) },
-    Entry { name: "biggl", meaning: Meaning::Sized(Size::VeryBig, Class::Opening) },
-    Entry { name: "biggm", meaning: Meaning::Sized(Size::VeryBig, Class::Relation) },
-    Entry { name: "biggr", meaning: Meaning::Sized(Size::VeryBig, Class::Closing) },
-    Entry { name: "bigl", meaning: Meaning::Sized(Size::Big, Class::Opening) },
-    Entry { name: "bigm", meaning: Meaning::Sized(Size::Big, Class::Relation) },
-    Entry { name: "bigodot", meaning: Meaning::Shows(Symbol::BigOperator('⨀')) },
-    Entry { name: "bigoplus", meaning: Meaning::Shows(Symbol::BigOperator('⨁')) },
-    Entry { name: "bigotimes", meaning: Meaning::Shows(Symbol::BigOperator('⨂')) },
-    Entry { name: "bigr", meaning: Meaning::Sized(Size::Big, Class::Closing) },
-    Entry { name: "bigsqcup", meaning: Meaning::Shows(Symbol::BigOperator('⨆')) },
-    Entry { name: "bigstar", meaning: Meaning::Shows(Symbol::Sign(Class::Ordinary, '★')) },
-    Entry { name: "bigtriangledown", meaning: Meaning::Shows(Symbol::Sign(Class::Binary, '▽')) },
-    Entry { name: "bigtriangleup", meaning: Meaning::Shows(Symbol::Sign(Class::Binary, '△')) },
-    Entry { name: "biguplus", meaning: Meaning::Shows(Symbol::BigOperator('⨄')) },
-    Entry { name: "bigvee", meaning: Meaning::Shows(Symbol::BigOperator('⋁')) },
-    Entry { name: "bigwedge", meaning: Meaning::Shows(Symbol::BigOperator('⋀')) },
-    Entry { name: "binom", meaning: Meaning::Fraction(FractionRule::NoBar, None) },
-    Entry { name: "bitotimes", meaning: Meaning::Shows(Symbol::BigOperator('⨂')) },
-    Entry { name: "blacklozenge", meaning: Meaning::Shows(Symbol::Sign(Class::Ordinary, '⧫')) },
-    Entry { name: "blacksquare", meaning: Meaning::Shows(Symbol::Sign(Class::Ordinary, '■')) },
-    Entry { name: "blacktriangle", meaning: Meaning::Shows(Symbol::Sign(Class::Ordinary, '▲')) },
-    Entry { name: "blacktriangledown", meaning: Meaning::Shows(Symbol::Sign(Class::Ordinary, '▼')) },
-    Entry { name: "blacktriangleleft", meaning: Meaning::Shows(Symbol::Sign(Class::Relation, '◀')) },
-    Entry { name: "blacktriangleright", meaning: Meaning::Shows(Symbol::Sign(Class::Relation, '▶')) },
-    Entry { name: "bm", meaning: Meaning::Styled(Alphabet::BoldItalic) },
-    Entry { name: "bold", meaning: Meaning::Styled(Alphabet::Bold) },
-    Entry { name: "boldsymbol", meaning: Meaning::Styled(Alphabet::BoldItalic) },
-    Entry { name: "bot", meaning: Meaning::Shows(Symbol::Sign(Class::Ordinary, '⊥')) },
-    Entry { name: "bowtie", meaning: Meaning::Shows(Symbol::Sign(Class::Relation, '⋈')) },
-    Entry { name: "boxbox", meaning: Meaning::Shows(Symbol::Sign(Class::Relation, '⧈')) },
-    Entry { name: "boxbslash", meaning: Meaning::Shows(Symbol::Sign(Class::Relation, '⧅')) },
-    Entry { name: "boxdot", meaning: Meaning::Shows(Symbol::Sign(Class::Binary, '⊡')) },
-    Entry { name: "boxed", meaning: Meaning::Boxed(OperandBox::Frame) },
-    Entry { name: "boxminus", meaning: Meaning::Shows(Symbol::Sign(Class::Binary, '⊟')) },
-    Entry { name: "boxplus", meaning: Meaning::Shows(Symbol::Sign(Class::Binary, '⊞')) },
-    Entry { name: "boxslash", meaning: Meaning::Shows(Symbol::Sign(Class::Relation, '⧄')) },
-    Entry { name: "boxtimes", meaning: Meaning::Shows(Symbol::Sign(Class::Binary, '⊠')) },
-    Entry { name: "brace", meaning: Meaning::Changes(Change::Divides(FractionRule::Braced)) },
-    Entry { name: "brack", meaning: Meaning::Changes(Change::Divides(FractionRule::Bracketed)) },
-    Entry { name: "breve", meaning: Meaning::Accent(Side::Above, '˘', Stretch::Rigid) },
-    Entry { name: "bullet", meaning: Meaning::Shows(Symbol::Sign(Class::Binary, '∙')) },
-    Entry { name: "bumpeq", meaning: Meaning::Shows(Symbol::Sign(Class::Relation, '≏')) },
 ];
