@@ -9,7 +9,7 @@ use Rattle.latex2mathml_attributes.specs.Arounds.{around_attributes, around_name
 use Rattle.latex2mathml_builder.specs.Built.{Fits, element_of, settled_in}
 use Rattle.latex2mathml_attributes.specs.Columns.{columns_of}
 use Rattle.latex2mathml_builder.specs.Due.{arranged, due, row_prints, settled_from, weight}
-use Rattle.latex2mathml_attributes.specs.Names.{attributes_of, container_of, math_style_of, pair_of, triple_of}
+use Rattle.latex2mathml_attributes.specs.Names.{attributes_of, math_style_of, pair_of, triple_of}
 use Rattle.latex2mathml_builder.proofs.Parts.{settled_count}
 use Rattle.latex2mathml_builder.proofs.Tables.{table_loaded, table_written}
 use Rattle.latex2mathml_builder.proofs.Written.{opened, taken_length, print_around, print_pair, print_triple, weight_around, weight_pair, weight_triple}
@@ -129,23 +129,3 @@ returns-in_ok-push_work-in-Table-clause-weight c =
     on_ok_weaker c.push_work-in-Table-2.result
     (λ h. omega (arith, h, whole, c.in_ok-push_work-in-Table.ensures.weight))
     c.push_work-in-Table-2.ensures.weight
-
-pub returns-in_ok-push_work-in-Container-clause-print :
-    goal.returns-in_ok-push_work-in-Container-clause-print
-returns-in_ok-push_work-in-Container-clause-print c =
-    let b = c.args.self.now in
-    let found = c.in-Container in
-    let whole = ap (λ p. print (element_of b.texts (settled_in b) p)) found.is in
-    on_ok_weaker c.push_work-in-Container-2.result
-    (λ h. opened (container_name (container_of found.tag)) (attributes_of found.attributes) (string_bytes c.args.out.now) (prints (children (settled_from b found.first found.count))) (due b c.args.works.now.items) _ _ _ _ _ _ c.start.ensures c.in_ok-start_tag-in-Container.ensures c.end-in-Container.ensures c.in_ok-push_work-in-Container.ensures.print h whole)
-    c.push_work-in-Container-2.ensures.print
-
-pub returns-in_ok-push_work-in-Container-clause-weight :
-    goal.returns-in_ok-push_work-in-Container-clause-weight
-returns-in_ok-push_work-in-Container-clause-weight c =
-    let b = c.args.self.now in
-    let found = c.in-Container in
-    let whole = ap (λ p. weight (element_of b.texts (settled_in b) p)) found.is in
-    on_ok_weaker c.push_work-in-Container-2.result
-    (λ h. omega (arith, h, whole, c.in_ok-push_work-in-Container.ensures.weight))
-    c.push_work-in-Container-2.ensures.weight
