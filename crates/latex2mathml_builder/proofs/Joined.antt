@@ -5,7 +5,7 @@ use Rattle.std.specs.List.{swap}
 use Rattle.latex2mathml_elements.specs.{Attributes.plain, Element.Element, Element.token, Element.space, Element.rectangle, Element.container, Element.pair, Element.triple, Element.table}
 use Rattle.latex2mathml_builder.specs.Built.{Adjoin, AllFit, HasText, IsSound, between}
 use Rattle.latex2mathml_attributes.specs.Names.{attributes_of, token_of}
-use Rattle.latex2mathml_builder.specs.Stacks.{are_tokens, joined, ordered, token_of_element}
+use Rattle.latex2mathml_builder.specs.Stacks.{are_tokens, joined, ordered, token_at, token_of_element}
 use Rattle.latex2mathml_attributes.specs.declared.attributes.Attributes.{Attributes}
 use Rattle.latex2mathml_builder.specs.declared.part.Part.{Part}
 use Rattle.latex2mathml_builder.specs.declared.part.Part.TheVariants as part
@@ -85,11 +85,11 @@ module _ (texts : List ℕ) (settled stack : List Part) (t u : Token) (a b none 
 
 -- Nothing is joined if one of the two is not a token
 
-abbrev Same : List Element → Type 0
+abbrev pub Same : List Element → Type 0
 Same xs = (joined xs ≡ xs) × (are_tokens xs ≡ false)
 
 -- the uppermost one is not a token
-pub no_upper : (x : Element) (xs : List Element) → token_of_element x ≡ None → Same (x ∷ xs)
+no_upper : (x : Element) (xs : List Element) → token_of_element x ≡ None → Same (x ∷ xs)
 no_upper (token t a text) xs h = cc
 no_upper (space width) xs h = (refl, refl)
 no_upper (rectangle e) xs h = (refl, refl)
@@ -99,7 +99,7 @@ no_upper (triple t a w y z) xs h = (refl, refl)
 no_upper (table a rows) xs h = (refl, refl)
 
 -- the one below is not a token
-pub no_lower : (x y : Element) (xs : List Element) → token_of_element y ≡ None → Same (x ∷ y ∷ xs)
+no_lower : (x y : Element) (xs : List Element) → token_of_element y ≡ None → Same (x ∷ y ∷ xs)
 no_lower (token t a text) (token u b other) xs h = cc
 no_lower (token t a text) (space width) xs h = (refl, refl)
 no_lower (token t a text) (rectangle e) xs h = (refl, refl)
@@ -115,7 +115,7 @@ no_lower (triple t a v w z) y xs h = (refl, refl)
 no_lower (table a rows) y xs h = (refl, refl)
 
 -- there are fewer than two
-pub no_two : (xs : List Element) → length xs < 2 → Same xs
+no_two : (xs : List Element) → length xs < 2 → Same xs
 no_two [] h = (refl, refl)
 no_two (x ∷ y ∷ xs) h = absurd (omega arith)
 no_two (token t a text ∷ []) h = (refl, refl)
@@ -129,6 +129,15 @@ no_two (x ∷ []) h = alone x
     alone (pair p a w z) = (refl, refl)
     alone (triple t a v w z) = (refl, refl)
     alone (table a rows) = (refl, refl)
+
+pub none_joined : (xs : List Element) → token_at 0 xs ≡ None → Same xs
+none_joined [] h = no_two [] (omega arith)
+none_joined (x ∷ xs) h = no_upper x xs h
+
+pub none_joined_below : (xs : List Element) → token_at 1 xs ≡ None → Same xs
+none_joined_below [] h = no_two [] (omega arith)
+none_joined_below (x ∷ []) h = no_two (x ∷ []) (omega arith)
+none_joined_below (x ∷ y ∷ xs) h = no_lower x y xs h
 
 -- the first two of parts exchanged
 pub exchanged_behind : (ps qs : List Part) → 2 ≤ length qs → swap (ps ++ qs) (length ps) (length ps + 1) ≡ ps ++ ordered true qs

@@ -7,7 +7,5 @@
 pub mod builder;
 mod part;
 mod rows;
-#[cfg(test)]
-mod tests;
 pub mod works;
 mod write;

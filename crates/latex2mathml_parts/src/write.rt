@@ -1,8 +1,10 @@
 //! From parts to markup.
-ghost use Rattle.std.specs.Prelude.{◌<◌, ◌≤◌, IfOk, OnOk, length, None};
-ghost use Rattle.latex2mathml_trees.specs.{Print.print, Texts.Appends, Tree.slashed};
+ghost use Rattle.std.specs.Prelude.{◌<◌, ◌≤◌, IfOk, List, OnOk, Option, length, None};
+ghost use Rattle.latex2mathml_trees.specs.{Print.print, Texts.Appends, Tree.Tree, Tree.slashed};
+ghost use Rattle.latex2mathml_tokens.specs.declared.attribute.Variant.{Variant};
 ghost use Rattle.latex2mathml_parts.specs.Forests.{IsPlace, form_tree, last_in, tree_at, trees_at, trees_in};
-ghost use Rattle.latex2mathml_parts.specs.Forms.{HasText, arity_of, in_style};
+ghost use Rattle.latex2mathml_parts.specs.Forms.{HasText, IsOwn, arity_of, in_style, put_form};
+ghost use Rattle.latex2mathml_parts.specs.{Parts.arity, Parts.top, declared.form.Form.Form};
 ghost use Rattle.latex2mathml_parts.specs.Shapes.{print_weight};
 ghost use Rattle.latex2mathml_parts.specs.Works.{AreIn, IsIn, Leaves, Writes, work_print, work_weight};
 
@@ -17,7 +19,7 @@ use crate::form::Form;
 use crate::kind::Kind;
 use crate::parts::Parts;
 use crate::work::{Work, Works};
-use crate::write::fences::Elements;
+use crate::write::fences::stretched_markup;
 use crate::write::groups::Group;
 use crate::write::leaves::{
     write_brace, write_char, write_letter, write_operator, write_sign, write_slashed, write_text,
@@ -133,34 +135,69 @@ impl Parts<'_> {
             (print_weight (form_tree self.now form.entry end))) }
     {
         match form {
-            Form::Of(Kind::Letter(c, own)) => write_letter(c, style.unwrap_or(own), out)?,
-            Form::Of(kind) => match kind {
-                Kind::Number(_)
-                | Kind::Operator(_)
-                | Kind::Paren(_)
-                | Kind::Ampersand
-                | Kind::NewLine
-                | Kind::Space(_)
-                | Kind::Function(_)
-                | Kind::Limit(_)
-                | Kind::SizedParen(_, _) => write_leaf(kind, out)?,
-                _ => return self.write_operands(kind, end, works, out),
-            },
+            Form::Of(kind) => self.write_kind(kind, style, end, works, out),
             // Of two styles, the outer one stays.
             Form::Row(count, own) => {
                 self.write_group(Group::Row, count, style.or(own), end, works, out)?;
+                Ok(None)
             }
             Form::Matrix(count, own, align) => {
                 self.write_group(Group::Matrix(align), count, own, end, works, out)?;
+                Ok(None)
             }
-            Form::Slashed => return self.write_under_slash(end, works, out),
-            Form::Name(place) => write_text("<mi>", self.text(place), "</mi>", out)?,
-            Form::Words(place) => write_text("<mtext>", self.text(place), "</mtext>", out)?,
-            Form::Undefined(place) => append_undefined(self.text(place), out)?,
-            Form::Stretched(c) => write_char("<mo stretchy=\"true\">", c, "</mo>", out)?,
-            Form::StretchedParen(paren) => out.push_str(Elements::of(paren).stretched)?,
+            Form::Slashed => self.write_under_slash(end, works, out),
+            _ => {
+                self.write_own(form, out)?;
+                Ok(None)
+            }
+        }
+    }
+
+    /// Writes the beginning of the tree of a part of a kind, as `write_form` does.
+    #[inline(always)]
+    #[tactic(auto, using(std::proofs::lemmas::Grind::common_steps))]
+    fn write_kind(
+        &self,
+        kind: Kind,
+        style: Option<Variant>,
+        end: usize,
+        works: &mut Vec<Work>,
+        out: &mut String,
+    ) -> Result<Option<usize>, AllocError>
+        requires fits { arity kind ≤ length (trees_at self.now end) }
+        requires within { end ≤ length self.now.list }
+        requires inside { AreIn self.now works.old.items }
+        ensures print { IfOk result (Writes self.now out.old works.old out.new works.new
+            (print (in_style style (form_tree self.now (Form.Of kind.entry) end)))) }
+        ensures left { IfOk result (Leaves self.now works.old works.new
+            (print_weight (form_tree self.now (Form.Of kind.entry) end))) }
+    {
+        if kind.arity() > 0 {
+            return self.write_operands(kind, end, works, out);
+        }
+        match kind {
+            Kind::Letter(c, own) => write_letter(c, style.unwrap_or(own), out)?,
+            _ => write_leaf(kind, out)?,
         }
         Ok(None)
+    }
+
+    /// Writes a part that has no operands and is of no kind. It has no style.
+    #[inline(always)]
+    fn write_own(&self, form: Form, out: &mut String) -> Result<(), AllocError>
+        requires own { IsOwn form }
+        requires text { HasText self.now.texts form }
+        ensures { (style : Option Variant) (ts : List Tree) → Appends out.old out.new
+            (print (in_style style (top (put_form self.now.texts form.entry ts)))) result }
+    {
+        match form {
+            Form::Name(place) => write_text("<mi>", self.text(place), "</mi>", out),
+            Form::Words(place) => write_text("<mtext>", self.text(place), "</mtext>", out),
+            Form::Undefined(place) => append_undefined(self.text(place), out),
+            Form::Stretched(c) => write_char("<mo stretchy=\"true\">", c, "</mo>", out),
+            Form::StretchedParen(paren) => out.push_str(stretched_markup(paren)),
+            _ => unreachable!(),
+        }
     }
 
     /// Writes what a slash strikes through: a letter or an operator shows the slash, no other tree does.

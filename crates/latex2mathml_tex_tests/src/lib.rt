@@ -1,6 +1,9 @@
-//! Tests of `tex_to_mathml`, of a converter, of macros and of the example callers, in addition to what the program shows.
+//! Tests of `tex_to_mathml`, of a converter, of macros, of the example callers and of elements that are built by hand, in
+//! addition to what the program shows.
 #![tactic(auto)]
 
+#[cfg(test)]
+mod elements;
 #[cfg(test)]
 mod formulas;
 #[cfg(test)]

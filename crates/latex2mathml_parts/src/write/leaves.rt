@@ -10,7 +10,7 @@ ghost use Rattle.latex2mathml_tokens.specs.declared.attribute.Variant.TheVariant
 
 use crate::form::Form;
 use crate::kind::Kind;
-use crate::write::fences::Elements;
+use crate::write::fences::paren_markup;
 use crate::write::tables::{
     command_operator_markup, digit_markup, function_markup, greek_markup, letter_markup,
     letter_open, limit_markup, operator_markup, size_open, space_markup,
@@ -30,7 +30,7 @@ pub fn write_leaf(kind: Kind, out: &mut String) -> Result<(), AllocError>
         Kind::Letter(c, variant) => write_letter(c, variant, out),
         Kind::Operator(c) => write_operator(c, out),
         Kind::Number(digits) => write_number(digits, out),
-        Kind::Paren(paren) => out.push_str(Elements::of(paren).plain),
+        Kind::Paren(paren) => out.push_str(paren_markup(paren)),
         Kind::Ampersand => out.push_str("<mtext>[PARSE ERROR: Ampersand]</mtext>"),
         Kind::NewLine => out.push_str("<mtext>[PARSE ERROR: NewLine]</mtext>"),
         Kind::Space(width) => write_space(width, out),

@@ -31,6 +31,7 @@ macro_rules! texts {
 }
 
 /// Returns the markup of an italic letter that is ASCII.
+#[tactic(auto, unfolding(crate::proofs::Encoding::encode_utf8))]
 pub(crate) fn letter_markup(c: char) -> Option<&'static str>
     ensures { IfSome result (λ markup. markup.now ≡ print (letter c Italic)) }
 {
