@@ -29,7 +29,10 @@ fn same_contents(a: &Node, b: &Node) -> bool
 {
     let (kind, value, inner) = a.layer();
     let (other_kind, other_value, other_inner) = b.layer();
-    kind == other_kind && value.is(other_value) && same_inner(inner, other_inner)
+    if kind != other_kind {
+        return false;
+    }
+    value.is(other_value) && same_inner(inner, other_inner)
 }
 
 #[cycle(same)]

@@ -99,9 +99,7 @@ fn write_applied<W: fmt::Write>(name: &str, x: &Node, f: &mut fmt::Formatter<W>)
     ensures { WritesOnOk W.write_str_gives f.old result (print (applied name.now (tree x.now)))
         f.new }
 {
-    f.write_str("<mi>")?;
-    write_content(name, f)?;
-    f.write_str("</mi><mo>&#x2061;</mo>")?;
+    write_text("<mi>", name, "</mi><mo>&#x2061;</mo>", f)?;
     write_node(x, f)
 }
 
@@ -158,9 +156,12 @@ fn write_fenced<W: fmt::Write>(
     ensures { WritesOnOk W.write_str_gives f.old result
         (print (fenced opening.now close.now (tree content.now))) f.new }
 {
-    f.write_str("<mrow><mo stretchy=\"true\" form=\"prefix\">")?;
-    write_content(opening, f)?;
-    f.write_str("</mo>")?;
+    write_text(
+        "<mrow><mo stretchy=\"true\" form=\"prefix\">",
+        opening,
+        "</mo>",
+        f,
+    )?;
     write_node(content, f)?;
     write_text(
         "<mo stretchy=\"true\" form=\"postfix\">",

@@ -1,6 +1,6 @@
-use Rattle.std.proofs.Common.{rules, refl}
+use Rattle.std.proofs.Common.{append_assoc, refl, rules}
 use Rattle.std.proofs.Output.{has_written_append, has_written_of_eq}
-use Rattle.std.proofs.lemmas.Grind.{put_four}
+use Rattle.std.proofs.lemmas.Grind.{put_three, put_two}
 use Rattle.latex2mathml_nodes.proofs.Prints.{one_more}
 use Rattle.latex2mathml_trees.specs.Print.{member_print, members_print, print, prints}
 use Rattle.latex2mathml_nodes.proofs.ast.print.+print.Goals as goal
@@ -15,7 +15,11 @@ write_members-loop-node-preserved g t c = λ plain.
 
 pub write_applied-returns : goal.write_applied-returns
 write_applied-returns g t c = λ plain ok.
-    let name_opened = c.in_ok-write_str.ensures.writes plain refl in
-    let named = c.in_ok-write_content.ensures name_opened.plain refl in
-    let name_closed = c.in_ok-write_str-2.ensures.writes named.plain refl in
-    put_four _ _ _ _ _ _ _ _ _ _ _ name_opened named name_closed (c.write_node.ensures name_closed.plain ok) refl
+    let named = c.in_ok-write_text.ensures plain refl in
+    put_two _ _ _ _ _ _ _ named (c.write_node.ensures named.plain ok) (simp append_assoc)
+
+pub write_fenced-returns : goal.write_fenced-returns
+write_fenced-returns g t c = λ plain ok.
+    let opened = c.in_ok-write_text.ensures plain refl in
+    let filled = c.in_ok-write_node.ensures opened.plain refl in
+    put_three _ _ _ _ _ _ _ _ _ opened filled (c.write_text-2.ensures filled.plain ok) (simp append_assoc)
