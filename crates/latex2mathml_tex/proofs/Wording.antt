@@ -48,6 +48,10 @@ pub not_longer : (more : List ℕ) (xs : List Element) → is_token xs ≡ false
 not_longer more (token t a text ∷ xs) is = cc
 not_longer more xs is = refl
 
+pub as_many : (more : List ℕ) (xs : List Element) → length (lengthened more xs) ≡ length xs
+as_many more (token t a text ∷ xs) = refl
+as_many more xs = refl
+
 pub text_apart : (more : List ℕ) (is_text : Bool) (n : ℕ) (xs : List Element) → (is_text ≡ true → 0 < n → is_token xs ≡ false) → with_text is_text more (take n xs) ≡ token Mtext plain more ∷ take n xs
 text_apart more false n xs apart = refl
 text_apart more true zero xs apart = refl
