@@ -1,6 +1,6 @@
 -- What holds of the parser where a row ends whose elements are put as one.
 use Rattle.std.proofs.Common.{◌≡◌, ◌∙◌, ℕ, ◌+◌, false, ◌∷◌, drop, take, ap, arith}
-use Rattle.std.proofs.lemmas.List.{drop-drop}
+use Rattle.std.proofs.lemmas.List.{drop-drop, length-drop}
 use Rattle.latex2mathml_elements.specs.Element.{Element}
 use Rattle.latex2mathml_builder.specs.Built.{Built, elements_in}
 use Rattle.latex2mathml_tex_grammar.specs.{Atoms.Plain, Atoms.atom, Makes.core, Makes.root, Rows.row_element, Symbols.Ordinary}
@@ -9,8 +9,8 @@ use Rattle.latex2mathml_tex_grammar.specs.Rules as rules
 use Rattle.latex2mathml_tex.specs.{Frames.Start, Frames.context_at, Frames.labeled_arrow, Innermost.frame_context, Levels.Leads}
 use Rattle.latex2mathml_tex_atoms.specs.Models.{context_of, core_with, top}
 use Rattle.latex2mathml_tex_commands.specs.declared.meaning.Style.TheVariants as style
-use Rattle.latex2mathml_tex.specs.Steps.{ClosesRow, Holds, InnermostIs, elements_of, left_of, level, level_within}
-use Rattle.latex2mathml_tex_atoms.specs.declared.{atoms.Context.Context, atoms.Core.Core as CodeCore, atoms.Row.Row as CodeRow, atoms.Words.Words as CodeWords}
+use Rattle.latex2mathml_tex.specs.Steps.{CanMake, ClosesRow, Follows, Holds, InnermostIs, Made, core_made, elements_of, left_of, level, level_within, operand_made, to_do, words_made}
+use Rattle.latex2mathml_tex_atoms.specs.declared.{atoms.Context.Context, atoms.Core.Core as CodeCore, atoms.Operand.Operand as CodeOperand, atoms.Row.Row as CodeRow, atoms.Words.Words as CodeWords}
 use Rattle.latex2mathml_tex.specs.declared.parse.Parser.{Parser}
 use Rattle.latex2mathml_tex.specs.declared.parse.State.TheVariants as state
 use Rattle.latex2mathml_tex.specs.declared.parse.frames.Frame.{Frame}
@@ -23,6 +23,23 @@ use Rattle.latex2mathml_tex.proofs.{Opening.context_is, Wording.drop_more, Wordi
 -- the elements of the row are one element
 abbrev pub IsOne : CodeRow → Parser → Built → Type 0
 IsOne row p b = elements_in b ≡ row_element (take row.count (elements_of p)) ∷ drop row.count (elements_of p)
+
+module _ (p : Parser) (b : Built) (row : CodeRow) (one : IsOne row p b) where
+  -- one element is there in place of those of the row
+  pub closed_can : (m : Made) (n : ℕ) → CanMake m (row.count + n) p → CanMake m (n + 1) (record p { builder = b })
+  closed_can m n can = record {
+    elements = rw one (omega (arith, can.elements, length-drop row.count (elements_of p)));
+    awaits = record { accepted = can.awaits.accepted; nested = can.awaits.nested };
+  }
+
+  pub core_closed_step : (c : CodeCore) → CanMake core_made (row.count + 0) p → Follows (to_do p + 13) (record p { builder = b }) (state.Core c)
+  core_closed_step c can = let made = closed_can core_made 0 can in record { ready = record { elements = made.elements; may_come = made.awaits }; falls = omega arith }
+
+  pub operand_closed_step : (o : CodeOperand) → CanMake operand_made (row.count + 0) p → Follows (to_do p + 13) (record p { builder = b }) (state.Operand o)
+  operand_closed_step o can = let made = closed_can operand_made 0 can in record { ready = record { elements = made.elements; may_come = made.awaits }; falls = omega arith }
+
+  pub words_closed_step : (n : ℕ) → CanMake words_made (row.count + n) p → Follows (to_do p + 13) (record p { builder = b }) (state.Words (record { count = n + 1; ends_in_text = false }))
+  words_closed_step n can = let made = closed_can words_made n can in record { ready = record { elements = made.elements; may_come = made.awaits }; falls = omega arith }
 
 module _ (s : Start) (p : Parser) (b : Built) (place : ℕ) (row : CodeRow) (one : IsOne row p b) where
   none_beside : row.count + 0 ≡ row.count

@@ -3,6 +3,7 @@ pub mod Beginning
 pub mod Beginnings
 pub mod Closing
 pub mod ColoredBoxes
+pub mod Commanded
 pub mod Digits
 pub mod Endings
 pub mod HandingOn
@@ -16,6 +17,7 @@ pub mod Outlining
 pub mod Putting
 pub mod Replacing
 pub mod Resting
+pub mod RowAwaits
 pub mod RowCharacters
 pub mod RowCommands
 pub mod Rows
@@ -25,6 +27,7 @@ pub mod Seconds
 pub mod Spaced
 pub mod TableRules
 pub mod Tabled
+pub mod Taken
 pub mod Values
 pub mod Widths
 pub mod WordRules

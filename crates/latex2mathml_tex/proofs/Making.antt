@@ -1,5 +1,6 @@
 -- What is made of the operands of a command, and of an atom that is struck through.
 use Rattle.std.proofs.Common.{◌≡◌, ℕ, ◌+◌, ◌≤◌, ◌&&◌, IfOk, Result, Ok, Err, Bool, true, false, not, List, [], ◌∷◌, ◌++◌, drop, length, reverse, take, refl, sym, ap, ◌∙◌, arith}
+use Rattle.std.proofs.lemmas.List.{length-drop}
 use Rattle.std.specs.declared.alloc.AllocError.{AllocError}
 use Rattle.latex2mathml_elements.specs.Element.{Element, token}
 use Rattle.latex2mathml_builder.specs.{Built.Built, Built.elements_in, Stacks.is_token, Stacks.lengthened, Stacks.ordered}
@@ -9,7 +10,7 @@ use Rattle.latex2mathml_tex_grammar.specs.Rules.{gives, refuses, slashed, struck
 use Rattle.latex2mathml_tex_commands.specs.Meanings.{class_of, style_of}
 use Rattle.latex2mathml_tex_atoms.specs.{Models.core_with, Models.kind_of, Models.operand_with, Models.top, Shapes.IsPut, Shapes.changed_at}
 use Rattle.latex2mathml_tex.specs.Frames.{Start, last_count, made_of}
-use Rattle.latex2mathml_tex.specs.Steps.{Begins, HasElements, Holds, elements_of, level}
+use Rattle.latex2mathml_tex.specs.Steps.{Begins, CanMake, Follows, HasElements, Holds, core_made, elements_of, level, to_do}
 use Rattle.latex2mathml_tex_commands.specs.declared.meaning.{Class.Class as CodeClass, Style.Style as CodeStyle}
 use Rattle.latex2mathml_tex_atoms.specs.declared.{atoms.Core.Core as CodeCore, atoms.Kind.Kind as CodeKind, atoms.Operand.Operand as CodeOperand}
 use Rattle.latex2mathml_tex.specs.declared.{parse.Parser.Parser, parse.State.State}
@@ -71,7 +72,7 @@ three_reversed (x ∷ y ∷ z ∷ xs) h = refl
 
 -- An atom in place of the uppermost elements
 
-module _ (s : Start) (p : Parser) (last : Last) (operand : CodeOperand) where
+module _ (p : Parser) (last : Last) (operand : CodeOperand) where
   -- the atom of a command whose last operand this is
   abbrev pub made : Core
   made = made_of last (drop 1 (elements_of p)) (operand_with operand (top (elements_of p)))
@@ -79,24 +80,34 @@ module _ (s : Start) (p : Parser) (last : Last) (operand : CodeOperand) where
   abbrev pub below : List Element
   below = drop (last_count last + 1) (elements_of p)
 
-  abbrev pub BeginsMade : Type 0
-  BeginsMade = Begins (gives made) (last_count last + 1) s p
-
-  pub made_put : (b : Built) (c : CodeCore) (x : Element) → elements_in b ≡ x ∷ below → core_with c x ≡ made → BeginsMade → Holds s (record p { builder = b }) (state.Core c)
-  made_put b c x put is g = core_of_words s p b (last_count last + 1) c x made put is g
-
-  pub made_held : (b : Built) (c : CodeCore) → IsPut c made below (elements_in b) → BeginsMade → Holds s (record p { builder = b }) (state.Core c)
-  made_held b c is g = made_put b c made.atom.element is.element is.is g
-
   -- the uppermost element as a base of this class
   abbrev pub base : CodeStyle → CodeClass → Element → Element
   base style class x = element_as (style_of style) (class_of class) (class_of operand.class) x
 
-  pub classed_put : (b : Built) (class : CodeClass) (style : CodeStyle) (answer : Result State AllocError) → last ≡ last_is.Classed class style → 1 ≤ length (elements_of p) → elements_in b ≡ changed_at (base style class) 0 (elements_of p) → IfOk answer (λ st. (c : CodeCore) × (st ≡ state.Core c) × ((x : Element) → core_with c x ≡ classed (class_of class) (operand_with operand x))) → BeginsMade → IfOk answer (Holds s (record p { builder = b }))
-  classed_put b class style (Ok st) e some put (c, is, same) g =
-      let x = base style class (top (elements_of p)) in
-      rw is (made_put b c x (put ∙ rw e (first_changed (base style class) (elements_of p) some)) (rw e (same x)) g)
-  classed_put b class style (Err e) f some put none g = none
+  pub made_step : (b : Built) (c : CodeCore) (x : Element) → elements_in b ≡ x ∷ below → CanMake core_made (last_count last + 1) p → Follows (to_do p + 4) (record p { builder = b }) (state.Core c)
+  made_step b c x put can = record {
+    ready = record {
+      elements = rw put (omega (arith, can.elements, length-drop (last_count last + 1) (elements_of p)));
+      may_come = record { accepted = can.awaits.accepted; nested = can.awaits.nested };
+    };
+    falls = omega arith;
+  }
+
+  module _ (s : Start) where
+    abbrev pub BeginsMade : Type 0
+    BeginsMade = Begins (gives made) (last_count last + 1) s p
+
+    pub made_put : (b : Built) (c : CodeCore) (x : Element) → elements_in b ≡ x ∷ below → core_with c x ≡ made → BeginsMade → Holds s (record p { builder = b }) (state.Core c)
+    made_put b c x put is g = core_of_words s p b (last_count last + 1) c x made put is g
+
+    pub made_held : (b : Built) (c : CodeCore) → IsPut c made below (elements_in b) → BeginsMade → Holds s (record p { builder = b }) (state.Core c)
+    made_held b c is g = made_put b c made.atom.element is.element is.is g
+
+    pub classed_put : (b : Built) (class : CodeClass) (style : CodeStyle) (answer : Result State AllocError) → last ≡ last_is.Classed class style → 1 ≤ length (elements_of p) → elements_in b ≡ changed_at (base style class) 0 (elements_of p) → IfOk answer (λ st. (c : CodeCore) × (st ≡ state.Core c) × ((x : Element) → core_with c x ≡ classed (class_of class) (operand_with operand x))) → BeginsMade → IfOk answer (Holds s (record p { builder = b }))
+    classed_put b class style (Ok st) e some put (c, is, same) g =
+        let x = base style class (top (elements_of p)) in
+        rw is (made_put b c x (put ∙ rw e (first_changed (base style class) (elements_of p) some)) (rw e (same x)) g)
+    classed_put b class style (Err e) f some put none g = none
 
 -- A stroke through the uppermost element
 

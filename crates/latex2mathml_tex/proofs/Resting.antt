@@ -1,6 +1,7 @@
 -- What holds of the parser where a row ends, and where what follows a change begins.
-use Rattle.std.proofs.Common.{◌≡◌, ◌∙◌, ℕ, ◌+◌, ◌-◌, ◌≤◌, List, Some, drop, length, reverse, sym, ap, subst, arith}
+use Rattle.std.proofs.Common.{◌≡◌, ◌∙◌, ℕ, ◌+◌, ◌-◌, ◌≤◌, List, Result, Some, drop, length, reverse, sym, ap, subst, arith}
 use Rattle.std.proofs.lemmas.{Bool.and_parts, List.drop-drop, List.length-drop}
+use Rattle.std.specs.declared.alloc.AllocError.{AllocError}
 use Rattle.latex2mathml_elements.specs.Element.{Element}
 use Rattle.latex2mathml_builder.specs.Built.{Built, elements_in}
 use Rattle.latex2mathml_tex_grammar.specs.{Meaning.Change, Rows.Row}
@@ -18,16 +19,16 @@ use Rattle.latex2mathml_tex_commands.specs.Meanings.{style_of}
 use Rattle.latex2mathml_tex.specs.Innermost.{IsInnermost}
 use Rattle.latex2mathml_tex.specs.Levels.{FollowsChange, Leads, Refuses, RestLeads}
 use Rattle.latex2mathml_tex_atoms.specs.Models.{context_of, row_count, row_with}
-use Rattle.latex2mathml_tex.specs.Steps.{BeginsRest, CanBegin, CanMake, Closes, EndsRow, IsLeft, Follows, HasElements, Holds, NoValue, TookValue, has_none, is_missing, elements_of, left_of, level, row_makes, to_do}
+use Rattle.latex2mathml_tex.specs.Steps.{Advances, BeginsRest, CanBegin, CanMake, Closes, EndsRow, IsLeft, Follows, HasElements, Holds, NoValue, TookValue, has_none, is_missing, elements_of, ending_weight, left_of, level, row_makes, to_do}
 use Rattle.latex2mathml_tex_commands.specs.declared.meaning.Style.{Style as CodeStyle}
 use Rattle.latex2mathml_tex_units.specs.declared.unit.Unit.{Unit as CodeUnit}
 use Rattle.latex2mathml_tex_atoms.specs.declared.{atoms.Context.Context, atoms.Row.Row as CodeRow}
-use Rattle.latex2mathml_tex.specs.declared.parse.Parser.{Parser}
+use Rattle.latex2mathml_tex.specs.declared.{parse.Parser.Parser, parse.State.State}
 use Rattle.latex2mathml_tex.specs.declared.parse.State.TheVariants as state
 use Rattle.latex2mathml_tex.specs.declared.parse.frames.{Ending.Ending, Frame.Frame, Frames.Frames}
 use Rattle.latex2mathml_tex.specs.declared.parse.frames.Ending.TheVariants as ending
 use Rattle.latex2mathml_tex.specs.declared.parse.frames.Frame.TheVariants as frame
-use Rattle.latex2mathml_tex.proofs.{Marks.all_refuse, NoAtom.elements_left, Opening.into_frame, Opening.out_of_frame, Rows.others_await}
+use Rattle.latex2mathml_tex.proofs.{Marks.all_refuse, NoAtom.elements_left, Opening.into_frame, Opening.out_of_frame, Rows.others_await, Rows.step_within, Rows.weighed}
 
 -- The end of a group
 
@@ -113,6 +114,12 @@ module _ (p : Parser) (fr : Frames) (f : Frame) (e : Ending) (at : ℕ) (context
         elements = made.elements;
         awaits = record { accepted = made.awaits.accepted; nested = made.awaits.nested };
       })
+
+  -- less is left to do where the row's frame is put back
+  pub rest_step : (b : Built) (new : Parser) (answer : Result State AllocError) → Advances (ending_weight e + 2) (record p { frames = fr; builder = b }) new answer → Advances 13 p new answer
+  rest_step b new answer step =
+      let brought = weighed p.style p.frames.stack.items others (frame.Row e at context row) at_row in
+      step_within p (record p { frames = fr; builder = b }) new answer (ending_weight e + 2) 13 (omega (arith, brought)) step
 
   module _ (s : Start) (change : Change) (place : ℕ) (g : BeginsRest change place s p) where
     -- where the outcome of the row leads

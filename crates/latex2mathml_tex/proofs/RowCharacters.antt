@@ -1,10 +1,11 @@
 -- Characters that begin atoms in every row.
 use Rattle.std.proofs.Common.{◌≡◌, ◌∙◌, ◌==◌, ◌||◌, ℕ, Bool, true, false, Some, ap, arith, refl}
 use Rattle.std.proofs.lemmas.Bool.Decides.{nat_tests}
+use Rattle.latex2mathml_builder.specs.Built.{Built, elements_in}
 use Rattle.std.specs.Prelude.{not}
 use Rattle.std.specs.Char.{is_ascii_alphabetic, is_ascii_digit}
 use Rattle.std.specs.Str.{byte}
-use Rattle.latex2mathml_tex_grammar.specs.{Next.past_space, Rules.character_rule}
+use Rattle.latex2mathml_tex_grammar.specs.{Next.past_space, Rules.a_number, Rules.character_rule}
 use Rattle.latex2mathml_tex_grammar.specs.Rules as rules
 use Rattle.latex2mathml_tex_grammar.specs.Rules.{WholeText, InBraces, InBrackets, InDollars, InDelimiters, InCell, ByName, ByBrace, ByText}
 use Rattle.latex2mathml_tex_grammar.specs.Starts.{RuleStart, atom_start, ends}
@@ -15,15 +16,15 @@ use Rattle.latex2mathml_tex_units.specs.declared.{input.Input.Input, unit.Unit.U
 use Rattle.latex2mathml_tex_units.specs.declared.unit.Piece.TheVariants as piece
 use Rattle.latex2mathml_tex_grammar.specs.{Commands.symbol_of, Makes.core, Makes.takes_limits, Rules.gives, Symbols.Symbol}
 use Rattle.latex2mathml_tex_grammar.specs.Makes
-use Rattle.latex2mathml_tex_atoms.specs.Models.{kind_of}
+use Rattle.latex2mathml_tex_atoms.specs.{Models.kind_of, Shapes.IsPut}
 use Rattle.latex2mathml_tex_atoms.specs.declared.{atoms.Context.Context, atoms.Core.Core, atoms.Scripts.Scripts}
 use Rattle.latex2mathml_tex.specs.Frames.{Start, ending_of}
 use Rattle.latex2mathml_tex.specs.RowCharacters.{IsRowInnermost, ends_or_marks, is_symbol}
-use Rattle.latex2mathml_tex.specs.Steps.{BeginsIn, Holds, Took, left_of}
+use Rattle.latex2mathml_tex.specs.Steps.{BeginsIn, CanBegin, Holds, Ready, Took, elements_of, left_of}
 use Rattle.latex2mathml_tex.specs.declared.parse.Parser.{Parser}
 use Rattle.latex2mathml_tex.specs.declared.parse.State.TheVariants as state
 use Rattle.latex2mathml_tex.specs.declared.parse.frames.Frame.TheVariants as frame
-use Rattle.latex2mathml_tex.proofs.{Beginning.unit_begins, Beginnings.rule_begun, Operands.core_in_row}
+use Rattle.latex2mathml_tex.proofs.{Beginning.unit_begins, Beginnings.rule_begun, Operands.core_in_row, RowAwaits.row_awaits}
 
 -- none of six tests
 record None6 (a b c d e f : Bool) : Type 0 where
@@ -87,7 +88,17 @@ module _ (p : Parser) (i : Input) (u : Unit) (c : ℕ) (is : u.piece ≡ piece.C
 pub scripts_follow : (p : Parser) (k : Context) → IsRowInnermost p.style p.frames.stack.items k → (c : Core) (scripts : Scripts) → scripts ≡ record { primes = 0; below = false; above = false; is_exchanged = false; limits = c.limits; takes_limits = takes_limits (kind_of c.kind) } → (s : Start) → Holds s p (state.Core c) → Holds s p (state.Atom c scripts)
 scripts_follow p k (e, (place, (row, (others, inner)))) c scripts none s g = core_in_row s p c scripts (frame.Row e place k row) e place k row (others, inner) refl none g
 
--- The rules of letters and signs
+-- the innermost row waits for an atom that was put
+pub scripts_ready : (p : Parser) (b : Built) (k : Context) → IsRowInnermost p.style p.frames.stack.items k → (c : Core) (scripts : Scripts) (made : Makes.Core) → scripts ≡ record { primes = 0; below = false; above = false; is_exchanged = false; limits = c.limits; takes_limits = takes_limits (kind_of c.kind) } → IsPut c made (elements_of p) (elements_in b) → CanBegin 0 p → Ready (record p { builder = b }) (state.Atom c scripts)
+scripts_ready p b k (e, (place, (row, (others, inner)))) c scripts made none put can = record {
+  elements = rw (none, put.element) (omega (arith, can.elements));
+  may_come = let waits = row_awaits p e place row k others inner can in record { accepted = waits.accepted; nested = waits.nested };
+}
+
+-- The rules of digits, letters and signs
+
+pub digit_rule : (k : rules.Context) (c place : ℕ) → is_ascii_digit c ≡ true → character_rule k c place ≡ a_number k c
+digit_rule k c place digit = rw digit refl
 
 -- none of eight tests
 record None8 (a b c d e f g h : Bool) : Type 0 where

@@ -15,7 +15,7 @@ use Rattle.latex2mathml_tex.specs.Frames.{Start, Whole, inside}
 use Rattle.latex2mathml_tex.specs.Levels.{Level, PartMade, WordLeads, words}
 use Rattle.latex2mathml_tex_commands.specs.Meanings.{alphabet_of, style_of}
 use Rattle.latex2mathml_tex_atoms.specs.{Models.core_with, Models.row_with, Models.top, Models.words_with, Shapes.IsPut}
-use Rattle.latex2mathml_tex.specs.Steps.{Begins, BeginsWordOf, CanMake, Follows, Holds, WordGiven, elements_of, left_of, level, to_do, words_made}
+use Rattle.latex2mathml_tex.specs.Steps.{Begins, BeginsWordOf, CanMake, Follows, Holds, WordGiven, core_made, elements_of, left_of, level, to_do, words_made}
 use Rattle.latex2mathml_tex_units.specs.declared.input.Input.{Input}
 use Rattle.latex2mathml_tex_commands.specs.declared.meaning.Alphabet.{Alphabet as CodeAlphabet}
 use Rattle.latex2mathml_tex_atoms.specs.declared.{atoms.Core.Core as CodeCore, atoms.Row.Row as CodeRow, atoms.Words.Words as CodeWords}
@@ -23,7 +23,7 @@ use Rattle.latex2mathml_tex.specs.declared.parse.Parser.{Parser}
 use Rattle.latex2mathml_tex.specs.declared.parse.State.TheVariants as state
 use Rattle.latex2mathml_tex.specs.declared.parse.frames.Frame.{Frame}
 use Rattle.latex2mathml_tex.specs.declared.parse.frames.Frame.TheVariants as frame
-use Rattle.std.proofs.lemmas.List.{reverse-append}
+use Rattle.std.proofs.lemmas.List.{length-drop, reverse-append}
 use Rattle.latex2mathml_tex.specs.Innermost.{IsInnermost, none_begun, on_top}
 use Rattle.latex2mathml_tex_commands.specs.declared.meaning.Style.{Style as CodeStyle}
 use Rattle.latex2mathml_tex.specs.declared.parse.frames.Frames.{Frames}
@@ -47,6 +47,10 @@ below_longer more (suc n) xs some = refl
 pub not_longer : (more : List ℕ) (xs : List Element) → is_token xs ≡ false → lengthened more xs ≡ xs
 not_longer more (token t a text ∷ xs) is = cc
 not_longer more xs is = refl
+
+pub as_many : (more : List ℕ) (xs : List Element) → length (lengthened more xs) ≡ length xs
+as_many more (token t a text ∷ xs) = refl
+as_many more xs = refl
 
 pub text_apart : (more : List ℕ) (is_text : Bool) (n : ℕ) (xs : List Element) → (is_text ≡ true → 0 < n → is_token xs ≡ false) → with_text is_text more (take n xs) ≡ token Mtext plain more ∷ take n xs
 text_apart more false n xs apart = refl
@@ -78,6 +82,15 @@ word_kept s p b ws w e g = record { style = g.style; leads = rw e g.leads }
 
 pub core_of_words : (s : Start) (p : Parser) (b : Built) (n : ℕ) (c : CodeCore) (x : Element) (k : Core) → elements_in b ≡ x ∷ drop n (elements_of p) → core_with c x ≡ k → Begins (gives k) n s p → Holds s (record p { builder = b }) (state.Core c)
 core_of_words s p b n c x k e f g = record { style = g.style; claims = rw (e, f) (given g.leads) }
+
+pub core_of_words_step : (p : Parser) (b : Built) (n : ℕ) (c : CodeCore) (x : Element) → elements_in b ≡ x ∷ drop n (elements_of p) → CanMake core_made n p → Follows (to_do p + 6) (record p { builder = b }) (state.Core c)
+core_of_words_step p b n c x e can = record {
+  ready = record {
+    elements = rw e (omega (arith, can.elements, length-drop n (elements_of p)));
+    may_come = record { accepted = can.awaits.accepted; nested = can.awaits.nested };
+  };
+  falls = omega arith;
+}
 
 pub word_step : (p : Parser) (b : Built) (n : ℕ) (new : CodeWords) (x : Element) → CanMake words_made n p → new.count ≡ n + 1 → elements_in b ≡ x ∷ elements_of p → Follows (to_do p + 13) (record p { builder = b }) (state.Words new)
 word_step p b n new x can one e = record {

@@ -1,6 +1,6 @@
 //! Rows: how each of their atoms begins, how it is put after the others, and how a row ends.
-ghost use Rattle.std.specs.Prelude.{◌≡◌, ◌≢◌, ◌+◌, ◌≤◌, ℕ, false};
-ghost use Rattle.latex2mathml_tex_grammar.specs.{Makes.no_scripts, Meaning.Beside, Rules.character_rule, Rules.meaning_rule, Starts.empty_base, Starts.ends};
+ghost use Rattle.std.specs.Prelude.{◌≡◌, ◌≢◌, ◌+◌, ◌≤◌, ℕ, false, option_map};
+ghost use Rattle.latex2mathml_tex_grammar.specs.{Makes.no_scripts, Meaning.Beside, Rules.character_rule, Rules.meaning_rule, Starts.change_meant, Starts.empty_base, Starts.ends};
 ghost use Rattle.latex2mathml_tex_commands.specs.Meanings.{change_of, meaning_of};
 ghost use Rattle.latex2mathml_tex_units.specs.Taking.{piece_of};
 ghost use Rattle.latex2mathml_tex.specs.Frames.{ending_count, ending_of, Start};
@@ -87,13 +87,12 @@ impl<'a> Parser<'a> {
         let Piece::Command(name) = unit.piece else {
             return self.begin_whole(unit);
         };
-        match commands::look_up(name) {
-            Some(Meaning::Changes(change)) => self.change(change, unit.place),
-            found => {
-                let context = self.frames.innermost(self.style).context();
-                self.command(found, name, unit.place, context)
-            }
+        let found = commands::look_up(name);
+        if let Some(change) = change_by(found) {
+            return self.change(change, unit.place);
         }
+        let context = self.frames.innermost(self.style).context();
+        self.command(found, name, unit.place, context)
     }
 
     /// Begins an atom of a row with this character, which was taken at this place.
@@ -379,6 +378,17 @@ impl<'a> Parser<'a> {
         put_row(&mut self.builder, row.count)?;
         enclose(&mut self.builder, row.high, opening, closing)?;
         Ok(State::Core(Core::new(Kind::Plain(Class::Inner), row.high)))
+    }
+}
+
+/// Returns what a command changes, if the table has a meaning for it that changes what follows.
+#[inline(always)]
+fn change_by(found: Option<Meaning>) -> Option<Change>
+    ensures { option_map change_of result ≡ change_meant (option_map meaning_of found) }
+{
+    match found {
+        Some(Meaning::Changes(change)) => Some(change),
+        _ => None,
     }
 }
 

@@ -1,12 +1,19 @@
 use Rattle.std.proofs.Common.{refl}
 use Rattle.latex2mathml_tex_grammar.specs.Refusal.{MissingArgument, UnopenedBrace, refusal_at}
 use Rattle.latex2mathml_tex_units.specs.declared.unit.Piece.TheVariants as piece
-use Rattle.latex2mathml_tex.proofs.{Beginning.group_begins, Beginning.rule_refused, Beginning.unit_begins, Rows.refused_here}
+use Rattle.latex2mathml_tex.proofs.{Beginning.group_begins, Beginning.rule_refused, Beginning.unit_begins, Commanded.rule_found, Rows.refused_here}
 use Rattle.latex2mathml_tex.proofs.parse.Parser.begin.Goals as goal
 
 pub returns-in-Character-clause-holds : goal.returns-in-Character-clause-holds
 returns-in-Character-clause-holds c = λ s g.
     c.character.ensures.holds s (unit_begins s c.args.self.now c.innermost.result c.context-context.result c.args.unit (piece.Character c.in-Character.c) c.context-context.ensures c.in-Character.is c.innermost.ensures g)
+
+pub returns-in-Command-clause-holds : goal.returns-in-Command-clause-holds
+returns-in-Command-clause-holds c = λ s g.
+    let p = c.args.self.now in
+    let name = c.in-Command.name in
+    let begins = unit_begins s p c.innermost.result c.context-context.result c.args.unit (piece.Command name) c.context-context.ensures c.in-Command.is c.innermost.ensures g in
+    c.command.ensures.holds s (rule_found c.look_up.result name.now c.look_up.ensures s p c.context-context.result c.args.unit.place begins)
 
 pub returns-in-Open-clause-holds : goal.returns-in-Open-clause-holds
 returns-in-Open-clause-holds c = λ s g.

@@ -2,6 +2,7 @@ use Rattle.std.proofs.Common.{◌∙◌, ap, refl, sym}
 use Rattle.latex2mathml_tex_grammar.specs.Starts.{change_by, start_of_mark}
 use Rattle.latex2mathml_tex_units.specs.Taking.{piece_of}
 use Rattle.latex2mathml_tex.proofs.Beginnings.{begins_scripts, divider_begun, rule_begun, scripts_begun, unmarked_begun}
+use Rattle.latex2mathml_tex.proofs.RowAwaits.{row_awaits}
 use Rattle.latex2mathml_tex.proofs.parse.Parser.begin_atom.Goals as goal
 
 pub returns-then-is_divided_by-clause-holds : goal.returns-then-is_divided_by-clause-holds
@@ -22,3 +23,18 @@ returns-in-Prime c = record {
 pub returns-in-Limits-clause-holds : goal.returns-in-Limits-clause-holds
 returns-in-Limits-clause-holds c = λ s t.
     c.begin.ensures.holds s (rule_begun s c.args.self.now c.args.unit c.args.ending c.requires.due c.requires.some t (λ place. c.if-is_divided_by.ensures place ∙ ap (start_of_mark (change_by (piece_of c.args.unit.piece))) (sym c.in-Some.ensures) ∙ rw c.in-Limits.is refl))
+
+pub divider-requires-clause-row : goal.divider-requires-clause-row
+divider-requires-clause-row c =
+    let (place, (row, (k, (others, inner)))) = c.requires.due in
+    row_awaits c.args.self.now c.args.ending place row k others inner c.requires.begin
+
+pub begin_unmarked-requires-clause-row : goal.begin_unmarked-requires-clause-row
+begin_unmarked-requires-clause-row c =
+    let (place, (row, (k, (others, inner)))) = c.requires.due in
+    row_awaits c.args.self.now c.args.ending place row k others inner c.requires.begin
+
+pub begin_scripts-requires-clause-row : goal.begin_scripts-requires-clause-row
+begin_scripts-requires-clause-row c =
+    let (place, (row, (k, (others, inner)))) = c.requires.due in
+    row_awaits c.args.self.now c.args.ending place row k others inner c.requires.begin

@@ -1,4 +1,4 @@
-use Rattle.std.proofs.Common.{◌≡◌, ◌∷◌, [], option_map, true, ap, subst, sym, ◌∙◌}
+use Rattle.std.proofs.Common.{◌≡◌, ◌∷◌, [], option_map, true, ap, subst, sym, ◌∙◌, arith}
 use Rattle.std.specs.Char.{is_ascii_digit}
 use Rattle.latex2mathml_builder.specs.Built.{elements_in}
 use Rattle.latex2mathml_tex_grammar.specs.Makes.{number}
@@ -7,6 +7,7 @@ use Rattle.latex2mathml_tex_commands.specs.Meanings.{alphabet_of}
 use Rattle.latex2mathml_tex_units.specs.Taking.{piece_of}
 use Rattle.latex2mathml_tex.specs.Steps.{elements_of}
 use Rattle.latex2mathml_tex.proofs.Beginning.{digit_taken, group_taken, not_digit_starts, other_starts, other_taken}
+use Rattle.latex2mathml_tex.proofs.Rows.{step_within}
 use Rattle.latex2mathml_tex.proofs.parse.Parser.begin_operand.Goals as goal
 use Rattle.latex2mathml_tex.proofs.parse.Parser.begin_operand.Goals.{in_default-via-in-Character+else-is_ascii_digit, in_default-via-in_default}
 
@@ -33,3 +34,18 @@ returns-in_default-clause-holds c = λ s g.
       | in_default-via-in_default w ↦ other_starts c.args.unit.piece w.in_default.not-Open w.in_default.not-Character c.requires.some
     ] in
     c.begin_whole.ensures.holds s (other_taken s c.args.self.now c.args.unit c.requires.due c.requires.some g starts)
+
+pub deliver_core-requires : goal.deliver_core-requires
+deliver_core-requires c = record {
+  elements = rw c.in_ok-begin_number-in-Character.ensures (omega (arith, c.requires.begin.elements));
+  may_come = record { accepted = c.requires.begin.awaits.accepted; nested = c.requires.begin.awaits.nested };
+}
+
+pub returns-in_ok-begin_number-in-Character-clause-step :
+    goal.returns-in_ok-begin_number-in-Character-clause-step
+returns-in_ok-begin_number-in-Character-clause-step c =
+    let p = c.args.self.now in
+    step_within p (record p { builder = c.begin_number.new.builder }) c.deliver_core.new.self c.deliver_core.result 3 13 (omega arith) c.deliver_core.ensures.step
+
+pub returns-in-Open-clause-step : goal.returns-in-Open-clause-step
+returns-in-Open-clause-step c = step_within c.args.self.now c.args.self.now c.open.new.self c.open.result 6 13 (omega arith) c.open.ensures.step

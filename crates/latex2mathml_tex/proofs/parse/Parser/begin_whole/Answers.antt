@@ -1,4 +1,4 @@
-use Rattle.std.proofs.Common.{◌≡◌, ◌∙◌, IfOk, ap, false, option_map, refl, subst, sym, true}
+use Rattle.std.proofs.Common.{◌≡◌, ◌∙◌, IfOk, ap, false, option_map, refl, subst, sym, true, arith}
 use Rattle.std.specs.Char.{is_ascii_alphabetic, is_ascii_digit}
 use Rattle.latex2mathml_tex_grammar.specs.{Makes.core, Rules.character_rule, Rules.gives}
 use Rattle.latex2mathml_tex_grammar.specs.Makes
@@ -8,6 +8,7 @@ use Rattle.latex2mathml_tex.specs.Steps.{Begins, Holds}
 use Rattle.latex2mathml_tex.specs.declared.parse.State.TheVariants as state
 use Rattle.latex2mathml_tex_units.specs.declared.unit.Piece.TheVariants as piece
 use Rattle.latex2mathml_tex.proofs.{Beginning.unit_begins, Putting.put_held, RuleSteps.begun}
+use Rattle.latex2mathml_tex.proofs.Rows.{step_within}
 use Rattle.latex2mathml_tex.proofs.parse.Parser.begin_whole.Goals as goal
 
 pub returns-clause-holds : goal.returns-clause-holds
@@ -28,3 +29,14 @@ returns-in-Ok-Core-clause-holds c = λ s g.
     let held = subst (λ r. IfOk r (Holds s p)) c.in-Ok-Core.is (c.begin-begun.ensures.holds s g) in
     let is : c.in-Ok-Core.field-0 ≡ state.Core c.in-Ok-Core.core = rw c.in-Ok-Core.is at c.in-Ok-Core.field-0-is in
     c.deliver_core-in-Ok-Core.ensures.holds s (subst (λ state. Holds s p state) is held)
+
+pub deliver_core-requires : goal.deliver_core-requires
+deliver_core-requires c = record {
+  elements = rw c.in_ok-letter.ensures.element (omega (arith, c.requires.begin.elements));
+  may_come = record { accepted = c.requires.begin.awaits.accepted; nested = c.requires.begin.awaits.nested };
+}
+
+pub returns-clause-step : goal.returns-clause-step
+returns-clause-step c =
+    let p = c.args.self.now in
+    step_within p (record p { builder = c.put_letter.new.builder }) c.deliver_core.new.self c.deliver_core.result 3 13 (omega arith) c.deliver_core.ensures.step

@@ -16,7 +16,7 @@ use Rattle.latex2mathml_tex_atoms.specs.Models.{row_count}
 use Rattle.latex2mathml_tex.specs.declared.parse.{Parser.Parser, frames.Frames.Frames}
 use Rattle.latex2mathml_tex.specs.declared.parse.frames.Frame.TheVariants as frame
 use Rattle.latex2mathml_tex.proofs.{Rows.step_within, Rows.weighed, Values.value_fewer}
-use Rattle.latex2mathml_tex.proofs.Resting.{no_color_rest, color_rest, no_rest, rest_begins, rest_can, rest_can_behind}
+use Rattle.latex2mathml_tex.proofs.Resting.{no_color_rest, color_rest, no_rest, rest_begins, rest_can, rest_can_behind, rest_step}
 use Rattle.latex2mathml_tex.proofs.parse.Parser.change.Goals as goal
 
 pub open-requires-in-ToStyle-clause-can : goal.open-requires-in-ToStyle-clause-can
@@ -71,6 +71,18 @@ returns-in_ok-row-in-None-clause-holds c = λ s g.
     let style = c.smaller-style.ensures ∙ ap smaller (c.group_style.ensures (elements_of p)) in
     let same = ap context_of c.styled-in-None.ensures ∙ ap (λ st. in_context st (option_map alphabet_of context.alphabet)) style in
     c.open-in-None.ensures.holds s g.style (rest_begins p c.take.new.self c.take.result c.in-Row.ending c.in-Row.at context row c.take.ensures c.in-Row.is s (change_of c.args.change) c.args.place g c.styled-in-None.result inner new.row (elements_of (record p { builder = c.divide.new.builder })) begun (left_of p) same new.ensures.row new.ensures.below rest)
+
+pub returns-in-ToAlphabet-clause-step : goal.returns-in-ToAlphabet-clause-step
+returns-in-ToAlphabet-clause-step c =
+    rest_step c.args.self.now c.take.new.self c.take.result c.in-Row.ending c.in-Row.at c.in-Row.context c.in-Row.row c.take.ensures c.in-Row.is c.args.self.now.builder c.open.new.self c.open.result c.open.ensures.step
+
+pub returns-in_ok-row-in-ToStyle-clause-step : goal.returns-in_ok-row-in-ToStyle-clause-step
+returns-in_ok-row-in-ToStyle-clause-step c =
+    rest_step c.args.self.now c.take.new.self c.take.result c.in-Row.ending c.in-Row.at c.in-Row.context c.in-Row.row c.take.ensures c.in-Row.is c.restyle.new.builder c.open-in-ToStyle.new.self c.open-in-ToStyle.result c.open-in-ToStyle.ensures.step
+
+pub returns-in_ok-row-in-None-clause-step : goal.returns-in_ok-row-in-None-clause-step
+returns-in_ok-row-in-None-clause-step c =
+    rest_step c.args.self.now c.take.new.self c.take.result c.in-Row.ending c.in-Row.at c.in-Row.context c.in-Row.row c.take.ensures c.in-Row.is c.divide.new.builder c.open-in-None.new.self c.open-in-None.result c.open-in-None.ensures.step
 
 -- the color that was taken, or none
 

@@ -1,4 +1,4 @@
-use Rattle.std.proofs.Common.{◌≡◌, ◌∙◌, Option, Some, option_map, refl, sym}
+use Rattle.std.proofs.Common.{◌≡◌, ◌∙◌, Option, Some, option_map, refl, sym, arith}
 use Rattle.latex2mathml_tex_grammar.specs.Makes
 use Rattle.latex2mathml_tex_grammar.specs.{Refusal.CharacterInWords, Refusal.refusal_at, Symbols.Alphabet, Units.Character}
 use Rattle.latex2mathml_tex_grammar.specs.Words.{Shown, word_character, word_space}
@@ -6,6 +6,7 @@ use Rattle.latex2mathml_tex_units.specs.Errors.{refusal_of}
 use Rattle.latex2mathml_tex_commands.specs.Meanings.{alphabet_of}
 use Rattle.latex2mathml_tex.proofs.WordRules.{character_rule, dollar_rule, formula_begun, no_word_rule, tilde_rule}
 use Rattle.latex2mathml_tex.proofs.Wording.{no_part, stands}
+use Rattle.latex2mathml_tex.proofs.Rows.{refused_step, step_within}
 use Rattle.latex2mathml_tex.proofs.parse.Parser.character_in_words.Goals as goal
 
 pub returns-then-c-eq36-clause-holds : goal.returns-then-c-eq36-clause-holds
@@ -34,3 +35,10 @@ returns-clause-holds c = λ s g.
     let word = Shown (Makes.text (word_character a c.args.c)) in
     let rule = character_rule a c.args.c c.if-c-eq36.false c.if-c-eq126.false (sym c.is_no_word.ensures ∙ c.if-is_no_word.false) in
     c.show-2.ensures.holds s (rw c.word_character.ensures (stands s c.args.self.now c.args.words (Character c.args.c) c.args.place a word rule g))
+
+pub returns-then-c-eq36-clause-step : goal.returns-then-c-eq36-clause-step
+returns-then-c-eq36-clause-step c = step_within c.args.self.now c.args.self.now c.open.new.self c.open.result 6 13 (omega arith) c.open.ensures.step
+
+pub returns-then-is_no_word-clause-step : goal.returns-then-is_no_word-clause-step
+returns-then-is_no_word-clause-step c =
+    refused_step c.args.self.now c.refuse.new.self c.args.self.now.input _ c.refuse.result c.refuse.ensures.parser c.refuse.ensures.state (omega arith) (omega (arith, c.requires.elements))

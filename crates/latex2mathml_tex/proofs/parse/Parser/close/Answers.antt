@@ -1,7 +1,8 @@
-use Rattle.std.proofs.Common.{refl}
-use Rattle.latex2mathml_tex.specs.Steps.{ClosesRow}
+use Rattle.std.proofs.Common.{arith, refl}
+use Rattle.latex2mathml_tex.specs.Steps.{ClosesRow, core_made}
 use Rattle.latex2mathml_tex.specs.declared.parse.frames.Ending.TheVariants as ending
-use Rattle.latex2mathml_tex.proofs.Closing.{arrow_closed, degree_closed, formula_closed, group_closed}
+use Rattle.latex2mathml_tex.proofs.Closing.{arrow_closed, closed_can, core_closed_step, degree_closed, formula_closed, group_closed, operand_closed_step, words_closed_step}
+use Rattle.latex2mathml_tex.proofs.Rows.{step_within}
 use Rattle.latex2mathml_tex.proofs.parse.Parser.close.Goals as goal
 
 pub returns-in_ok-put_row-in-Group-clause-holds : goal.returns-in_ok-put_row-in-Group-clause-holds
@@ -23,3 +24,31 @@ returns-in_ok-put_row-in-BelowArrow-clause-holds c = λ s g.
 pub returns-in_ok-put_row-in-Formula-clause-holds : goal.returns-in_ok-put_row-in-Formula-clause-holds
 returns-in_ok-put_row-in-Formula-clause-holds c = λ s g.
     formula_closed s c.args.self.now c.put_row-in-Formula.new.builder c.args.place c.args.row c.in_ok-put_row-in-Formula.ensures c.in-Formula.words (rw c.in-Formula.is at g)
+
+pub returns-in_ok-put_row-in-Group-clause-step : goal.returns-in_ok-put_row-in-Group-clause-step
+returns-in_ok-put_row-in-Group-clause-step c =
+    core_closed_step c.args.self.now c.put_row.new.builder c.args.row c.in_ok-put_row-in-Group.ensures c.new.result (rw c.in-Group.is at c.requires.can)
+
+pub returns-in_ok-put_row-in-Operand-clause-step : goal.returns-in_ok-put_row-in-Operand-clause-step
+returns-in_ok-put_row-in-Operand-clause-step c =
+    operand_closed_step c.args.self.now c.put_row-in-Operand.new.builder c.args.row c.in_ok-put_row-in-Operand.ensures _ (rw c.in-Operand.is at c.requires.can)
+
+pub returns-in_ok-put_row-in-Formula-clause-step : goal.returns-in_ok-put_row-in-Formula-clause-step
+returns-in_ok-put_row-in-Formula-clause-step c =
+    words_closed_step c.args.self.now c.put_row-in-Formula.new.builder c.args.row c.in_ok-put_row-in-Formula.ensures c.in-Formula.words.count (rw c.in-Formula.is at c.requires.can)
+
+pub open-requires-clause-can : goal.open-requires-clause-can
+open-requires-clause-can c = closed_can c.args.self.now c.put_row-in-Degree.new.builder c.args.row c.in_ok-put_row-in-Degree.ensures core_made 0 (rw c.in-Degree.is at c.requires.can)
+
+pub open-requires-in-BelowArrow-clause-can : goal.open-requires-in-BelowArrow-clause-can
+open-requires-in-BelowArrow-clause-can c = closed_can c.args.self.now c.put_row-in-BelowArrow.new.builder c.args.row c.in_ok-put_row-in-BelowArrow.ensures core_made 1 (rw c.in-BelowArrow.is at c.requires.can)
+
+pub returns-in_ok-put_row-in-Degree-clause-step : goal.returns-in_ok-put_row-in-Degree-clause-step
+returns-in_ok-put_row-in-Degree-clause-step c =
+    let p = c.args.self.now in
+    step_within p (record p { builder = c.put_row-in-Degree.new.builder }) c.open.new.self c.open.result 6 13 (omega arith) c.open.ensures.step
+
+pub returns-in_ok-put_row-in-BelowArrow-clause-step : goal.returns-in_ok-put_row-in-BelowArrow-clause-step
+returns-in_ok-put_row-in-BelowArrow-clause-step c =
+    let p = c.args.self.now in
+    step_within p (record p { builder = c.put_row-in-BelowArrow.new.builder }) c.open-in-BelowArrow.new.self c.open-in-BelowArrow.result 6 13 (omega arith) c.open-in-BelowArrow.ensures.step

@@ -1,6 +1,8 @@
-use Rattle.std.proofs.Common.{ap, arith, refl, sym, ◌∙◌}
+use Rattle.std.proofs.Common.{◌+◌, ap, arith, drop, refl, sym, ◌∙◌}
+use Rattle.std.proofs.lemmas.List.{length-drop}
+use Rattle.latex2mathml_tex.specs.Steps.{core_made, elements_of}
 use Rattle.latex2mathml_tex.specs.Tables.{cell_end_of}
-use Rattle.latex2mathml_tex.proofs.{Rows.step_within, TableRules.broken_step, Tabled.cell_ends, Tabled.cell_parted, Tabled.row_broken}
+use Rattle.latex2mathml_tex.proofs.{Closing.closed_can, Rows.step_within, TableRules.broken_step, Tabled.cell_ends, Tabled.cell_parted, Tabled.row_broken}
 use Rattle.latex2mathml_tex.proofs.parse.Parser.close_cell.Goals as goal
 
 pub returns-in_ok-put_row-in-PartsCells-clause-holds : goal.returns-in_ok-put_row-in-PartsCells-clause-holds
@@ -25,3 +27,27 @@ returns-in-EndsTable-clause-holds c = λ s g.
 pub returns-in-EndsTable-clause-step : goal.returns-in-EndsTable-clause-step
 returns-in-EndsTable-clause-step c =
     step_within c.args.self.now c.args.self.now c.end_cells.new.self c.end_cells.result 5 13 (omega arith) c.end_cells.ensures.step
+
+pub begin_cell-requires : goal.begin_cell-requires
+begin_cell-requires c =
+    let t = c.args.table in
+    let can = closed_can c.args.self.now c.put_row.new.builder c.args.row c.in_ok-put_row-in-PartsCells.ensures core_made (t.cells + t.rows) c.requires.can in
+    record { can = record { elements = omega (arith, can.elements); awaits = record { accepted = can.awaits.accepted; nested = can.awaits.nested } } }
+
+pub returns-in_ok-put_row-in-PartsCells-clause-step : goal.returns-in_ok-put_row-in-PartsCells-clause-step
+returns-in_ok-put_row-in-PartsCells-clause-step c =
+    let p = c.args.self.now in
+    step_within p (record p { builder = c.put_row.new.builder }) c.begin_cell.new.self c.begin_cell.result 6 13 (omega arith) c.begin_cell.ensures.step
+
+pub begin_cell-requires-in-EndsRow : goal.begin_cell-requires-in-EndsRow
+begin_cell-requires-in-EndsRow c =
+    let xs = elements_of c.args.self.now in
+    let cells = c.args.table.cells in
+    let count = c.args.row.count in
+    let can = c.requires.can in
+    record {
+      can = record {
+        elements = rw c.in_ok-put_last-in-EndsRow.ensures (omega (arith, can.elements, length-drop count xs, length-drop cells (drop count xs)));
+        awaits = record { accepted = can.awaits.accepted; nested = can.awaits.nested };
+      };
+    }

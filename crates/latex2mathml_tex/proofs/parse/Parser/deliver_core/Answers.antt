@@ -1,3 +1,6 @@
+use Rattle.std.proofs.Common.{arith, refl}
+use Rattle.latex2mathml_tex.specs.declared.parse.frames.Frame.TheVariants as frame
+use Rattle.latex2mathml_tex.proofs.{Taken.negation_taken, Taken.taken_can, Taken.taken_step, WordStarts.taken_innermost}
 use Rattle.latex2mathml_tex.proofs.Operands.{PutAlone, WaitsIn, core_as_operand, core_in_row, operand_step, others_wait}
 use Rattle.latex2mathml_tex.proofs.parse.Parser.deliver_core.Goals as goal
 
@@ -20,3 +23,27 @@ returns-in_ok-row-in_default-clause-holds c = λ s g.
 pub returns-in_ok-row-in_default-clause-step : goal.returns-in_ok-row-in_default-clause-step
 returns-in_ok-row-in_default-clause-step c =
     operand_step c.args.self.now c.with_atom.new.builder c.args.core c.innermost.result c.context-context.result c.in_ok-row-in_default.row c.innermost.ensures (waits_there c) (put_alone c) c.requires
+
+pub negate-requires : goal.negate-requires
+negate-requires c =
+    let p = c.args.self.now in
+    let fr = c.take.new.self in
+    let f = frame.Negation c.in-Negation.place c.in-Negation.field-1 in
+    let inner = taken_innermost p.style p.frames.stack.items c.in-Negation.ensures.0 fr.stack.items f c.take.result c.in-Negation.ensures.1 c.take.ensures in
+    taken_can p fr f inner 1 1 c.requires.elements c.requires.may_come.nested (omega arith)
+
+pub returns-in-Negation-clause-holds : goal.returns-in-Negation-clause-holds
+returns-in-Negation-clause-holds c = λ s g.
+    let p = c.args.self.now in
+    let fr = c.take.new.self in
+    let f = frame.Negation c.in-Negation.place c.in-Negation.field-1 in
+    let inner = taken_innermost p.style p.frames.stack.items c.in-Negation.ensures.0 fr.stack.items f c.take.result c.in-Negation.ensures.1 c.take.ensures in
+    c.negate.ensures.holds s (negation_taken p fr f inner s c.in-Negation.place c.in-Negation.field-1 c.args.core refl g)
+
+pub returns-in-Negation-clause-step : goal.returns-in-Negation-clause-step
+returns-in-Negation-clause-step c =
+    let p = c.args.self.now in
+    let fr = c.take.new.self in
+    let f = frame.Negation c.in-Negation.place c.in-Negation.field-1 in
+    let inner = taken_innermost p.style p.frames.stack.items c.in-Negation.ensures.0 fr.stack.items f c.take.result c.in-Negation.ensures.1 c.take.ensures in
+    taken_step p fr f inner 4 3 c.negate.new.self c.negate.result (omega arith) c.negate.ensures.step

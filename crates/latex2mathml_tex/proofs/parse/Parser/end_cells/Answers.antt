@@ -1,5 +1,7 @@
-use Rattle.std.proofs.Common.{arith, refl}
+use Rattle.std.proofs.Common.{arith, refl, drop}
 use Rattle.latex2mathml_tex.proofs.Tabled.{row_is_last, row_is_none}
+use Rattle.std.proofs.lemmas.List.{length-drop}
+use Rattle.latex2mathml_tex.specs.Steps.{elements_of}
 use Rattle.latex2mathml_tex.proofs.parse.Parser.end_cells.Goals as goal
 
 pub returns-then-is_no_row-clause-holds : goal.returns-then-is_no_row-clause-holds
@@ -10,3 +12,14 @@ returns-then-is_no_row-clause-holds c = λ s g.
 pub returns-clause-holds : goal.returns-clause-holds
 returns-clause-holds c = λ s g.
     c.end_table-2.ensures.holds s (row_is_last s c.args.self.now c.args.table c.args.count c.args.at g c.put_last.new.builder _ refl c.if-is_no_row.ensures (omega (arith, c.requires.can.elements)) c.in_ok-put_last.ensures)
+
+pub end_table-requires-2-clause-can : goal.end_table-requires-2-clause-can
+end_table-requires-2-clause-can c =
+    let xs = elements_of c.args.self.now in
+    let cells = c.args.table.cells in
+    let count = c.args.count in
+    let can = c.requires.can in
+    record {
+      elements = rw c.in_ok-put_last.ensures (omega (arith, can.elements, length-drop count xs, length-drop cells (drop count xs)));
+      awaits = record { accepted = can.awaits.accepted; nested = can.awaits.nested };
+    }

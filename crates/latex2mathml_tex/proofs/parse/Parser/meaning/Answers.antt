@@ -1,4 +1,4 @@
-use Rattle.std.proofs.Common.{inl, inr, refl, subst}
+use Rattle.std.proofs.Common.{arith, inl, inr, refl, subst}
 use Rattle.latex2mathml_elements.specs.Attributes.{Above}
 use Rattle.latex2mathml_attributes.specs.Names.{side_of, stretch_of}
 use Rattle.latex2mathml_tex_grammar.specs.Makes.{accent, brace, classed, core, group, stack, struck}
@@ -11,7 +11,7 @@ use Rattle.latex2mathml_tex_commands.specs.Meanings.{class_of, style_of}
 use Rattle.latex2mathml_tex_atoms.specs.Models.{context_of}
 use Rattle.latex2mathml_tex.specs.Steps.{Begins, level}
 use Rattle.latex2mathml_tex.specs.declared.parse.frames.First.TheVariants as first
-use Rattle.latex2mathml_tex.proofs.{RuleSteps.begun, RuleSteps.rule_refuses, Leading.operand_due}
+use Rattle.latex2mathml_tex.proofs.{Leading.operand_due, Rows.refused_step, Rows.step_within, RuleSteps.begun, RuleSteps.rule_refuses}
 use Rattle.latex2mathml_tex.proofs.parse.Parser.meaning.Goals as goal
 
 pub returns-in-Skip-clause-holds : goal.returns-in-Skip-clause-holds
@@ -123,3 +123,42 @@ returns-in-LineBreak-clause-holds c = λ s g.
 
 pub returns-in-Substack-clause-holds : goal.returns-in-Substack-clause-holds
 returns-in-Substack-clause-holds c = λ s g. c.begin_substack.ensures.holds s (rw c.in-Substack.is at g)
+
+pub returns-in-Styled-clause-step : goal.returns-in-Styled-clause-step
+returns-in-Styled-clause-step c = step_within c.args.self.now c.args.self.now c.open.new.self c.open.result 6 13 (omega arith) c.open.ensures.step
+
+pub returns-in-Accent-clause-step : goal.returns-in-Accent-clause-step
+returns-in-Accent-clause-step c = step_within c.args.self.now c.args.self.now c.open-in-Accent.new.self c.open-in-Accent.result 6 13 (omega arith) c.open-in-Accent.ensures.step
+
+pub returns-in-Brace-clause-step : goal.returns-in-Brace-clause-step
+returns-in-Brace-clause-step c = step_within c.args.self.now c.args.self.now c.open-in-Brace.new.self c.open-in-Brace.result 6 13 (omega arith) c.open-in-Brace.ensures.step
+
+pub returns-in-Stack-clause-step : goal.returns-in-Stack-clause-step
+returns-in-Stack-clause-step c = step_within c.args.self.now c.args.self.now c.open-in-Stack.new.self c.open-in-Stack.result 10 13 (omega arith) c.open-in-Stack.ensures.step
+
+pub returns-in-StackedRelation-clause-step : goal.returns-in-StackedRelation-clause-step
+returns-in-StackedRelation-clause-step c = step_within c.args.self.now c.args.self.now c.open-in-StackedRelation.new.self c.open-in-StackedRelation.result 10 13 (omega arith) c.open-in-StackedRelation.ensures.step
+
+pub returns-in-Slash-clause-step : goal.returns-in-Slash-clause-step
+returns-in-Slash-clause-step c = step_within c.args.self.now c.args.self.now c.open-in-Slash.new.self c.open-in-Slash.result 6 13 (omega arith) c.open-in-Slash.ensures.step
+
+pub returns-in-Classed-clause-step : goal.returns-in-Classed-clause-step
+returns-in-Classed-clause-step c = step_within c.args.self.now c.args.self.now c.open-in-Classed.new.self c.open-in-Classed.result 6 13 (omega arith) c.open-in-Classed.ensures.step
+
+pub returns-in-Middle-clause-step : goal.returns-in-Middle-clause-step
+returns-in-Middle-clause-step c = refused_step c.args.self.now c.refuse.new.self c.args.self.now.input _ c.refuse.result c.refuse.ensures.parser c.refuse.ensures.state (omega arith) c.requires.begin.elements
+
+pub returns-in-Right-clause-step : goal.returns-in-Right-clause-step
+returns-in-Right-clause-step c = refused_step c.args.self.now c.refuse-in-Right.new.self c.args.self.now.input _ c.refuse-in-Right.result c.refuse-in-Right.ensures.parser c.refuse-in-Right.ensures.state (omega arith) c.requires.begin.elements
+
+pub returns-in-Limits-clause-step : goal.returns-in-Limits-clause-step
+returns-in-Limits-clause-step c = refused_step c.args.self.now c.refuse-in-Limits.new.self c.args.self.now.input _ c.refuse-in-Limits.result c.refuse-in-Limits.ensures.parser c.refuse-in-Limits.ensures.state (omega arith) c.requires.begin.elements
+
+pub returns-in-Changes-clause-step : goal.returns-in-Changes-clause-step
+returns-in-Changes-clause-step c = refused_step c.args.self.now c.refuse-in-Changes.new.self c.args.self.now.input _ c.refuse-in-Changes.result c.refuse-in-Changes.ensures.parser c.refuse-in-Changes.ensures.state (omega arith) c.requires.begin.elements
+
+pub returns-in-EndTable-clause-step : goal.returns-in-EndTable-clause-step
+returns-in-EndTable-clause-step c = refused_step c.args.self.now c.refuse-in-EndTable.new.self c.args.self.now.input _ c.refuse-in-EndTable.result c.refuse-in-EndTable.ensures.parser c.refuse-in-EndTable.ensures.state (omega arith) c.requires.begin.elements
+
+pub returns-in-LineBreak-clause-step : goal.returns-in-LineBreak-clause-step
+returns-in-LineBreak-clause-step c = refused_step c.args.self.now c.refuse-in-LineBreak.new.self c.args.self.now.input _ c.refuse-in-LineBreak.result c.refuse-in-LineBreak.ensures.parser c.refuse-in-LineBreak.ensures.state (omega arith) c.requires.begin.elements

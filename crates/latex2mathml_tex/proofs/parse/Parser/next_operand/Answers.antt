@@ -47,3 +47,17 @@ returns-else-is_no_operand-clause-step c =
     let behind = c.advance.new.self in
     let less = one_less_next (left_of p) i c.skip_space.ensures c.in-Unit.unit (units_at behind) c.in-Unit.is c.advance.ensures in
     step_within p (record p { input = behind }) c.begin_operand.new.self c.begin_operand.result 13 1 (omega (arith, less)) c.begin_operand.ensures.step
+
+pub returns-in-Fault-clause-step : goal.returns-in-Fault-clause-step
+returns-in-Fault-clause-step c =
+    let p = c.args.self.now in
+    let i = c.skip_space.new.self in
+    let q = c.refuse_fault.new.self in
+    refused_next p q i q.refusal c.refuse_fault.result c.refuse_fault.ensures.parser c.refuse_fault.ensures.state (no_more_next (left_of p) i c.skip_space.ensures) c.requires.ready.elements
+
+pub returns-in-End-clause-step : goal.returns-in-End-clause-step
+returns-in-End-clause-step c =
+    let p = c.args.self.now in
+    let i = c.skip_space.new.self in
+    let q = c.refuse.new.self in
+    refused_next p q i q.refusal c.refuse.result (rw c.refuse.ensures.parser refl) c.refuse.ensures.state (no_more_next (left_of p) i c.skip_space.ensures) c.requires.ready.elements

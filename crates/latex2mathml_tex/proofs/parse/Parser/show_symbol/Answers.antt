@@ -1,4 +1,4 @@
-use Rattle.std.proofs.Common.{◌≡◌, None, ap, drop, refl}
+use Rattle.std.proofs.Common.{◌≡◌, ◌+◌, None, ap, drop, false, refl}
 use Rattle.latex2mathml_builder.specs.Built.{elements_in}
 use Rattle.latex2mathml_tex_grammar.specs.{Rows.single, Symbols.InText}
 use Rattle.latex2mathml_tex_grammar.specs.Makes
@@ -7,11 +7,11 @@ use Rattle.latex2mathml_tex_commands.specs.Meanings.{symbol_of}
 use Rattle.latex2mathml_tex_atoms.specs.Models.{row_with}
 use Rattle.latex2mathml_tex.specs.Steps.{elements_of}
 use Rattle.latex2mathml_tex_atoms.specs.declared.atoms.Row.{Row}
-use Rattle.latex2mathml_tex.proofs.Wording.{formula_put, symbol_row}
+use Rattle.latex2mathml_tex.proofs.Wording.{formula_put, symbol_row, word_step}
 use Rattle.latex2mathml_tex.proofs.parse.Parser.show_symbol.Goals as goal
 
-pub returns-clause-holds : goal.returns-clause-holds
-returns-clause-holds c = λ s g.
+pub returns : goal.returns
+returns c =
     let p = c.args.self.now in
     let k = Makes.symbol None (symbol_of c.args.symbol) in
     let put = elements_in c.put_symbol.new.builder in
@@ -20,4 +20,9 @@ returns-clause-holds c = λ s g.
     let zero_count = ap (λ (r : Row). r.count) c.empty.ensures in
     let empty : row_with c.empty.result (drop 1 put) ≡ Rows.empty_row = rw c.empty.ensures refl in
     let e = symbol_row c.in_ok-core.core k (elements_of p) put made whole c.empty.result c.in_ok-row.row c.in_ok-core.ensures zero_count empty c.in_ok-row.ensures.row c.in_ok-row.ensures.below c.in_ok-put_row.ensures in
-    formula_put s p c.put_row.new.builder c.args.words (single InText k.atom).element e g
+    let n = c.args.words.count in
+    let x = (single InText k.atom).element in
+    record {
+      holds = λ s g. formula_put s p c.put_row.new.builder c.args.words x e g;
+      step = word_step p c.put_row.new.builder n (record { count = n + 1; ends_in_text = false }) x c.requires refl e;
+    }

@@ -8,6 +8,7 @@ use Rattle.latex2mathml_tex_commands.specs.declared.meaning.Style.TheVariants as
 use Rattle.latex2mathml_tex_atoms.specs.declared.atoms.Context.{Context}
 use Rattle.latex2mathml_tex.specs.declared.parse.Parser.{Parser}
 use Rattle.latex2mathml_tex.specs.declared.parse.frames.Frame.TheVariants as frame
+use Rattle.latex2mathml_tex.proofs.Rows.{refused_step}
 use Rattle.latex2mathml_tex.proofs.Marks.{MarkPut, TookIt, above_put, below_put, limits_refused, limits_taken, prime_refused, prime_taken, primes_are_put, script_opened, script_refused}
 use Rattle.latex2mathml_tex.proofs.parse.Parser.take_mark.Goals as goal
 use Rattle.latex2mathml_tex.proofs.parse.Parser.take_mark.Goals.{in-Above+then-scripts-gt0+in_ok-put_primes-in-Script, in_default, in_default-via-in-Below-1, in_default-via-in-Above+else-scripts-gt0}
@@ -55,3 +56,21 @@ returns-after-side-clause-holds c = λ s g.
       ]
     ] in
     c.open.ensures.holds s due.0 due.1
+
+pub returns-then-not-scripts-clause-step : goal.returns-then-not-scripts-clause-step
+returns-then-not-scripts-clause-step c =
+    refused_step c.args.self.now c.refuse.new.self c.args.self.now.input _ c.refuse.result c.refuse.ensures.parser c.refuse.ensures.state (omega arith) (omega (arith, c.requires.elements))
+
+pub returns-then-scripts-clause-step : goal.returns-then-scripts-clause-step
+returns-then-scripts-clause-step c =
+    refused_step c.args.self.now c.refuse-then-scripts.new.self c.args.self.now.input _ c.refuse-then-scripts.result c.refuse-then-scripts.ensures.parser c.refuse-then-scripts.ensures.state (omega arith) (omega (arith, c.requires.elements))
+
+pub returns-then-has-clause-step : goal.returns-then-has-clause-step
+returns-then-has-clause-step c =
+    refused_step c.args.self.now c.refuse-then-has.new.self c.args.self.now.input _ c.refuse-then-has.result c.refuse-then-has.ensures.parser c.refuse-then-has.ensures.state (omega arith) (omega (arith, c.requires.elements))
+
+pub returns-else-not-scripts-clause-step : goal.returns-else-not-scripts-clause-step
+returns-else-not-scripts-clause-step c = record { ready = record { elements = c.requires.elements; may_come = c.requires.awaits }; falls = omega arith }
+
+pub returns-in-Some-clause-step : goal.returns-in-Some-clause-step
+returns-in-Some-clause-step c = record { ready = record { elements = c.requires.elements; may_come = c.requires.awaits }; falls = omega arith }

@@ -3,7 +3,7 @@ use Rattle.latex2mathml_tex_grammar.specs.Refusal.{MissingArgument, refusal_at}
 use Rattle.latex2mathml_tex_grammar.specs.Units.{End, Next, Stop}
 use Rattle.latex2mathml_tex_units.specs.{Errors.refusal_of, Left.put_back, Left.unit_count, Left.units_at, Left.units_behind, Taking.kind_of, Taking.piece_of, Taking.unit_of}
 use Rattle.latex2mathml_tex.specs.Steps.{left_of}
-use Rattle.latex2mathml_tex.proofs.{Rows.step_within, WordStarts.none_at_end, WordStarts.none_at_stop, WordStarts.none_in_braces, WordStarts.word_begins}
+use Rattle.latex2mathml_tex.proofs.{Rows.refused_within, Rows.step_within, WordStarts.none_at_end, WordStarts.none_at_stop, WordStarts.none_in_braces, WordStarts.word_begins}
 use Rattle.latex2mathml_tex.proofs.parse.Parser.word.Goals as goal
 
 pub returns-in-Close-clause-holds : goal.returns-in-Close-clause-holds
@@ -42,3 +42,15 @@ returns-in_default c =
       holds = λ s h. c.begin_word.ensures.holds s (word_begins s p c.args.words c.args.place c.args.alphabet h i u stands);
       step = step_within p (record p { input = i }) c.begin_word.new.self c.begin_word.result 13 1 (omega (arith, left)) c.begin_word.ensures.step;
     }
+
+pub returns-in-Close-clause-step : goal.returns-in-Close-clause-step
+returns-in-Close-clause-step c =
+    refused_within c.args.self.now c.refuse-in-Close.new.self c.args.self.now.input _ c.refuse-in-Close.result c.refuse-in-Close.ensures.parser c.refuse-in-Close.ensures.state 1 (omega arith) (omega arith) (omega (arith, c.requires.elements))
+
+pub returns-in-Fault-clause-step : goal.returns-in-Fault-clause-step
+returns-in-Fault-clause-step c =
+    refused_within c.args.self.now c.refuse_fault.new.self c.args.self.now.input _ c.refuse_fault.result c.refuse_fault.ensures.parser c.refuse_fault.ensures.state 1 (omega arith) (omega arith) (omega (arith, c.requires.elements))
+
+pub returns-in-End-clause-step : goal.returns-in-End-clause-step
+returns-in-End-clause-step c =
+    refused_within c.args.self.now c.refuse.new.self c.args.self.now.input _ c.refuse.result c.refuse.ensures.parser c.refuse.ensures.state 1 (omega arith) (omega arith) (omega (arith, c.requires.elements))

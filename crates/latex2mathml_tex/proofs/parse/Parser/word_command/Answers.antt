@@ -10,6 +10,7 @@ use Rattle.latex2mathml_tex_commands.specs.Meanings.{alphabet_of, symbol_of}
 use Rattle.latex2mathml_tex_commands.specs.declared.meaning.Change.TheVariants as code_change
 use Rattle.latex2mathml_tex_commands.specs.declared.meaning.Meaning.TheVariants as code_meaning
 use Rattle.latex2mathml_tex_units.proofs.Nexts.{no_more_past_space}
+use Rattle.latex2mathml_tex.proofs.Rows.{refused_step}
 use Rattle.latex2mathml_tex.proofs.WordRules.{IsNoWord, command_meant, command_refused, command_step, character_shown, not_in_words, other_change, unknown}
 use Rattle.latex2mathml_tex.proofs.Wording.{in_alphabet_due, no_part, stands, words_stay}
 use Rattle.latex2mathml_tex.proofs.parse.Parser.word_command.Goals as goal
@@ -107,3 +108,10 @@ returns-in_ok-name-in-None-clause-holds c = λ s g.
     rw c.refuse.ensures.parser (ap (λ t. Some (refusal_at (UnknownCommand t) c.args.place)) c.in_ok-name-in-None.ensures.ok) in
     let rule = unknown a name (sym c.in_default.ensures) c.in-None.ensures in
     rw c.refuse.ensures.state (no_part s p c.args.words (Command name) c.args.place a q (UnknownCommand name) (rw c.refuse.ensures.parser refl) reason rule g)
+
+pub returns-in-ToAlphabet-clause-step : goal.returns-in-ToAlphabet-clause-step
+returns-in-ToAlphabet-clause-step c = record { ready = record { elements = c.requires.elements; may_come = c.requires.awaits }; falls = omega arith }
+
+pub returns-in_ok-name-in-None-clause-step : goal.returns-in_ok-name-in-None-clause-step
+returns-in_ok-name-in-None-clause-step c =
+    refused_step c.args.self.now c.refuse.new.self c.args.self.now.input _ c.refuse.result c.refuse.ensures.parser c.refuse.ensures.state (omega arith) (omega (arith, c.requires.elements))
