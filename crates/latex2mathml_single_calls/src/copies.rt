@@ -1,7 +1,7 @@
 //! Copies of values that hold texts.
 
 use crate::nodes::every_kind;
-use crate::{BEGINNING, END, mark};
+use crate::{BEGINNING, end, mark};
 use latex2mathml::LatexError;
 use latex2mathml::token::Token;
 use std::alloc::{AllocError, Global};
@@ -22,41 +22,41 @@ fn refusal(alloc: Global) -> Result<LatexError, AllocError> {
     })
 }
 
-/// Prints whether a copy equals its source, or why there is none.
+/// Marks the beginning of the call that copies the value, and returns the value.
+fn begin<T: Drop>(alloc: Global, source: T) -> Result<T, AllocError> {
+    mark(alloc, BEGINNING)?;
+    Ok(source)
+}
+
+/// Marks the end of the call, and prints whether the copy equals its source, or why there is none.
 fn compare<T: PartialEq + Drop>(
     rt: &HostRuntime,
-    source: &T,
+    source: T,
     copy: Result<T, AllocError>,
 ) -> io::Result<()> {
-    match copy {
-        Ok(copy) if copy == *source => println!(rt; "answer: equal"),
+    match end(rt.alloc(), copy)? {
+        Ok(copy) if copy == source => println!(rt; "answer: equal"),
         Ok(_) => println!(rt; "answer: different"),
         Err(refusal) => println!(rt; "refusal: {refusal}"),
     }
 }
 
 fn copy_node(rt: &HostRuntime) -> io::Result<()> {
-    let source = every_kind(rt.alloc())?;
-    mark(rt.alloc(), BEGINNING)?;
+    let source = begin(rt.alloc(), every_kind(rt.alloc())?)?;
     let copy = source.clone(rt.alloc());
-    mark(rt.alloc(), END)?;
-    compare(rt, &source, copy)
+    compare(rt, source, copy)
 }
 
 fn copy_token(rt: &HostRuntime) -> io::Result<()> {
-    let source = token(rt.alloc())?;
-    mark(rt.alloc(), BEGINNING)?;
+    let source = begin(rt.alloc(), token(rt.alloc())?)?;
     let copy = source.clone(rt.alloc());
-    mark(rt.alloc(), END)?;
-    compare(rt, &source, copy)
+    compare(rt, source, copy)
 }
 
 fn copy_refusal(rt: &HostRuntime) -> io::Result<()> {
-    let source = refusal(rt.alloc())?;
-    mark(rt.alloc(), BEGINNING)?;
+    let source = begin(rt.alloc(), refusal(rt.alloc())?)?;
     let copy = source.clone(rt.alloc());
-    mark(rt.alloc(), END)?;
-    compare(rt, &source, copy)
+    compare(rt, source, copy)
 }
 
 /// Copies the value that the word names, and returns whether it names one.

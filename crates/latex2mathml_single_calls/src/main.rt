@@ -27,8 +27,17 @@ fn mark(alloc: Global, size: usize) -> Result<(), AllocError> {
     Ok(())
 }
 
+/// Marks the end of a call, and returns its answer.
+fn end<T: Drop>(alloc: Global, answer: T) -> Result<T, AllocError> {
+    mark(alloc, END)?;
+    Ok(answer)
+}
+
 /// Prints an answer.
-fn tell<T: Display, E: Display>(rt: &HostRuntime, answer: &Result<T, E>) -> io::Result<()> {
+fn tell<T: Display + Drop, E: Display + Drop>(
+    rt: &HostRuntime,
+    answer: Result<T, E>,
+) -> io::Result<()> {
     match answer {
         Ok(answer) => println!(rt; "answer: {answer}"),
         Err(refusal) => println!(rt; "refusal: {refusal}"),
@@ -38,17 +47,17 @@ fn tell<T: Display, E: Display>(rt: &HostRuntime, answer: &Result<T, E>) -> io::
 fn formula(rt: &HostRuntime, latex: &str) -> io::Result<()> {
     mark(rt.alloc(), BEGINNING)?;
     let answer = latex_to_mathml(rt.alloc(), latex, DisplayStyle::Inline);
-    mark(rt.alloc(), END)?;
-    tell(rt, &answer)
+    tell(rt, end(rt.alloc(), answer)?)
 }
 
 /// Prints the answer, and its tokens and frames if it is not a refusal.
 fn counted_formula(rt: &HostRuntime, latex: &str) -> io::Result<()> {
     mark(rt.alloc(), BEGINNING)?;
-    let (answer, steps) = latex_to_mathml_counted(rt.alloc(), latex, DisplayStyle::Block);
-    mark(rt.alloc(), END)?;
-    tell(rt, &answer)?;
-    if answer.is_ok() {
+    let counted = latex_to_mathml_counted(rt.alloc(), latex, DisplayStyle::Block);
+    let (answer, steps) = end(rt.alloc(), counted)?;
+    let is_markup = answer.is_ok();
+    tell(rt, answer)?;
+    if is_markup {
         println!(rt; "{} tokens, {} frames", steps.tokens, steps.frames)?;
     }
     Ok(())
@@ -57,7 +66,7 @@ fn counted_formula(rt: &HostRuntime, latex: &str) -> io::Result<()> {
 /// Prints the answer or the refusal, and the steps that it took.
 fn steps(rt: &HostRuntime, latex: &str) -> io::Result<()> {
     let (answer, steps) = latex_to_mathml_counted(rt.alloc(), latex, DisplayStyle::Inline);
-    tell(rt, &answer)?;
+    tell(rt, answer)?;
     println!(rt;
         "{} tokens, {} frames, {} comparisons",
         steps.tokens, steps.frames, steps.comparisons
@@ -68,8 +77,7 @@ fn tex_formula(rt: &HostRuntime, tex: &str) -> io::Result<()> {
     let macros = Macros::new(rt.alloc());
     mark(rt.alloc(), BEGINNING)?;
     let answer = tex_to_mathml(rt.alloc(), &macros, tex, DisplayStyle::Inline);
-    mark(rt.alloc(), END)?;
-    tell(rt, &answer)
+    tell(rt, end(rt.alloc(), answer)?)
 }
 
 /// Returns what a converter answers for a formula in a line of text.
@@ -84,23 +92,29 @@ fn converted<'a>(
     Ok(text)
 }
 
-/// Prints the answers of one converter to a formula, and then twice to a second one: memory may be refused only in the
-/// first of these two calls.
+/// Prints the answers of the converter to a formula, twice: memory may be refused only in the first of these two calls.
+fn formula_twice<'a>(
+    rt: &HostRuntime,
+    converter: &mut Converter<'a>,
+    tex: &'a str,
+) -> io::Result<()> {
+    mark(rt.alloc(), BEGINNING)?;
+    let answer = converted(rt.alloc(), converter, tex);
+    tell(rt, end(rt.alloc(), answer)?)?;
+    tell(rt, converted(rt.alloc(), converter, tex))
+}
+
+/// Prints the answers of one converter to a formula, and then twice to a second one.
 fn tex_formulas<'a>(rt: &HostRuntime, first: &'a str, second: &'a str) -> io::Result<()> {
     let mut converter = Converter::new(rt.alloc());
-    tell(rt, &converted(rt.alloc(), &mut converter, first))?;
-    mark(rt.alloc(), BEGINNING)?;
-    let answer = converted(rt.alloc(), &mut converter, second);
-    mark(rt.alloc(), END)?;
-    tell(rt, &answer)?;
-    tell(rt, &converted(rt.alloc(), &mut converter, second))
+    tell(rt, converted(rt.alloc(), &mut converter, first))?;
+    formula_twice(rt, &mut converter, second)
 }
 
 fn document(rt: &HostRuntime, input: &str) -> io::Result<()> {
     mark(rt.alloc(), BEGINNING)?;
     let answer = replace(rt.alloc(), input);
-    mark(rt.alloc(), END)?;
-    tell(rt, &answer)
+    tell(rt, end(rt.alloc(), answer)?)
 }
 
 /// Prints the answer for a document that is read.
@@ -108,11 +122,10 @@ fn read(rt: &HostRuntime, input: &str) -> io::Result<()> {
     let mut source = Stream::new(input.as_bytes());
     mark(rt.alloc(), BEGINNING)?;
     let reading = read_document(rt.alloc(), &mut source);
-    mark(rt.alloc(), END)?;
-    match reading {
+    match end(rt.alloc(), reading)? {
         Ok(Reading::Changed(answer)) => println!(rt; "changed: {answer}"),
         Ok(Reading::Unchanged(text)) => println!(rt; "unchanged: {text}"),
-        Err(fault) => tell::<&str, FileFault>(rt, &Err(fault)),
+        Err(fault) => tell::<&str, FileFault>(rt, Err(fault)),
     }
 }
 
@@ -120,8 +133,7 @@ fn read(rt: &HostRuntime, input: &str) -> io::Result<()> {
 fn files(rt: &HostRuntime, path: &str) -> io::Result<()> {
     mark(rt.alloc(), BEGINNING)?;
     let unconverted = convert_html(rt, rt.alloc(), path);
-    mark(rt.alloc(), END)?;
-    match unconverted {
+    match end(rt.alloc(), unconverted)? {
         Ok(unconverted) => {
             for one in &unconverted {
                 println!(rt; "{}: {}", one.path, one.fault)?;

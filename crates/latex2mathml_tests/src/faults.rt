@@ -1,5 +1,6 @@
 //! Tests of the texts of faults.
 
+use crate::checks::prints;
 use latex2mathml::{FileFault, LatexError, WriteCause};
 use std::test::Fail;
 
@@ -35,10 +36,7 @@ fn fault(number: usize) -> FileFault {
 #[test]
 fn faults(rt: HostRuntime) -> Result<(), Fail> {
     for (number, text) in FAULTS.iter().enumerate() {
-        assert!(rt;
-            fault(number).to_string(rt.alloc())?.as_str() == *text,
-            "{text}"
-        );
+        assert!(rt; prints(rt.alloc(), fault(number), text)?, "{text}");
     }
     Ok(())
 }

@@ -1,9 +1,11 @@
 //! Tests of each call that reads or writes, and of the text of a fault, at small and at large sizes. Each call succeeds if
 //! there is memory.
 
+use crate::checks::are_equal;
 use crate::streams::stream;
 use latex2mathml::{FileFault, LatexError, Sink, Source, write_document};
 use std::alloc::{AllocError, Global};
+use std::fmt::Display;
 use std::io;
 use std::io::{Read, Write};
 use std::test::Fail;
@@ -31,20 +33,28 @@ fn is_repeated(text: &str, before: &str, part: &str, count: usize, after: &str) 
     rest == after
 }
 
+/// Whether the value prints as these texts, with `part` repeated `count` times between them.
+fn prints_repeated<T: Display + Drop>(
+    alloc: Global,
+    value: T,
+    before: &str,
+    part: &str,
+    count: usize,
+    after: &str,
+) -> Result<bool, AllocError> {
+    let printed = value.to_string(alloc)?;
+    Ok(is_repeated(printed.as_str(), before, part, count, after))
+}
+
 /// Sizes around a page of memory, and beyond what a buffer or a limit would hold.
 const SIZES: [usize; 4] = [1, 4096, 4097, 8 << 20];
 
 /// Whether a fault whose refusal has a text of this length prints.
 fn fault_is_told(alloc: Global, size: usize) -> Result<bool, AllocError> {
-    let fault = FileFault::Refused(LatexError::UnknownEnvironment(repeat(alloc, 'z', size)?));
-    let said = fault.to_string(alloc)?;
-    Ok(is_repeated(
-        said.as_str(),
-        "An unknown environment \"",
-        "z",
-        size,
-        "\" is found",
-    ))
+    let refusal = LatexError::UnknownEnvironment(repeat(alloc, 'z', size)?);
+    let before = "An unknown environment \"";
+    let after = "\" is found";
+    prints_repeated(alloc, FileFault::Refused(refusal), before, "z", size, after)
 }
 
 #[test]
@@ -100,7 +110,8 @@ fn text_is_written(alloc: Global, size: usize) -> Result<bool, AllocError> {
     let text = repeat(alloc, 'x', size)?;
     let mut sink = stream(Pipe::new());
     let ended = write_document(&mut sink, text.as_str());
-    Ok(ended == Ok(()) && sink.inner.taken == size as u64 && sink.inner.calls == 1)
+    let is_done = are_equal(ended, Ok(()));
+    Ok(is_done && sink.inner.taken == size as u64 && sink.inner.calls == 1)
 }
 
 #[test]

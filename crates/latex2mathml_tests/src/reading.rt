@@ -1,5 +1,6 @@
 //! Tests of documents from readers that give a few bytes per call, or fail.
 
+use crate::checks::is_error;
 use crate::streams::{Reader, stream};
 use latex2mathml::{FileFault, LatexError, Reading, read_document};
 use std::alloc::Global;
@@ -55,10 +56,7 @@ fn comes_to(alloc: Global, bytes: &[u8], calls: usize, fault: &FileFault) -> boo
         step: 1,
         calls_left: calls,
     });
-    let is_due = match read_document(alloc, &mut from) {
-        Ok(_) => false,
-        Err(found) => found == *fault,
-    };
+    let is_due = is_error(read_document(alloc, &mut from), fault);
     let has_failed = *fault == FileFault::Read;
     is_due && from.failed == has_failed && from.ended != has_failed
 }

@@ -1,6 +1,7 @@
 //! Macros that a formula uses, and texts that define them.
 
-use latex2mathml_tex::{DisplayStyle, Macros, tex_to_mathml};
+use crate::checks::expect_text;
+use latex2mathml_tex::{DisplayStyle, Macros, TexError, tex_to_mathml};
 use std::alloc::Global;
 use std::test::Fail;
 
@@ -12,108 +13,111 @@ fn refusal(alloc: Global, definitions: &str) -> Result<String, Fail> {
     }
 }
 
-/// Whether a formula that uses what was defined is drawn like another one, which has no macros.
-fn is_drawn_as(
+/// Returns the markup of a formula that uses what was defined.
+fn drawn(alloc: Global, definitions: &'static str, tex: &'static str) -> Result<String, TexError> {
+    let macros = Macros::read(alloc, definitions)?;
+    tex_to_mathml(alloc, &macros, tex, DisplayStyle::Inline)
+}
+
+/// Returns the markup of a formula to which nothing was defined.
+fn drawn_alone(alloc: Global, tex: &'static str) -> Result<String, TexError> {
+    let macros = Macros::new(alloc);
+    tex_to_mathml(alloc, &macros, tex, DisplayStyle::Inline)
+}
+
+/// Fails unless a formula that uses what was defined is drawn like another one, which has no macros.
+fn expect_drawn_as(
     alloc: Global,
     definitions: &'static str,
     tex: &'static str,
     other: &'static str,
-) -> Result<bool, Fail> {
-    let macros = Macros::read(alloc, definitions)?;
-    let markup = tex_to_mathml(alloc, &macros, tex, DisplayStyle::Inline)?;
-    let usual = Macros::new(alloc);
-    let expected = tex_to_mathml(alloc, &usual, other, DisplayStyle::Inline)?;
-    Ok(markup == expected)
+) -> Result<(), Fail> {
+    let expected = drawn_alone(alloc, other)?;
+    expect_text(drawn(alloc, definitions, tex), expected.as_str())
 }
+
+/// Definitions, a formula that uses them, and one that is drawn like it.
+static USES: [(&str, &str, &str); 5] = [
+    ("\\newcommand{\\R}{\\mathbb{R}}", "\\R^2", "\\mathbb{R}^2"),
+    (
+        "\\def\\norm#1{\\lVert #1\\rVert}",
+        "\\norm{x+y}_2",
+        "\\lVert x+y\\rVert_2",
+    ),
+    ("\\newcommand\\pair[2]{(#2,#1)}", "\\pair ab", "(b,a)"),
+    (
+        "\\DeclareMathOperator*{\\argmax}{arg\\,max}",
+        "\\argmax_x",
+        "\\operatorname*{arg\\,max}_x",
+    ),
+    ("% none\n", "a \\pmod n", "a\\quad(\\operatorname{mod}\\;n)"),
+];
 
 #[test]
 fn uses(rt: HostRuntime) -> Result<(), Fail> {
-    let alloc = rt.alloc();
-    assert!(rt;
-        is_drawn_as(
-            alloc,
-            "\\newcommand{\\R}{\\mathbb{R}}",
-            "\\R^2",
-            "\\mathbb{R}^2"
-        )?
-    );
-    assert!(rt;
-        is_drawn_as(
-            alloc,
-            "\\def\\norm#1{\\lVert #1\\rVert}",
-            "\\norm{x+y}_2",
-            "\\lVert x+y\\rVert_2"
-        )?
-    );
-    assert!(rt;
-        is_drawn_as(
-            alloc,
-            "\\newcommand\\pair[2]{(#2,#1)}",
-            "\\pair ab",
-            "(b,a)"
-        )?
-    );
-    assert!(rt;
-        is_drawn_as(
-            alloc,
-            "\\DeclareMathOperator*{\\argmax}{arg\\,max}",
-            "\\argmax_x",
-            "\\operatorname*{arg\\,max}_x"
-        )?
-    );
-    assert!(rt;
-        is_drawn_as(
-            alloc,
-            "% none\n",
-            "a \\pmod n",
-            "a\\quad(\\operatorname{mod}\\;n)"
-        )?
-    );
+    for (definitions, tex, other) in &USES {
+        expect_drawn_as(rt.alloc(), *definitions, *tex, *other)?;
+    }
     Ok(())
 }
+
+/// Definitions in texts of definitions and in formulas.
+static DEFINITIONS: [(&str, &str, &str); 6] = [
+    ("\\def\\a{x} \\newcommand{\\b}{\\a\\a}", "\\b", "xx"),
+    ("\\def\\a{x}\\renewcommand{\\a}{y}", "\\a", "y"),
+    ("\\def\\a{x}\\providecommand{\\a}{y}", "\\a", "x"),
+    ("\\def\\a{x}", "\\a\\def\\a{y}\\a", "xy"),
+    ("\\def\\alpha{z}", "\\alpha", "z"),
+    ("", "\\def\\sq#1{#1^2}\\sq x+\\sq{ab}", "x^2+ab^2"),
+];
 
 #[test]
 fn definitions(rt: HostRuntime) -> Result<(), Fail> {
-    let alloc = rt.alloc();
-    assert!(rt; is_drawn_as(alloc, "\\def\\a{x} \\newcommand{\\b}{\\a\\a}", "\\b", "xx")?);
-    assert!(rt; is_drawn_as(alloc, "\\def\\a{x}\\renewcommand{\\a}{y}", "\\a", "y")?);
-    assert!(rt; is_drawn_as(alloc, "\\def\\a{x}\\providecommand{\\a}{y}", "\\a", "x")?);
-    assert!(rt; is_drawn_as(alloc, "\\def\\a{x}", "\\a\\def\\a{y}\\a", "xy")?);
-    assert!(rt; is_drawn_as(alloc, "\\def\\alpha{z}", "\\alpha", "z")?);
-    assert!(rt; is_drawn_as(alloc, "", "\\def\\sq#1{#1^2}\\sq x+\\sq{ab}", "x^2+ab^2")?);
+    for (definitions, tex, other) in &DEFINITIONS {
+        expect_drawn_as(rt.alloc(), *definitions, *tex, *other)?;
+    }
     Ok(())
 }
 
+/// Texts of definitions, and the texts of their errors.
+static REFUSALS: [(&str, &str); 7] = [
+    ("\\def\\a{x} x", "not a definition at 10"),
+    ("\\newcommand{\\a", "{ is not closed at 11"),
+    (" \\newcommand{a}{x}", "no name to define at 1"),
+    (
+        "\\newcommand{\\a}[2]{#3}",
+        "a body has no such argument at 0",
+    ),
+    (
+        "\\newcommand{\\a}[1][x]{#1}",
+        "optional arguments are not read at 0",
+    ),
+    (
+        "\\def\\a#1,{#1}",
+        "an argument up to a sign is not read at 0",
+    ),
+    ("\\def\\a#2{x}", "wrong parameters of a definition at 0"),
+];
+
 #[test]
 fn refusals(rt: HostRuntime) -> Result<(), Fail> {
-    let alloc = rt.alloc();
-    let text = refusal(alloc, "\\def\\a{x} x")?;
-    assert!(rt; text.as_str() == "not a definition at 10", "{text}");
-    let text = refusal(alloc, "\\newcommand{\\a")?;
-    assert!(rt; text.as_str() == "{ is not closed at 11", "{text}");
-    let text = refusal(alloc, " \\newcommand{a}{x}")?;
-    assert!(rt; text.as_str() == "no name to define at 1", "{text}");
-    let text = refusal(alloc, "\\newcommand{\\a}[2]{#3}")?;
-    assert!(rt;
-        text.as_str() == "a body has no such argument at 0",
-        "{text}"
-    );
-    let text = refusal(alloc, "\\newcommand{\\a}[1][x]{#1}")?;
-    assert!(rt;
-        text.as_str() == "optional arguments are not read at 0",
-        "{text}"
-    );
-    let text = refusal(alloc, "\\def\\a#1,{#1}")?;
-    assert!(rt;
-        text.as_str() == "an argument up to a sign is not read at 0",
-        "{text}"
-    );
-    let text = refusal(alloc, "\\def\\a#2{x}")?;
-    assert!(rt;
-        text.as_str() == "wrong parameters of a definition at 0",
-        "{text}"
-    );
+    for (definitions, text) in &REFUSALS {
+        let found = refusal(rt.alloc(), definitions)?;
+        assert!(rt; found.as_str() == *text, "{found}");
+    }
     Ok(())
+}
+
+/// Fails unless the two formulas are drawn alike.
+fn expect_alike<'a>(
+    alloc: Global,
+    macros: &Macros<'a>,
+    one: &'a str,
+    other: &'a str,
+) -> Result<(), Fail> {
+    let expected = tex_to_mathml(alloc, macros, other, DisplayStyle::Inline)?;
+    let found = tex_to_mathml(alloc, macros, one, DisplayStyle::Inline);
+    expect_text(found, expected.as_str())
 }
 
 /// What a formula defines is forgotten after it.
@@ -121,11 +125,6 @@ fn refusals(rt: HostRuntime) -> Result<(), Fail> {
 fn formulas_in_turn(rt: HostRuntime) -> Result<(), Fail> {
     let alloc = rt.alloc();
     let macros = Macros::read(alloc, "\\def\\a{x}")?;
-    let first = tex_to_mathml(alloc, &macros, "\\def\\a{y}\\a", DisplayStyle::Inline)?;
-    let second = tex_to_mathml(alloc, &macros, "y", DisplayStyle::Inline)?;
-    assert!(rt; first == second, "{first}");
-    let first = tex_to_mathml(alloc, &macros, "\\a", DisplayStyle::Inline)?;
-    let second = tex_to_mathml(alloc, &macros, "x", DisplayStyle::Inline)?;
-    assert!(rt; first == second, "{first}");
-    Ok(())
+    expect_alike(alloc, &macros, "\\def\\a{y}\\a", "y")?;
+    expect_alike(alloc, &macros, "\\a", "x")
 }

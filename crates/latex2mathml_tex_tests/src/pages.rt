@@ -16,29 +16,23 @@ fn shown(alloc: Global, preamble: Option<&'static str>, tex: &'static str) -> Re
     })
 }
 
+/// A page's preamble, if it has one, a formula, and what is shown for it.
+static PAGES: [(Option<&str>, &str, &str); 4] = [
+    (
+        Some(PREAMBLE),
+        "\\R",
+        "<math xmlns=\"http://www.w3.org/1998/Math/MathML\" display=\"inline\"><mi>ℝ</mi></math>",
+    ),
+    (None, "x\\R", "formula: unknown command \\R at 1"),
+    (Some(PREAMBLE), "x\\Q", "formula: unknown command \\Q at 1"),
+    (Some("\n\\R"), "x", "preamble: not a definition at 1"),
+];
+
 #[test]
 fn preambles(rt: HostRuntime) -> Result<(), Fail> {
-    let alloc = rt.alloc();
-    let markup = shown(alloc, Some(PREAMBLE), "\\R")?;
-    assert!(rt;
-        markup.as_str()
-            == "<math xmlns=\"http://www.w3.org/1998/Math/MathML\" display=\"inline\"><mi>ℝ</mi></math>",
-        "{markup}"
-    );
-    let error = shown(alloc, None, "x\\R")?;
-    assert!(rt;
-        error.as_str() == "formula: unknown command \\R at 1",
-        "{error}"
-    );
-    let error = shown(alloc, Some(PREAMBLE), "x\\Q")?;
-    assert!(rt;
-        error.as_str() == "formula: unknown command \\Q at 1",
-        "{error}"
-    );
-    let error = shown(alloc, Some("\n\\R"), "x")?;
-    assert!(rt;
-        error.as_str() == "preamble: not a definition at 1",
-        "{error}"
-    );
+    for (preamble, tex, text) in &PAGES {
+        let found = shown(rt.alloc(), *preamble, *tex)?;
+        assert!(rt; found.as_str() == *text, "{found}");
+    }
     Ok(())
 }

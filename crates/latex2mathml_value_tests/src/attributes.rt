@@ -1,36 +1,31 @@
 //! Tests of the texts of attributes.
 
+use crate::checks::prints;
 use latex2mathml_tokens::DisplayStyle;
 use latex2mathml_tokens::attribute::{Accent, ColumnAlign, LineThickness, Variant};
-use std::alloc::{AllocError, Global};
-use std::fmt::Display;
 use std::test::Fail;
 
-/// Whether the value prints as the text.
-fn prints<T: Display>(alloc: Global, value: &T, text: &str) -> Result<bool, AllocError> {
-    let printed = value.to_string(alloc)?;
-    Ok(printed.as_str() == text)
-}
+static VARIANTS: [(Variant, &str); 14] = [
+    (Variant::Normal, "normal"),
+    (Variant::Italic, "italic"),
+    (Variant::Bold, "bold"),
+    (Variant::BoldItalic, "bold-italic"),
+    (Variant::DoubleStruck, "double-struck"),
+    (Variant::BoldFraktur, "bold-fraktur"),
+    (Variant::Script, "script"),
+    (Variant::BoldScript, "bold-script"),
+    (Variant::Fraktur, "fraktur"),
+    (Variant::SansSerif, "sans-serif"),
+    (Variant::BoldSansSerif, "bold-sans-serif"),
+    (Variant::SansSerifItalic, "sans-serif-italic"),
+    (Variant::SansSerifBoldItalic, "sans-serif-bold-italic"),
+    (Variant::Monospace, "monospace"),
+];
 
 #[test]
 fn variants(rt: HostRuntime) -> Result<(), Fail> {
-    for (variant, text) in [
-        (Variant::Normal, "normal"),
-        (Variant::Italic, "italic"),
-        (Variant::Bold, "bold"),
-        (Variant::BoldItalic, "bold-italic"),
-        (Variant::DoubleStruck, "double-struck"),
-        (Variant::BoldFraktur, "bold-fraktur"),
-        (Variant::Script, "script"),
-        (Variant::BoldScript, "bold-script"),
-        (Variant::Fraktur, "fraktur"),
-        (Variant::SansSerif, "sans-serif"),
-        (Variant::BoldSansSerif, "bold-sans-serif"),
-        (Variant::SansSerifItalic, "sans-serif-italic"),
-        (Variant::SansSerifBoldItalic, "sans-serif-bold-italic"),
-        (Variant::Monospace, "monospace"),
-    ] {
-        assert!(rt; prints(rt.alloc(), &variant, text)?, "{text}");
+    for (variant, text) in &VARIANTS {
+        assert!(rt; prints(rt.alloc(), variant, text)?, "{text}");
     }
     Ok(())
 }
@@ -38,7 +33,7 @@ fn variants(rt: HostRuntime) -> Result<(), Fail> {
 #[test]
 fn accents(rt: HostRuntime) -> Result<(), Fail> {
     for (accent, text) in [(Accent::True, "true"), (Accent::False, "false")] {
-        assert!(rt; prints(rt.alloc(), &accent, text)?, "{text}");
+        assert!(rt; prints(rt.alloc(), accent, text)?, "{text}");
     }
     Ok(())
 }
@@ -49,7 +44,7 @@ fn displays(rt: HostRuntime) -> Result<(), Fail> {
         (DisplayStyle::Block, "block"),
         (DisplayStyle::Inline, "inline"),
     ] {
-        assert!(rt; prints(rt.alloc(), &display, text)?, "{text}");
+        assert!(rt; prints(rt.alloc(), display, text)?, "{text}");
     }
     Ok(())
 }
@@ -63,7 +58,7 @@ fn thicknesses(rt: HostRuntime) -> Result<(), Fail> {
         (LineThickness::Length(0), " linethickness=\"0\""),
         (LineThickness::Length(255), " linethickness=\"255\""),
     ] {
-        assert!(rt; prints(rt.alloc(), &thickness, text)?, "{text}");
+        assert!(rt; prints(rt.alloc(), thickness, text)?, "{text}");
     }
     Ok(())
 }
@@ -75,7 +70,7 @@ fn aligns(rt: HostRuntime) -> Result<(), Fail> {
         (ColumnAlign::Left, " columnalign=\"left\""),
         (ColumnAlign::Right, " columnalign=\"right\""),
     ] {
-        assert!(rt; prints(rt.alloc(), &align, text)?, "{text}");
+        assert!(rt; prints(rt.alloc(), align, text)?, "{text}");
     }
     Ok(())
 }

@@ -1,5 +1,7 @@
 //! Tests of each ASCII character, and of others of each length, in each text that is printed.
 
+use crate::checks::prints_around;
+use crate::commands::is_itself;
 use latex2mathml_nodes::ast::Node;
 use latex2mathml_samples::samples::Words;
 use latex2mathml_tokens::LatexError;
@@ -21,14 +23,6 @@ const WIDE: [char; 10] = [
     '𝑥',
     '\u{10FFFF}',
 ];
-
-/// Whether the text is the middle with these texts around it.
-fn is_around(text: &str, before: &str, middle: &str, after: &str) -> bool {
-    match text.strip_prefix(before) {
-        Some(rest) => rest.strip_suffix(after) == Some(middle),
-        None => false,
-    }
-}
 
 /// Returns the character as contents.
 fn content(c: char, room: &mut [u8; 4]) -> &str {
@@ -68,38 +62,44 @@ fn in_apostrophes(c: char, room: &mut [u8; 4]) -> &str {
     }
 }
 
-/// Whether the node prints as the contents with these texts around them.
-fn prints(
+/// Whether the letter prints as the contents with this tag before them.
+fn letter_prints(
     alloc: Global,
-    node: &Node,
-    before: &str,
+    c: char,
+    variant: Variant,
+    tag: &str,
     contents: &str,
-    after: &str,
 ) -> Result<bool, AllocError> {
-    let printed = node.to_string(alloc)?;
-    Ok(is_around(printed.as_str(), before, contents, after))
+    prints_around(alloc, Node::Letter(c, variant), tag, contents, "</mi>")
 }
 
 /// Whether the character alone prints as expected.
 fn stands_for_itself(alloc: Global, c: char) -> Result<bool, AllocError> {
     let mut room = [0; 4];
     let contents = content(c, &mut room);
-    let bold = "<mi mathvariant=\"bold\">";
     Ok(
-        prints(
-            alloc,
-            &Node::Letter(c, Variant::Italic),
-            "<mi>",
-            contents,
-            "</mi>",
-        )? && prints(
-            alloc,
-            &Node::Letter(c, Variant::Bold),
-            bold,
-            contents,
-            "</mi>",
-        )? && prints(alloc, &Node::Operator(c), "<mo>", contents, "</mo>")?,
+        letter_prints(alloc, c, Variant::Italic, "<mi>", contents)?
+            && letter_prints(
+                alloc,
+                c,
+                Variant::Bold,
+                "<mi mathvariant=\"bold\">",
+                contents,
+            )?
+            && prints_around(alloc, Node::Operator(c), "<mo>", contents, "</mo>")?,
     )
+}
+
+/// Whether such a node with this text prints as the contents with these texts around them.
+fn words_print(
+    alloc: Global,
+    kind: Words,
+    text: &str,
+    before: &str,
+    contents: &str,
+    after: &str,
+) -> Result<bool, AllocError> {
+    prints_around(alloc, kind.of(alloc, text)?, before, contents, after)
 }
 
 /// Whether a text that contains the character prints as expected.
@@ -107,26 +107,21 @@ fn stands_in_texts(alloc: Global, c: char) -> Result<bool, AllocError> {
     let mut room = [0; 4];
     let contents = content(c, &mut room);
     let text = format!(in alloc; "1{c}2")?;
-    for (kind, before, after) in [
-        (Words::Number, "<mn>1", "2</mn>"),
-        (Words::Function, "<mi>1", "2</mi>"),
-    ] {
-        let node = kind.of(alloc, text.as_str())?;
-        if !prints(alloc, &node, before, contents, after)? {
-            return Ok(false);
-        }
-    }
-    Ok(true)
+    let text = text.as_str();
+    Ok(
+        words_print(alloc, Words::Number, text, "<mn>1", contents, "2</mn>")?
+            && words_print(alloc, Words::Function, text, "<mi>1", contents, "2</mi>")?,
+    )
 }
 
 /// Whether a marked error shows the character.
 fn stands_in_errors(alloc: Global, c: char) -> Result<bool, AllocError> {
     let mut room = [0; 4];
     let text = format!(in alloc; "{c}z")?;
-    let error = Words::Undefined.of(alloc, text.as_str())?;
-    prints(
+    words_print(
         alloc,
-        &error,
+        Words::Undefined,
+        text.as_str(),
         "<mtext>[PARSE ERROR: Undefined(\"",
         quoted_content(c, &mut room),
         "z\")]</mtext>",
@@ -136,8 +131,7 @@ fn stands_in_errors(alloc: Global, c: char) -> Result<bool, AllocError> {
 /// Whether an unknown command that contains the character is itself.
 fn command_is_itself(alloc: Global, c: char) -> Result<bool, AllocError> {
     let name = format!(in alloc; "zz{c}")?;
-    let token = Token::from_command(alloc, name.as_str())?;
-    Ok(token == Token::Command(name))
+    is_itself(alloc, name.as_str())
 }
 
 /// Whether a refusal shows the character alone.
@@ -147,14 +141,14 @@ fn refusal_tells_character(alloc: Global, c: char) -> Result<bool, AllocError> {
         expected: Token::Illegal(c),
         got: Token::EOF,
     };
-    let said = refusal.to_string(alloc)?;
     let after = "')\" is expected, but the token \"EOF\" is found.\"";
-    Ok(is_around(
-        said.as_str(),
+    prints_around(
+        alloc,
+        refusal,
         "The token \"Illegal('",
         in_apostrophes(c, &mut room),
         after,
-    ))
+    )
 }
 
 /// Whether a refusal shows the character in a text.
@@ -165,14 +159,14 @@ fn refusal_tells_text(alloc: Global, c: char) -> Result<bool, AllocError> {
         expected: Token::EOF,
         got: Token::Command(name),
     };
-    let said = refusal.to_string(alloc)?;
     let before = "The token \"EOF\" is expected, but the token \"Command(\"";
-    Ok(is_around(
-        said.as_str(),
+    prints_around(
+        alloc,
+        refusal,
         before,
         quote(c, &mut room),
         "\")\" is found.\"",
-    ))
+    )
 }
 
 fn is_told(alloc: Global, c: char) -> Result<bool, AllocError> {

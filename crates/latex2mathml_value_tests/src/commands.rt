@@ -1,14 +1,15 @@
 //! Tests of the tokens of names that no formula spells.
 
+use crate::checks::are_equal;
 use latex2mathml_tokens::token::Token;
 use std::alloc::{AllocError, Global};
 use std::test::Fail;
 
 /// Whether the command is itself, and so not in the table.
-fn is_itself(alloc: Global, name: &str) -> Result<bool, AllocError> {
+pub fn is_itself(alloc: Global, name: &str) -> Result<bool, AllocError> {
+    let own = String::from_str(alloc, name)?;
     let token = Token::from_command(alloc, name)?;
-    let own = Token::Command(String::from_str(alloc, name)?);
-    Ok(token == own)
+    Ok(are_equal(token, Token::Command(own)))
 }
 
 #[test]
@@ -21,6 +22,7 @@ fn names_that_no_formula_spells(rt: HostRuntime) -> Result<(), Fail> {
 
 #[test]
 fn a_name_of_the_table(rt: HostRuntime) -> Result<(), Fail> {
-    assert!(rt; Token::from_command(rt.alloc(), "in")? == Token::Operator('\u{2208}'));
+    let token = Token::from_command(rt.alloc(), "in")?;
+    assert!(rt; are_equal(token, Token::Operator('\u{2208}')));
     Ok(())
 }

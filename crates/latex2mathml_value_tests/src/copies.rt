@@ -1,5 +1,6 @@
 //! Tests of copies and equality of nodes of each kind.
 
+use crate::checks::equals;
 use latex2mathml_nodes::ast::Node;
 use latex2mathml_samples::samples::{Frame, Pair, Sample, Triple, Words};
 use latex2mathml_tokens::DisplayStyle;
@@ -122,8 +123,7 @@ fn nodes(alloc: Global) -> Result<Vec<Node>, AllocError> {
 #[test]
 fn copies_are_equal(rt: HostRuntime) -> Result<(), Fail> {
     for node in &nodes(rt.alloc())? {
-        let copy = node.clone(rt.alloc())?;
-        assert!(rt; copy == *node);
+        assert!(rt; equals(node.clone(rt.alloc())?, node));
     }
     Ok(())
 }

@@ -5,11 +5,15 @@ use latex2mathml_nodes::laws;
 use latex2mathml_samples::samples::{Words, apply};
 use std::test::Fail;
 
+/// Calls the laws of markup for the node.
+fn call(node: Node) {
+    laws::balanced(&node);
+    laws::one_element(&node);
+}
+
 #[test]
 fn of_markup(rt: HostRuntime) -> Result<(), Fail> {
-    let number = Words::Number.of(rt.alloc(), "</mn><math>&")?;
-    laws::balanced(&number);
-    laws::one_element(&number);
-    laws::balanced(&apply(rt.alloc(), "]]></mi><!--", Node::Operator('<'))?);
+    call(Words::Number.of(rt.alloc(), "</mn><math>&")?);
+    call(apply(rt.alloc(), "]]></mi><!--", Node::Operator('<'))?);
     Ok(())
 }

@@ -6,6 +6,8 @@ mod attributes;
 #[cfg(test)]
 mod characters;
 #[cfg(test)]
+mod checks;
+#[cfg(test)]
 mod commands;
 #[cfg(test)]
 mod copies;

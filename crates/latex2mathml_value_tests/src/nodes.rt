@@ -1,5 +1,6 @@
 //! Tests of nodes of each kind made by hand: their markup.
 
+use crate::checks::prints;
 use latex2mathml_nodes::ast::Node;
 use latex2mathml_samples::samples::{
     Frame, Pair, Sample, Triple, Words, apply, leaf, leaves as leaves_of,
@@ -9,19 +10,13 @@ use latex2mathml_tokens::attribute::{Accent, ColumnAlign, LineThickness, Variant
 use std::alloc::{AllocError, Global};
 use std::test::Fail;
 
-fn prints(alloc: Global, node: &Node, markup: &str) -> Result<bool, AllocError> {
-    let printed = node.to_string(alloc)?;
-    Ok(printed.as_str() == markup)
-}
-
 /// Returns the first of these nodes that does not print as expected.
 fn wrong(
     alloc: Global,
     rows: &[(Sample, &'static str)],
 ) -> Result<Option<&'static str>, AllocError> {
     for (sample, markup) in rows {
-        let node = sample.node(alloc)?;
-        if !prints(alloc, &node, markup)? {
+        if !prints(alloc, sample.node(alloc)?, markup)? {
             return Ok(Some(*markup));
         }
     }
@@ -104,10 +99,7 @@ static SPACES: [(i32, &str); 16] = [
 #[test]
 fn spaces(rt: HostRuntime) -> Result<(), Fail> {
     for (width, markup) in &SPACES {
-        assert!(rt;
-            prints(rt.alloc(), &Node::Space(*width), markup)?,
-            "{width}"
-        );
+        assert!(rt; prints(rt.alloc(), Node::Space(*width), markup)?, "{width}");
     }
     Ok(())
 }
@@ -289,7 +281,7 @@ fn slashes(rt: HostRuntime) -> Result<(), Fail> {
     let alloc = rt.alloc();
     for (sample, markup) in &SLASHED {
         let slashed = Frame::Slash.around(alloc, sample.node(alloc)?)?;
-        assert!(rt; prints(alloc, &slashed, markup)?, "{markup}");
+        assert!(rt; prints(alloc, slashed, markup)?, "{markup}");
     }
     Ok(())
 }
@@ -322,13 +314,13 @@ fn ends_below(alloc: Global) -> Result<Node, AllocError> {
 fn compounds_of_compounds(rt: HostRuntime) -> Result<(), Fail> {
     let alloc = rt.alloc();
     let root = "<mroot><mi>x</mi><mn>3</mn></mroot>";
-    assert!(rt; prints(alloc, &cube_root(alloc)?, root)?);
+    assert!(rt; prints(alloc, cube_root(alloc)?, root)?);
     let both = "<msubsup><mi>x</mi><mo>&lt;</mo><mn>2</mn></msubsup>";
-    assert!(rt; prints(alloc, &scripts(alloc)?, both)?);
+    assert!(rt; prints(alloc, scripts(alloc)?, both)?);
     let fraction = "<mfrac><mi>sin</mi><mo>&#x2061;</mo><mi>x</mi><mn>2</mn></mfrac>";
-    assert!(rt; prints(alloc, &function_in_a_fraction(alloc)?, fraction)?);
+    assert!(rt; prints(alloc, function_in_a_fraction(alloc)?, fraction)?);
     let matrix =
         "<mtable><mtr><mtd><mrow><mtext>[PARSE ERROR: Ampersand]</mtext><mtext>[PARSE ERROR: NewLine]</mtext></mrow><mtext>[PARSE ERROR: Undefined(\"&lt;\")]</mtext></mtd></mtr></mtable>";
-    assert!(rt; prints(alloc, &ends_below(alloc)?, matrix)?);
+    assert!(rt; prints(alloc, ends_below(alloc)?, matrix)?);
     Ok(())
 }

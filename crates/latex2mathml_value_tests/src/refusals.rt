@@ -1,5 +1,6 @@
 //! Tests of refusals made by hand: their texts, copies and equality.
 
+use crate::checks::{equals, prints};
 use latex2mathml_tokens::LatexError;
 use latex2mathml_tokens::token::Token;
 use std::alloc::{AllocError, Global};
@@ -157,7 +158,7 @@ fn samples(alloc: Global) -> Result<Samples, AllocError> {
 #[test]
 fn each_has_its_text(rt: HostRuntime) -> Result<(), Fail> {
     for (refusal, text) in &samples(rt.alloc())? {
-        assert!(rt; refusal.to_string(rt.alloc())?.as_str() == *text, "{text}");
+        assert!(rt; prints(rt.alloc(), refusal, text)?, "{text}");
     }
     Ok(())
 }
@@ -165,8 +166,7 @@ fn each_has_its_text(rt: HostRuntime) -> Result<(), Fail> {
 #[test]
 fn copies_are_equal(rt: HostRuntime) -> Result<(), Fail> {
     for (refusal, text) in &samples(rt.alloc())? {
-        let copy = refusal.clone(rt.alloc())?;
-        assert!(rt; copy == *refusal, "{text}");
+        assert!(rt; equals(refusal.clone(rt.alloc())?, refusal), "{text}");
     }
     Ok(())
 }

@@ -1,5 +1,6 @@
 //! Tests of tokens made by hand: their texts, as refusals name them, their copies and their equality.
 
+use crate::checks::{equals, prints_around};
 use latex2mathml_tokens::attribute::{Accent, Variant};
 use latex2mathml_tokens::lexeme::Lexeme;
 use latex2mathml_tokens::token::Token;
@@ -13,13 +14,8 @@ fn has_text(alloc: Global, token: Token, text: &str) -> Result<bool, AllocError>
         expected: token,
         got: Token::EOF,
     };
-    let said = refusal.to_string(alloc)?;
-    Ok(match said.as_str().strip_prefix("The token \"") {
-        Some(rest) => {
-            rest.strip_suffix("\" is expected, but the token \"EOF\" is found.\"") == Some(text)
-        }
-        None => false,
-    })
+    let after = "\" is expected, but the token \"EOF\" is found.\"";
+    prints_around(alloc, refusal, "The token \"", text, after)
 }
 
 /// A token as plain values, which can be in a table.
@@ -235,8 +231,7 @@ fn each_kind_has_its_text(rt: HostRuntime) -> Result<(), Fail> {
 fn copies_are_equal(rt: HostRuntime) -> Result<(), Fail> {
     let samples = samples(rt.alloc())?;
     for (token, text) in &samples {
-        let copy = token.clone(rt.alloc())?;
-        assert!(rt; copy == *token, "{text}");
+        assert!(rt; equals(token.clone(rt.alloc())?, token), "{text}");
     }
     Ok(())
 }
