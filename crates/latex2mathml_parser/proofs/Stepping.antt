@@ -3,7 +3,7 @@ use Rattle.std.proofs.Common.{◌≡◌, ℕ, ◌+◌, ◌≤◌, ◌∷◌, Res
 use Rattle.std.specs.Prelude.{IfOk}
 use Rattle.std.specs.declared.alloc.AllocError.{AllocError}
 use Rattle.latex2mathml_grammar.specs.Openers.{openers, opens}
-use Rattle.latex2mathml_parser.specs.{Marks.rest_of, Marks.sign_token, Steps.Counted, Steps.Follows, Steps.StacksWithin, Unread.GoesOn}
+use Rattle.latex2mathml_parser.specs.{Marks.rest_of, Marks.sign_token, Steps.Counted, Steps.Follows, Steps.IsStep, Steps.StacksWithin, Unread.GoesOn}
 use Rattle.latex2mathml_tokens.specs.Tok.{Tok}
 use Rattle.latex2mathml_parser.specs.{declared.lexer.mark.Sign.Sign, declared.parse.Parser.Parser, declared.parse.State.State}
 use Rattle.latex2mathml_parser.specs.declared.lexer.mark.Sign.TheVariants.{Sub, Sup}
@@ -66,3 +66,10 @@ counted_kept p q kept counts same =
 pub follows_within : {a b : ℕ} (p : Parser) (r : Result State AllocError) → IfOk r (Follows a p) → a ≤ b → IfOk r (Follows b p)
 follows_within p (Ok s) h within = record { trees = h.trees; falls = omega arith }
 follows_within p (Err e) h within = tt
+
+-- a step, within greater bounds
+pub step_within : {m n a b : ℕ} (p q : Parser) (r : Result State AllocError) → IsStep m a p q r → m ≤ n → a ≤ b → IsStep n b p q r
+step_within p q r h fewer within = record {
+  counted = record { counts = h.counted.counts; frames = record { taken = omega arith; openers = omega arith } };
+  follows = follows_within _ r h.follows (omega arith);
+}

@@ -1,6 +1,7 @@
 use Rattle.std.proofs.Common.{◌≡◌, arith}
 use Rattle.latex2mathml_grammar.specs.Grammar.{error_rule, rule}
 use Rattle.latex2mathml_tokens.specs.Lexemes.{lexeme_tok}
+use Rattle.latex2mathml_parser.proofs.Stepping.{step_within}
 use Rattle.latex2mathml_parser.proofs.parse.Parser.begin_rule.Goals as goal
 
 pub returns-in-LBrace-clause-holds : goal.returns-in-LBrace-clause-holds
@@ -88,3 +89,87 @@ pub returns-in-Illegal-clause-holds : goal.returns-in-Illegal-clause-holds
 returns-in-Illegal-clause-holds c = λ input k.
     let bare : rule (lexeme_tok c.args.lexeme) ≡ error_rule (lexeme_tok c.args.lexeme) = grind (arith, c.in-Illegal.is) in
     c.error.ensures.holds input (rw bare at k)
+
+pub returns-in-Sqrt-clause-step : goal.returns-in-Sqrt-clause-step
+returns-in-Sqrt-clause-step c = rw c.in-Sqrt.is c.root.ensures.step
+
+pub returns-in-BigOp-clause-step : goal.returns-in-BigOp-clause-step
+returns-in-BigOp-clause-step c = rw c.in-BigOp.is c.limits.ensures.step
+
+pub returns-in-Integral-clause-step : goal.returns-in-Integral-clause-step
+returns-in-Integral-clause-step c = rw c.in-Integral.is c.limits-in-Integral.ensures.step
+
+pub returns-in-Lim-clause-step : goal.returns-in-Lim-clause-step
+returns-in-Lim-clause-step c = rw c.in-Lim.is c.limit.ensures.step
+
+pub returns-in-Big-clause-step : goal.returns-in-Big-clause-step
+returns-in-Big-clause-step c = rw c.in-Big.is (step_within _ _ _ c.size_paren.ensures.step (omega arith) (omega arith))
+
+pub returns-in-Text-clause-step : goal.returns-in-Text-clause-step
+returns-in-Text-clause-step c = rw c.in-Text.is (step_within _ _ _ c.words.ensures.step (omega arith) (omega arith))
+
+pub returns-in-OperatorName-clause-step : goal.returns-in-OperatorName-clause-step
+returns-in-OperatorName-clause-step c = rw c.in-OperatorName.is (step_within _ _ _ c.function.ensures.step (omega arith) (omega arith))
+
+pub returns-in-Slashed-clause-step : goal.returns-in-Slashed-clause-step
+returns-in-Slashed-clause-step c = rw c.in-Slashed.is c.slash.ensures.step
+
+pub returns-in-Left-clause-step : goal.returns-in-Left-clause-step
+returns-in-Left-clause-step c = rw c.in-Left.is c.open_fence.ensures.step
+
+pub returns-in-Begin-clause-step : goal.returns-in-Begin-clause-step
+returns-in-Begin-clause-step c = rw c.in-Begin.is c.begin_environment.ensures.step
+
+pub returns-in-LBrace-clause-step : goal.returns-in-LBrace-clause-step
+returns-in-LBrace-clause-step c = rw c.in-LBrace.is (step_within _ _ _ c.open.ensures.step (omega arith) (omega arith))
+
+pub returns-in-Over-clause-step : goal.returns-in-Over-clause-step
+returns-in-Over-clause-step c = rw c.in-Over.is (step_within _ _ _ c.open-in-Over.ensures.step (omega arith) (omega arith))
+
+pub returns-in-Under-clause-step : goal.returns-in-Under-clause-step
+returns-in-Under-clause-step c = rw c.in-Under.is (step_within _ _ _ c.open-in-Under.ensures.step (omega arith) (omega arith))
+
+pub returns-in-Style-clause-step : goal.returns-in-Style-clause-step
+returns-in-Style-clause-step c = rw c.in-Style.is (step_within _ _ _ c.open-in-Style.ensures.step (omega arith) (omega arith))
+
+pub returns-in-Frac-clause-step : goal.returns-in-Frac-clause-step
+returns-in-Frac-clause-step c = rw c.in-Frac.is (step_within _ _ _ c.open-in-Frac.ensures.step (omega arith) (omega arith))
+
+pub returns-in-Binom-clause-step : goal.returns-in-Binom-clause-step
+returns-in-Binom-clause-step c = rw c.in-Binom.is (step_within _ _ _ c.open-in-Binom.ensures.step (omega arith) (omega arith))
+
+pub returns-in-Overset-clause-step : goal.returns-in-Overset-clause-step
+returns-in-Overset-clause-step c = rw c.in-Overset.is (step_within _ _ _ c.open-in-Overset.ensures.step (omega arith) (omega arith))
+
+pub returns-in-Underset-clause-step : goal.returns-in-Underset-clause-step
+returns-in-Underset-clause-step c = rw c.in-Underset.is (step_within _ _ _ c.open-in-Underset.ensures.step (omega arith) (omega arith))
+
+pub returns-in-Overbrace-clause-step : goal.returns-in-Overbrace-clause-step
+returns-in-Overbrace-clause-step c = rw c.in-Overbrace.is (step_within _ _ _ c.open-in-Overbrace.ensures.step (omega arith) (omega arith))
+
+pub returns-in-Underbrace-clause-step : goal.returns-in-Underbrace-clause-step
+returns-in-Underbrace-clause-step c = rw c.in-Underbrace.is (step_within _ _ _ c.open-in-Underbrace.ensures.step (omega arith) (omega arith))
+
+pub returns-in-Number-clause-step : goal.returns-in-Number-clause-step
+returns-in-Number-clause-step c = rw c.in-Number.is (step_within _ _ _ c.put.ensures.step (omega arith) (omega arith))
+
+pub returns-in-Letter-clause-step : goal.returns-in-Letter-clause-step
+returns-in-Letter-clause-step c = rw c.in-Letter.is (step_within _ _ _ c.put-in-Letter.ensures.step (omega arith) (omega arith))
+
+pub returns-in-Operator-clause-step : goal.returns-in-Operator-clause-step
+returns-in-Operator-clause-step c = rw c.in-Operator.is (step_within _ _ _ c.put-in-Operator.ensures.step (omega arith) (omega arith))
+
+pub returns-in-Paren-clause-step : goal.returns-in-Paren-clause-step
+returns-in-Paren-clause-step c = rw c.in-Paren.is (step_within _ _ _ c.put-in-Paren.ensures.step (omega arith) (omega arith))
+
+pub returns-in-Ampersand-clause-step : goal.returns-in-Ampersand-clause-step
+returns-in-Ampersand-clause-step c = rw c.in-Ampersand.is (step_within _ _ _ c.put-in-Ampersand.ensures.step (omega arith) (omega arith))
+
+pub returns-in-Space-clause-step : goal.returns-in-Space-clause-step
+returns-in-Space-clause-step c = rw c.in-Space.is (step_within _ _ _ c.put-in-Space.ensures.step (omega arith) (omega arith))
+
+pub returns-in-Function-clause-step : goal.returns-in-Function-clause-step
+returns-in-Function-clause-step c = rw c.in-Function.is (step_within _ _ _ c.put-in-Function.ensures.step (omega arith) (omega arith))
+
+pub returns-in-NewLine-clause-step : goal.returns-in-NewLine-clause-step
+returns-in-NewLine-clause-step c = rw c.in-NewLine.is (step_within _ _ _ c.put-in-NewLine.ensures.step (omega arith) (omega arith))
