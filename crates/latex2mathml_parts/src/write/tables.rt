@@ -53,6 +53,7 @@ pub(crate) fn greek_markup(c: char) -> Option<&'static str>
 }
 
 /// Returns the markup of an operator that is ASCII and has no command.
+#[tactic(auto, unfolding(crate::proofs::Encoding::encode_utf8))]
 pub(crate) fn operator_markup(c: char) -> Option<&'static str>
     ensures { IfSome result (λ markup. markup.now ≡ print (operator c)) }
 {
