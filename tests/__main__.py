@@ -25,7 +25,7 @@ from tools.progress import Screen, Stopwatch, clock, end_of, follow
 
 OUT = ROOT / "out"
 C_LIBRARY = "latex2mathml_c"
-# the most memory that a check has been seen to take, in bytes
+# the memory for a check, in bytes: somewhat more than any was seen to take
 MEMORY = 3 << 30
 LAST_LINE = re.compile(r"(\d+) passed, (\d+) failed")
 NO_TOOLCHAIN = "test: the command rt of the Rattle toolchain is not on the path: README.md says under \"Try it\" what is needed"
@@ -80,7 +80,7 @@ def look_at_layout(screen):
 
 def checks_at_once():
     """How many checks `rt ci` is to run at once, each with one process. By itself it gives a check all processors that are idle. But each
-    process reads all libraries below the crate, so that together the checks take a third more of a processor.
+    process reads all libraries below the crate, so the gate then takes more processor time.
     """
     return max(min(processors(), free_memory() // MEMORY), 1)
 

@@ -10,8 +10,11 @@ local re = require 're'
 -- groups may be nested more deeply than the default of a few hundred levels allows
 require('lpeg').setmaxstack(1000000)
 
-local function fail(message, ...)
-  error('latex2mathml: ' .. message:format(...), 0)
+--- Ends the run with this message unless the condition holds.
+local function ensure(condition, message, ...)
+  if not condition then
+    error('latex2mathml: ' .. message:format(...), 0)
+  end
 end
 
 -- Raw TeX ------------------------------------------------------------------------------------------------------------
@@ -94,10 +97,8 @@ local function tex_of(value)
   elseif type_of(value) ~= 'Inlines' and type_of(value) ~= 'Blocks' then
     return nil
   end
-  local only = only_element(value)
-  if not only then
-    return nil
-  elseif only.t == 'Str' then
+  local only = only_element(value) or {}
+  if only.t == 'Str' then
     return only.text:match('^%w+$')
   end
   return only.text
@@ -115,27 +116,19 @@ end
 --- The command that a name means, which may be written with or without its backslash.
 local function command_of(name)
   local command = name:match('^\\') and name or '\\' .. name
-  if not command:match('^\\%a+$') and (utf8.len(command) ~= 2 or command:match('^\\%a')) then
-    fail('macros: "%s" is not the name of a command: letters, or one other character', name)
-  end
+  local is_name = command:match('^\\%a+$') or utf8.len(command) == 2 and not command:match('^\\%a')
+  ensure(is_name, 'macros: "%s" is not the name of a command: letters, or one other character', name)
   return command
 end
 
 --- The body of a macro, and the number of its arguments: as many as a list says, or as the body has.
 local function body_and_arguments(command, value)
-  local is_list = type_of(value) == 'List'
-  local body = tex_of(is_list and value[1] or value)
-  if not body then
-    fail('macros: write the body of %s between backquotes', command)
-  elseif not (is_list and value[2]) then
-    return body, count_arguments(body)
-  elseif value[3] then
-    fail('macros: %s has an argument with a default, which is not read', command)
-  end
-  local count = pandoc.utils.stringify(value[2])
-  if not count:match('^%d$') then
-    fail('macros: %s has a number of arguments that is not from 0 to 9: %s', command, count)
-  end
+  local list = type_of(value) == 'List' and value or {value}
+  local body = tex_of(list[1])
+  ensure(body, 'macros: write the body of %s between backquotes', command)
+  ensure(not list[3], 'macros: %s has an argument with a default, which is not read', command)
+  local count = pandoc.utils.stringify(list[2] or tostring(count_arguments(body)))
+  ensure(count:match('^%d$'), 'macros: %s has a number of arguments that is not from 0 to 9: %s', command, count)
   return body, tonumber(count)
 end
 
@@ -159,9 +152,7 @@ local function definitions_in(value)
       definitions[#definitions + 1] = {name = defined_name(part.text), text = part.text, body = part.text, is_option = true}
     end
   end
-  if #definitions == 0 then
-    fail('macros: neither a mapping from names to TeX nor a text of definitions')
-  end
+  ensure(#definitions > 0, 'macros: neither a mapping from names to TeX nor a text of definitions')
   return definitions
 end
 
@@ -180,9 +171,7 @@ end
 
 local function boolean_of(name, value)
   local text = type_of(value) == 'boolean' and tostring(value) or pandoc.utils.stringify(value)
-  if text ~= 'true' and text ~= 'false' then
-    fail('the option %s is true or false', name)
-  end
+  ensure(text == 'true' or text == 'false', 'the option %s is true or false', name)
   return text == 'true'
 end
 
@@ -196,14 +185,8 @@ local READERS = {
 
 --- Takes the options out of the metadata: those in `latex2mathml`, and those named `latex2mathml-NAME`.
 local function take_options(meta)
-  local given = {}
-  local mapping = meta.latex2mathml or {}
-  if type_of(mapping) ~= 'table' then
-    fail('latex2mathml is a mapping with the options')
-  end
-  for name, value in pairs(mapping) do
-    given[name] = value
-  end
+  local given = meta.latex2mathml or {}
+  ensure(type_of(given) == 'table', 'latex2mathml is a mapping with the options')
   meta.latex2mathml = nil
   for key, value in pairs(meta) do
     local name = key:match('^latex2mathml%-(.+)$')
@@ -214,9 +197,7 @@ local function take_options(meta)
   end
   local options = default_options()
   for name, value in pairs(given) do
-    if not READERS[name] then
-      fail('there is no option %s', name)
-    end
+    ensure(READERS[name], 'there is no option %s', name)
     options[name] = READERS[name](name, value)
   end
   return options
@@ -233,9 +214,7 @@ end
 local function report(options, source, reason)
   local files = table.concat(PANDOC_STATE.input_files, ', '):gsub('^%-?$', 'standard input')
   local message = ('%s: %s: %s'):format(files, in_one_line(source), reason)
-  if options.strict then
-    fail('%s', message)
-  end
+  ensure(not options.strict, '%s', message)
   io.stderr:write('[WARNING] latex2mathml: ', message, '\n')
 end
 
@@ -301,9 +280,7 @@ local function ask(options, texts)
     words:insert('--annotation')
   end
   local done, output = pcall(pandoc.pipe, options.program, words, table.concat(texts, '\0') .. '\0')
-  if not done then
-    fail('%s could not convert the formulas: %s', options.program, tostring(output))
-  end
+  ensure(done, '%s could not convert the formulas: %s', options.program, tostring(output))
   local replies = {}
   for kind, said in output:gmatch('(%l+)\n([^\0]*)\0') do
     replies[#replies + 1] = {is_markup = kind == 'mathml', said = said}
@@ -349,9 +326,7 @@ local function check_definitions(options, definitions, replies)
     local reply = replies[i]
     if not (reply.is_markup and is_empty(reply.said)) then
       local reason = reply.is_markup and 'not a definition' or reply.said:gsub(' at %d+$', '')
-      if definition.is_option then
-        fail('macros: %s: %s: %s', definition.name, reason, definition.body)
-      end
+      ensure(not definition.is_option, 'macros: %s: %s: %s', definition.name, reason, definition.body)
       report(options, definition.text, reason)
       definition.text, all = '', false
     end
