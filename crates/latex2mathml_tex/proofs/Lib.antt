@@ -25,9 +25,11 @@ pub mod RuleSteps
 pub mod Scripting
 pub mod Seconds
 pub mod Spaced
+pub mod SymbolOperands
 pub mod TableRules
 pub mod Tabled
 pub mod Taken
+pub mod Unmarked
 pub mod Values
 pub mod Widths
 pub mod WordRules

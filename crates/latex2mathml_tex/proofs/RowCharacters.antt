@@ -9,22 +9,25 @@ use Rattle.latex2mathml_tex_grammar.specs.{Next.past_space, Rules.a_number, Rule
 use Rattle.latex2mathml_tex_grammar.specs.Rules as rules
 use Rattle.latex2mathml_tex_grammar.specs.Rules.{WholeText, InBraces, InBrackets, InDollars, InDelimiters, InCell, ByName, ByBrace, ByText}
 use Rattle.latex2mathml_tex_grammar.specs.Starts.{RuleStart, atom_start, ends}
-use Rattle.latex2mathml_tex_grammar.specs.Units.{Character, Next}
-use Rattle.latex2mathml_tex_atoms.specs.Models.{context_of}
+use Rattle.latex2mathml_tex_grammar.specs.Units.{Character, Next, Open}
+use Rattle.latex2mathml_tex_atoms.specs.Models.{context_of, empty_row}
 use Rattle.latex2mathml_tex_units.specs.{Left.units_at, Taking.unit_of}
 use Rattle.latex2mathml_tex_units.specs.declared.{input.Input.Input, unit.Unit.Unit}
 use Rattle.latex2mathml_tex_units.specs.declared.unit.Piece.TheVariants as piece
 use Rattle.latex2mathml_tex_grammar.specs.{Commands.symbol_of, Makes.core, Makes.takes_limits, Rules.gives, Symbols.Symbol}
 use Rattle.latex2mathml_tex_grammar.specs.Makes
 use Rattle.latex2mathml_tex_atoms.specs.{Models.kind_of, Shapes.IsPut}
-use Rattle.latex2mathml_tex_atoms.specs.declared.{atoms.Context.Context, atoms.Core.Core, atoms.Scripts.Scripts}
+use Rattle.latex2mathml_tex_atoms.specs.declared.{atoms.Context.Context, atoms.Core.Core, atoms.Row.Row, atoms.Scripts.Scripts}
 use Rattle.latex2mathml_tex.specs.Frames.{Start, ending_of}
 use Rattle.latex2mathml_tex.specs.RowCharacters.{IsRowInnermost, ends_or_marks, is_symbol}
-use Rattle.latex2mathml_tex.specs.Steps.{BeginsIn, CanBegin, Holds, Ready, Took, elements_of, left_of}
+use Rattle.latex2mathml_tex.specs.Begun.{lone_scripts}
+use Rattle.latex2mathml_tex.specs.Steps.{BeginsIn, CanBegin, Follows, Holds, Ready, Took, elements_of, left_of, level_within}
 use Rattle.latex2mathml_tex.specs.declared.parse.Parser.{Parser}
 use Rattle.latex2mathml_tex.specs.declared.parse.State.TheVariants as state
+use Rattle.latex2mathml_tex.specs.Levels.{Leads}
+use Rattle.latex2mathml_tex.specs.declared.parse.frames.Ending.TheVariants as ending
 use Rattle.latex2mathml_tex.specs.declared.parse.frames.Frame.TheVariants as frame
-use Rattle.latex2mathml_tex.proofs.{Beginning.unit_begins, Beginnings.rule_begun, Operands.core_in_row, RowAwaits.row_awaits}
+use Rattle.latex2mathml_tex.proofs.{Beginning.group_begins, Beginning.unit_begins, Beginnings.rule_begun, Operands.core_in_row, RowAwaits.row_awaits}
 
 -- none of six tests
 record None6 (a b c d e f : Bool) : Type 0 where
@@ -84,6 +87,26 @@ module _ (p : Parser) (i : Input) (u : Unit) (c : ℕ) (is : u.piece ≡ piece.C
       let begun = rule_begun s q u e (place, (row, (k, (others, inner)))) (λ at. rw is (ends_none c none (ending_of e at))) took (λ at. rw is (begins_by_rule c none (ending_of e at))) in
       unit_begins s q (frame.Row e place k row) k u (piece.Character c) refl is (others, inner) begun
 
+-- an opening brace ends no row, and begins a group in each
+open_ends_none : (e : rules.Ending) → ends e Open ≡ false
+open_ends_none (InCell ByName place) = refl
+open_ends_none (InCell ByBrace place) = refl
+open_ends_none (InCell ByText place) = refl
+open_ends_none e = refl
+
+open_begins_by_rule : (e : rules.Ending) → atom_start e Open ≡ RuleStart
+open_begins_by_rule (InDelimiters place) = refl
+open_begins_by_rule e = refl
+
+-- a group begins in the innermost row
+pub group_begins_there : (p : Parser) (i : Input) (u : Unit) → u.piece ≡ piece.Open → left_of p ≡ Next (unit_of u) (units_at i) → (s : Start) (k : Context) → IsRowInnermost p.style p.frames.stack.items k → Holds s p state.Next → (row : Row) → row ≡ empty_row → Leads (level_within (frame.Row ending.Group u.place k row) 0 s (record p { input = i })) (units_at i)
+group_begins_there p i u is next s k (e, (place, (own, (others, inner)))) h row none =
+    let q = record p { input = i } in
+    let past : past_space (left_of p) ≡ Next (unit_of u) (units_at i) = ap past_space next ∙ rw is refl in
+    let took : Took u s q = record { style = h.style; before = left_of p; next = past; leads = h.claims } in
+    let begun = rule_begun s q u e (place, (own, (k, (others, inner)))) (λ at. rw is (open_ends_none (ending_of e at))) took (λ at. rw is (open_begins_by_rule (ending_of e at))) in
+    group_begins s q k row u.place none (unit_begins s q (frame.Row e place k own) k u piece.Open refl is (others, inner) begun)
+
 -- what follows an atom that was put in the innermost row
 pub scripts_follow : (p : Parser) (k : Context) → IsRowInnermost p.style p.frames.stack.items k → (c : Core) (scripts : Scripts) → scripts ≡ record { primes = 0; below = false; above = false; is_exchanged = false; limits = c.limits; takes_limits = takes_limits (kind_of c.kind) } → (s : Start) → Holds s p (state.Core c) → Holds s p (state.Atom c scripts)
 scripts_follow p k (e, (place, (row, (others, inner)))) c scripts none s g = core_in_row s p c scripts (frame.Row e place k row) e place k row (others, inner) refl none g
@@ -94,6 +117,20 @@ scripts_ready p b k (e, (place, (row, (others, inner)))) c scripts made none put
   elements = rw (none, put.element) (omega (arith, can.elements));
   may_come = let waits = row_awaits p e place row k others inner can in record { accepted = waits.accepted; nested = waits.nested };
 }
+
+-- the innermost row is still there
+pub still_innermost : (p q : Parser) (k : Context) → (q.frames ≡ p.frames) × (q.style ≡ p.style) → IsRowInnermost p.style p.frames.stack.items k → IsRowInnermost q.style q.frames.stack.items k
+still_innermost p q k (frames, style) row = rw (frames, style) row
+
+-- the innermost row waits for what follows an atom that was read
+pub scripts_due : (p : Parser) (k : Context) → IsRowInnermost p.style p.frames.stack.items k → (c : Core) (n : ℕ) → Follows n p (state.Core c) → Follows n p (state.Atom c (lone_scripts c))
+scripts_due p k (e, (place, (row, (others, inner)))) c n follows =
+    let can : CanBegin 0 p = record { elements = omega (arith, follows.ready.elements); awaits = follows.ready.may_come } in
+    let waits = row_awaits p e place row k others inner can in
+    record {
+      ready = record { elements = follows.ready.elements; may_come = record { accepted = waits.accepted; nested = waits.nested } };
+      falls = omega (arith, follows.falls);
+    }
 
 -- The rules of digits, letters and signs
 

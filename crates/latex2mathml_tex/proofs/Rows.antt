@@ -38,7 +38,8 @@ use Rattle.latex2mathml_tex.specs.Levels as levels
 use Rattle.latex2mathml_tex_units.specs.declared.unit.{Next.Next as CodeNext, Unit.Unit as CodeUnit}
 use Rattle.latex2mathml_tex_units.specs.declared.unit.Next.TheVariants as next
 use Rattle.latex2mathml_tex.proofs.Leading.{scripts_ended}
-use Rattle.latex2mathml_tex.proofs.Opening.{context_is, into_frame}
+use Rattle.latex2mathml_tex.proofs.Opening.{context_is, into_frame, out_of_frame}
+use Rattle.latex2mathml_tex.specs.{Innermost.IsLonger, declared.parse.frames.Frames.Frames}
 
 -- A row with an atom after it
 
@@ -144,6 +145,30 @@ row_put_back p q f others e place context row longer i is can below rest there i
       };
       falls = omega (arith, after, before, same, units);
     }
+
+-- an atom is added in place to the row of the innermost frame
+module _ (p : Parser) (fr : Frames) (core : CodeCore) (is : IsLonger core p.frames.stack.items fr.stack.items) (can : CanMake atom_made 1 p) where
+  inner : IsInnermost p.style p.frames.stack.items (frame.Row is.ending is.place is.context is.row) is.others
+  inner = on_top is.before
+
+  enough : is.row.count + 1 ≤ length (elements_of p)
+  enough =
+      let brought : sum_by element_count p.frames.stack.items ≡ sum_by element_count is.others + (row_count is.row + ending_count is.ending) = ap (sum_by element_count) is.before ∙ sum_by_push element_count is.others (frame.Row is.ending is.place is.context is.row) in
+      omega (arith, brought, can.elements)
+
+  below : drop is.longer.count (elements_of p) ≡ drop (is.row.count + 1) (elements_of p)
+  below = ap (λ n. drop n (elements_of p)) is.added.count
+
+  pub row_added : (s : Start) → MadeAtom core s p → Holds s (record p { frames = fr }) state.Next
+  row_added s g =
+      let leads = atom_put s p (frame.Row is.ending is.place is.context is.row) is.others is.ending is.place is.context is.row is.longer core (elements_of p) inner refl (is.added.row (elements_of p) enough) below is.added.rest g in
+      record {
+        style = g.style;
+        claims = out_of_frame (λ l. Leads l (left_of p)) s p.style g.style fr.stack.items is.others (frame.Row is.ending is.place is.context is.longer) (elements_of p) (on_top is.after) leads;
+      }
+
+  pub row_added_step : Follows (to_do p + 2) (record p { frames = fr }) state.Next
+  row_added_step = row_put_back p (record p { frames = fr }) (frame.Row is.ending is.place is.context is.row) is.others is.ending is.place is.context is.row is.longer inner refl can below is.added.rest (omega (arith, is.added.count, enough)) is.after refl
 
 -- What is refused
 

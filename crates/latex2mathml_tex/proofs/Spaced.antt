@@ -1,9 +1,11 @@
 -- White space after an atom does not matter to the atoms after it.
 use Rattle.std.proofs.Common.{◌≡◌, ◌∙◌, ap, sym}
 use Rattle.latex2mathml_tex_grammar.specs.{Atoms.Atom, Next.past_space, Rows.Row, Rules.Context, Rules.Ending, Units.Units}
-use Rattle.latex2mathml_tex_grammar.specs.Reading.{Outcome, Read, ReadsAtoms, atom_read, atom_refused, atoms_end, atoms_stopped, change_refused, never_ended, rest_read, text_ends}
+use Rattle.latex2mathml_tex_grammar.specs.Makes.{Scripts}
+use Rattle.latex2mathml_tex_grammar.specs.Reading.{Outcome, Read, ReadsAtoms, ReadsScripts, atom_read, atom_refused, atoms_end, atoms_stopped, change_refused, mark_refused, mark_taken, never_ended, rest_read, script_read, script_refused, scripts_end, text_ends}
+use Rattle.latex2mathml_tex_grammar.specs.Starts.{step_next}
 use Rattle.latex2mathml_tex_units.specs.Left.{units_at}
-use Rattle.latex2mathml_tex.specs.{Frames.Start, Levels.AtomMade, Levels.Level}
+use Rattle.latex2mathml_tex.specs.{Frames.Start, Levels.AtomMade, Levels.Level, Levels.ScriptsLead}
 use Rattle.latex2mathml_tex.specs.Levels as levels
 use Rattle.latex2mathml_tex.specs.Steps.{MadeAtom, left_of, level}
 use Rattle.latex2mathml_tex_units.specs.declared.input.Input.{Input}
@@ -30,3 +32,19 @@ made_spaced s p c i is g = record {
   style = g.style;
   leads = atom_spaced (level 1 s p) _ (left_of p) (units_at i) is g.leads;
 }
+
+-- White space before what follows an atom does not matter.
+module _ (l : Level) (base : Atom) (m n : Units) (is : n ≡ past_space m) where
+  same : past_space m ≡ past_space n
+  same = sym (ap past_space is ∙ past_twice m)
+
+  scripts_led : {c : Context} {scripts : Scripts} → ((o : Outcome Atom) → ReadsScripts c base scripts m o → AtomMade l o) → (o : Outcome Atom) → ReadsScripts c base scripts n o → AtomMade l o
+  scripts_led {scripts = scripts} k o (scripts_end h) = atom_spaced l _ m n is (k _ (scripts_end (ap (step_next scripts) same ∙ h)))
+  scripts_led k o (mark_taken h g r) = k o (mark_taken (same ∙ h) g r)
+  scripts_led k o (script_read h g x r) = k o (script_read (same ∙ h) g x r)
+  scripts_led k o (script_refused h g x) = k o (script_refused (same ∙ h) g x)
+  scripts_led k o (mark_refused h g) = k o (mark_refused (same ∙ h) g)
+
+pub scripts_spaced : (l : Level) (base : Atom) (scripts : Scripts) (m n : Units) → n ≡ past_space m → ScriptsLead l base scripts m → ScriptsLead l base scripts n
+scripts_spaced (levels.row e c xs K) base scripts m n is k = scripts_led (levels.row e c xs K) base m n is k
+scripts_spaced l base scripts m n is k = absurd k

@@ -1,6 +1,6 @@
 -- What the parser's frames mean: each is a level that was entered. A frame holds no elements: those that were read for it are
 -- the first of the elements that are given next to it, the uppermost first.
-use Rattle.std.specs.Prelude.{◌≡◌, ℕ, zero, suc, ◌+◌, Bool, true, IsFalse, List, [], ◌∷◌, drop, reverse, option_map, Some}
+use Rattle.std.specs.Prelude.{◌≡◌, ℕ, zero, suc, ◌+◌, true, IsFalse, List, [], ◌∷◌, drop, reverse, option_map, Some}
 use Rattle.latex2mathml_elements.specs.{Attributes.Above, Attributes.plain, Element.Element, Element.Mover, Element.Munderover, Element.pair, Element.triple}
 use Rattle.latex2mathml_attributes.specs.Names.{side_of, stretch_of}
 use Rattle.latex2mathml_tex_grammar.specs.Makes as makes

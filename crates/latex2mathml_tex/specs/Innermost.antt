@@ -1,10 +1,11 @@
 -- The innermost frame of a stack of frames.
-use Rattle.std.specs.Prelude.{◌≡◌, List, [], ◌∷◌, ◌++◌, None}
-use Rattle.latex2mathml_tex_atoms.specs.declared.atoms.{Context.Context, Row.Row}
+use Rattle.std.specs.Prelude.{◌≡◌, ℕ, List, [], ◌∷◌, ◌++◌, None}
+use Rattle.latex2mathml_tex_atoms.specs.Adding.{IsAdded}
+use Rattle.latex2mathml_tex_atoms.specs.declared.atoms.{Context.Context, Core.Core, Row.Row}
 use Rattle.latex2mathml_tex_atoms.specs.Models.{empty_row}
 use Rattle.latex2mathml_tex_commands.specs.declared.meaning.Style.{Style}
 use Rattle.latex2mathml_tex_commands.specs.declared.meaning.Style.TheVariants as style
-use Rattle.latex2mathml_tex.specs.declared.parse.frames.Frame.{Frame}
+use Rattle.latex2mathml_tex.specs.declared.parse.frames.{Ending.Ending, Frame.Frame}
 use Rattle.latex2mathml_tex.specs.declared.parse.frames.Ending.TheVariants as ending
 use Rattle.latex2mathml_tex.specs.declared.parse.frames.Frame.TheVariants as frame
 
@@ -30,3 +31,15 @@ frame_context f = record { style = style.InText; alphabet = None }
 abbrev pub frame_row : Frame → Context × Row
 frame_row (frame.Row e place c row) = (c, row)
 frame_row f = (frame_context f, empty_row)
+
+-- The innermost of these frames is a row, to which an atom was added in place.
+pub record IsLonger (core : Core) (old new : List Frame) : Type 0 where
+  pub ending : Ending
+  pub place : ℕ
+  pub context : Context
+  pub row : Row
+  pub longer : Row
+  pub others : List Frame
+  pub before : old ≡ others ++ frame.Row ending place context row ∷ []
+  pub after : new ≡ others ++ frame.Row ending place context longer ∷ []
+  pub added : IsAdded context.style core row longer

@@ -1,4 +1,5 @@
 pub mod Answers
+pub mod Begun
 pub mod Frames
 pub mod Innermost
 pub mod Levels
@@ -7,5 +8,6 @@ pub mod ReadRows
 pub mod RowCharacters
 pub mod RowCommands
 pub mod Steps
+pub mod SymbolOperands
 pub mod Tables
 pub mod TakenBy

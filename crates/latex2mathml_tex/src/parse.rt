@@ -16,7 +16,9 @@ mod environments;
 mod fractions;
 pub(crate) mod frames;
 mod leaves;
+mod operands;
 mod outlines;
+mod plain;
 mod rows;
 pub(crate) mod scripts;
 mod symbols;
@@ -25,15 +27,14 @@ mod values;
 mod words;
 
 use crate::parse::frames::{Frame, Frames};
-use crate::parse::rows::{begins_atoms, ends_or_marks};
+use crate::parse::plain::Begun;
 use latex2mathml_builder::builder::Builder;
 use latex2mathml_tex_atoms::atoms::{Core, Operand, Scripts, Words};
-use latex2mathml_tex_commands::commands;
 use latex2mathml_tex_commands::meaning::{Alphabet, Style};
 use latex2mathml_tex_units::error::{TexError, TexErrorKind};
 use latex2mathml_tex_units::input::Input;
 use latex2mathml_tex_units::macros::whole::Whole;
-use latex2mathml_tex_units::unit::{Fault, Next, Piece};
+use latex2mathml_tex_units::unit::{Fault, Next};
 use std::alloc::{AllocError, Global};
 use std::mem;
 
@@ -150,40 +151,23 @@ impl<'a> Parser<'a> {
         }
     }
 
-    /// Reads what the innermost frame waits for.
+    /// Reads what the innermost frame waits for. In a row, reads on as long as atoms without scripts can be added in place.
     fn next(&mut self) -> Result<State, AllocError>
         requires { Ready self.old State.Next }
         ensures holds { LeadsOn (HoldsIn State.Next) self.old self.new result }
         ensures step { Advances 1 self.old self.new result }
     {
-        // most units are characters and commands in a row: for these, no frame is copied
-        if let Next::Unit(unit) = self.input.next
-            && let Piece::Character(c) = unit.piece
-            && !ends_or_marks(c)
-            && let Some(context) = self.frames.row_context(self.style)
-        {
-            self.input.advance();
-            return self.character_in_row(c, unit.place, context);
+        'atoms: loop {
+            match self.begin_in_row()? {
+                Begun::Atom(core) => {
+                    if !self.add_unmarked(core) {
+                        return self.go_on(core, Scripts::none(core.kind, core.limits));
+                    }
+                }
+                Begun::Other(state) => return Ok(state),
+                Begun::Nothing => return self.next_part(),
+            }
         }
-        self.next_command()
-    }
-
-    /// Reads what the innermost frame waits for, which may be a command in a row.
-    fn next_command(&mut self) -> Result<State, AllocError>
-        requires { Ready self.old State.Next }
-        ensures holds { LeadsOn (HoldsIn State.Next) self.old self.new result }
-        ensures step { Advances 1 self.old self.new result }
-    {
-        if let Next::Unit(unit) = self.input.next
-            && let Piece::Command(name) = unit.piece
-            && let Some(context) = self.frames.row_context(self.style)
-            && let Some(meaning) = commands::look_up(name)
-            && begins_atoms(meaning)
-        {
-            self.input.advance();
-            return self.command_in_row(meaning, unit.place, context);
-        }
-        self.next_part()
     }
 
     /// Reads what the innermost frame waits for, whatever comes next.

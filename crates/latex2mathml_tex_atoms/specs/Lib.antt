@@ -1,3 +1,4 @@
+pub mod Adding
 pub mod Models
 pub mod Outlines
 pub mod Shapes

@@ -1,11 +1,14 @@
 //! Atoms and rows, and what an atom is to its neighbours.
-ghost use Rattle.std.specs.Prelude.{◌≡◌, false};
+ghost use Rattle.std.specs.Prelude.{◌≡◌, ◌+◌, ◌≤◌, false, IsTrue, List, drop, length, take};
+ghost use Rattle.latex2mathml_elements.specs.Element.{Element};
 ghost use Rattle.latex2mathml_tex_grammar.specs.Atoms;
 ghost use Rattle.latex2mathml_tex_grammar.specs.Makes;
 ghost use Rattle.latex2mathml_tex_grammar.specs.Rows;
 ghost use Rattle.latex2mathml_tex_commands.specs.Meanings.{class_of, limit_place_of, style_of};
 ghost use Rattle.latex2mathml_tex_atoms.specs.Models.{has_script, empty_row, before_of, kind_of};
+ghost use Rattle.latex2mathml_tex_atoms.specs.Adding.{IsAdded};
 
+use crate::signs::is_put_as_it_is;
 use latex2mathml_attributes::around::Color;
 use latex2mathml_attributes::attributes::Side;
 use latex2mathml_tex_commands::meaning::{Alphabet, Class, FractionRule, LimitPlace, Style};
@@ -260,6 +263,41 @@ impl Row {
             settled: 0,
             under: None,
         }
+    }
+
+    /// Adds an atom after the others, if its element stays as it is there and no space precedes it. Returns whether the atom was
+    /// added. Most are. This changes the row in place, as a row takes long to copy.
+    #[inline(always)]
+    pub fn add(&mut self, style: Style, core: Core) -> bool
+        ensures added { IsTrue result → IsAdded style core self.old self.new }
+        ensures unchanged { result ≡ false → self.new ≡ self.old }
+    {
+        if !is_put_as_it_is(style, self.count == 0, self.before, core.kind) {
+            return false;
+        }
+        let Some(count) = self.count.checked_add(1) else {
+            return false;
+        };
+        let high = self.high || core.high;
+        self.class = class_after(self.count, core.kind);
+        self.count = count;
+        self.before = self.before.past(core.kind);
+        self.ends_in_word = false;
+        self.high = high;
+        true
+    }
+}
+
+/// Returns the class of a row as the base of a mark, where an atom of this kind follows `count` elements.
+#[inline(always)]
+pub(crate) fn class_after(count: usize, kind: Kind) -> Class
+    ensures { (xs : List Element) → count + 1 ≤ length xs
+        → class_of result ≡ Rows.class_after (take count (drop 1 xs)) (kind_of kind) }
+{
+    if count == 0 {
+        kind.class()
+    } else {
+        Class::Ordinary
     }
 }
 

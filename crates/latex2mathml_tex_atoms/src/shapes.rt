@@ -13,8 +13,8 @@ ghost use Rattle.latex2mathml_tex_atoms.specs.Models.{before_of, core_with, kind
 ghost use Rattle.latex2mathml_tex_atoms.specs.Shapes.{ChangesAt, ReplacesTop, delimiter_element, mapped_first, mark_element};
 ghost use Rattle.latex2mathml_tex_commands.specs.Delimiters.{delimiter_text};
 
-use crate::atoms::{Before, Core, Kind, Row};
-use crate::signs::{adapt, is_put_as_it_is};
+use crate::atoms::{Before, Core, Kind, Row, class_after};
+use crate::signs::adapt;
 use latex2mathml_attributes::attributes::{Attributes, Form, Side, Size, Space, Stretch};
 use latex2mathml_attributes::tag::{Container, Pair, Token};
 use latex2mathml_builder::builder::Builder;
@@ -241,45 +241,20 @@ pub fn with_atom(
     ensures rest { IfOk result (λ longer. row_rest longer ≡ row_rest row) }
     ensures count { IfOk result (λ longer. longer.count ≤ length (elements_in builder.new)) }
 {
-    let count = put_behind(builder, style, row, core.kind)?;
+    let mut longer = row;
+    if longer.add(style, core) {
+        return Ok(longer);
+    }
+    let continues = continues_word(row, core.kind);
+    let count = put_adapted(builder, style, row.count, row.before, continues, core.kind)?;
     Ok(Row {
         count,
         before: row.before.past(core.kind),
         ends_in_word: core.kind.is_letters(),
         high: row.high || core.high,
-        class: if row.count == 0 {
-            core.kind.class()
-        } else {
-            Class::Ordinary
-        },
+        class: class_after(row.count, core.kind),
         ..row
     })
-}
-
-/// Makes the top element the last one of a row. Returns how many elements the row has then.
-#[inline(always)]
-fn put_behind(
-    builder: &mut Builder,
-    style: Style,
-    row: Row,
-    kind: Kind,
-) -> Result<usize, AllocError>
-    requires { row.count + 1 ≤ length (elements_in builder.old) }
-    ensures elements { IfOk result (λ count. take count (elements_in builder.new)
-        ≡ Rows.put (row.ends_in_word && Atoms.is_letters (kind_of kind)) (style_of style)
-        (before_of row.before) (Atoms.atom (kind_of kind) false (top (elements_in builder.old)))
-        (take row.count (drop 1 (elements_in builder.old)))) }
-    ensures below { IfOk result (λ count. drop count (elements_in builder.new)
-        ≡ drop (row.count + 1) (elements_in builder.old)) }
-    ensures count { IfOk result (λ count. count ≤ length (elements_in builder.new)) }
-{
-    if is_put_as_it_is(style, row.count == 0, row.before, kind) {
-        // all elements of a row are among those of the builder, so their number fits in a `usize`
-        let _ = builder.len();
-        return Ok(row.count + 1);
-    }
-    let continues = continues_word(row, kind);
-    put_adapted(builder, style, row.count, row.before, continues, kind)
 }
 
 /// Makes the top element, which continues a word or not, the last one of a row that has `count` elements. Returns how many it

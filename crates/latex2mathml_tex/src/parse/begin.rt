@@ -144,7 +144,7 @@ impl<'a> Parser<'a> {
         ensures step { Advances 13 self.old self.new result }
     {
         if c.is_ascii_digit() {
-            return self.number(context.alphabet, c);
+            return Ok(State::Core(self.number(context.alphabet, c)?));
         }
         if c.is_ascii_alphabetic() {
             return self.letter(context.alphabet, c);

@@ -1,5 +1,5 @@
 //! The open frames, and how much of each was read.
-ghost use Rattle.std.specs.Prelude.{◌≡◌, ℕ, ◌∷◌, ◌++◌, [], IfSome, List, MatchOption, None, OnOk, if◌then◌else◌, option_map};
+ghost use Rattle.std.specs.Prelude.{◌≡◌, ℕ, ◌∷◌, ◌++◌, [], false, IfSome, IsTrue, List, MatchOption, None, OnOk, if◌then◌else◌, option_map};
 ghost use Rattle.latex2mathml_tex_grammar.specs.Starts.{DividerStart, atom_start, change_by, ends, mark_of, start_of_mark};
 ghost use Rattle.latex2mathml_tex_grammar.specs.{Refusal.refusal_at, Starts.unended, Environments.before_cell, Rules.InCell};
 ghost use Rattle.latex2mathml_elements.specs.Columns.{column_at};
@@ -9,7 +9,7 @@ ghost use Rattle.latex2mathml_tex_units.specs.Errors.{kind_of_error};
 ghost use Rattle.latex2mathml_tex_commands.specs.Meanings.{style_of};
 ghost use Rattle.latex2mathml_tex_atoms.specs.Models.{before_of};
 ghost use Rattle.latex2mathml_tex.specs.Tables.{style_in, table_end};
-ghost use Rattle.latex2mathml_tex.specs.Innermost.{IsInnermost, begun_row, frame_context, frame_row};
+ghost use Rattle.latex2mathml_tex.specs.Innermost.{IsInnermost, IsLonger, begun_row, frame_context, frame_row};
 ghost use Rattle.latex2mathml_tex.specs.RowCharacters.{IsRowInnermost};
 ghost use Rattle.latex2mathml_tex_atoms.specs.Models.{empty_row};
 ghost use Rattle.latex2mathml_tex_units.specs.Taking.{piece_of};
@@ -328,6 +328,27 @@ impl Frames {
             *old = row;
         }
         Ok(())
+    }
+
+    /// Adds an atom to the innermost frame's row in place, if there is such a row on the stack and [`Row::add`] adds to it.
+    /// Returns whether the atom was added.
+    #[inline(always)]
+    pub(crate) fn add(&mut self, core: Core) -> bool
+        ensures added { IsTrue result → IsLonger core self.old.stack.items self.new.stack.items }
+        ensures unchanged { result ≡ false → self.new.stack.items ≡ self.old.stack.items }
+    {
+        let len = self.stack.as_slice().len();
+        if len == 0 {
+            return false;
+        }
+        let Frame::Row(_, _, context, _) = &self.stack[len - 1] else {
+            return false;
+        };
+        let style = context.style;
+        match &mut self.stack[len - 1] {
+            Frame::Row(_, _, _, row) => row.add(style, core),
+            _ => false,
+        }
     }
 
     /// Takes off the innermost frame, in a formula of this style.

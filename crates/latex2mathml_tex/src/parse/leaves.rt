@@ -1,5 +1,5 @@
 //! The atoms that are one element: letters, numbers, signs, names and spaces.
-ghost use Rattle.std.specs.Prelude.{◌≡◌, ◌<◌, ◌∷◌, [], false, IfOk, OnOk, option_map};
+ghost use Rattle.std.specs.Prelude.{◌≡◌, ◌+◌, ◌<◌, ◌∷◌, [], false, IfOk, OnOk, option_map};
 ghost use Rattle.latex2mathml_builder.specs.{Built.elements_in, Stacks.lengthened};
 ghost use Rattle.latex2mathml_tex_grammar.specs.Makes;
 ghost use Rattle.latex2mathml_tex_grammar.specs.Makes.{core, digits_in};
@@ -15,7 +15,7 @@ ghost use Rattle.latex2mathml_tex.specs.Frames.{Start};
 ghost use Rattle.latex2mathml_tex_atoms.specs.Models.{core_with};
 ghost use Rattle.latex2mathml_tex_commands.specs.Meanings;
 ghost use Rattle.latex2mathml_tex.specs.Numbers.{digit_in};
-ghost use Rattle.latex2mathml_tex.specs.Steps.{Begins, CanBegin, Holds, Advances, LeadsOn, NumberBegins, PointBegins};
+ghost use Rattle.latex2mathml_tex.specs.Steps.{Begins, CanBegin, Follows, Holds, Advances, LeadsOn, NumberBegins, PointBegins, to_do};
 
 use crate::parse::symbols::{put_letter, put_symbol, put_upright_letter};
 use crate::parse::{Parser, State};
@@ -114,11 +114,15 @@ impl<'a> Parser<'a> {
         &mut self,
         alphabet: Option<Alphabet>,
         digit: char,
-    ) -> Result<State, AllocError>
+    ) -> Result<Core, AllocError>
         requires begin { CanBegin 0 self.old }
         requires digit { digit < 128 }
-        ensures holds { LeadsOn (NumberBegins alphabet digit) self.old self.new result }
-        ensures step { Advances 13 self.old self.new result }
+        ensures holds { (s : Start) → NumberBegins alphabet digit s self.old
+            → IfOk result (λ core. Holds s self.new (State.Core core)) }
+        ensures step { IfOk result (λ core.
+            Follows (to_do self.old + 13) self.new (State.Core core)) }
+        ensures frames { (self.new.frames ≡ self.old.frames)
+            × (self.new.style ≡ self.old.style) }
     {
         begin_number(&mut self.builder, alphabet, digit)?;
         digits(&mut self.input, &mut self.builder, alphabet)?;
@@ -127,7 +131,7 @@ impl<'a> Parser<'a> {
             append_digit(&mut self.builder, alphabet, next)?;
             digits(&mut self.input, &mut self.builder, alphabet)?;
         }
-        Ok(State::Core(number()))
+        Ok(number())
     }
 
     /// Puts a character that is a sign or a letter. Any other character is put as a letter.

@@ -95,57 +95,6 @@ impl<'a> Parser<'a> {
         self.command(found, name, unit.place, context)
     }
 
-    /// Begins an atom of a row with this character, which was taken at this place.
-    pub(crate) fn character_in_row(
-        &mut self,
-        c: char,
-        place: usize,
-        context: Context,
-    ) -> Result<State, AllocError>
-        requires begin { CanBegin 0 self.old }
-        requires row { IsRowInnermost self.old.style self.old.frames.stack.items context }
-        ensures holds { LeadsOn
-            (BeginsIn context (character_rule (context_of context) c place) 0)
-            self.old self.new result }
-        ensures step { Advances 13 self.old self.new result }
-    {
-        if c.is_ascii_digit() {
-            return self.number(context.alphabet, c);
-        }
-        if c.is_ascii_alphabetic() {
-            let letter = put_letter(&mut self.builder, context.alphabet, c)?;
-            return self.go_on(letter, Scripts::none(letter.kind, letter.limits));
-        }
-        if is_symbol(c)
-            && let Some(symbol) = symbol_of(c)
-        {
-            let sign = put_symbol(&mut self.builder, context.alphabet, symbol)?;
-            return self.go_on(sign, Scripts::none(sign.kind, sign.limits));
-        }
-        self.character(c, place, context)
-    }
-
-    /// Begins an atom of a row with a command of this meaning, which was taken at this place.
-    pub(crate) fn command_in_row(
-        &mut self,
-        meaning: Meaning,
-        place: usize,
-        context: Context,
-    ) -> Result<State, AllocError>
-        requires begin { CanBegin 0 self.old }
-        requires row { IsRowInnermost self.old.style self.old.frames.stack.items context }
-        ensures holds { LeadsOn
-            (BeginsIn context (meaning_rule place (context_of context) (meaning_of meaning)) 0)
-            self.old self.new result }
-        ensures step { Advances 13 self.old self.new result }
-    {
-        let Meaning::Shows(symbol) = meaning else {
-            return self.meaning(meaning, place, context);
-        };
-        let sign = put_symbol(&mut self.builder, context.alphabet, symbol)?;
-        self.go_on(sign, Scripts::none(sign.kind, sign.limits))
-    }
-
     /// Changes what follows this place in the innermost row.
     fn change(&mut self, change: Change, place: usize) -> Result<State, AllocError>
         requires begin { CanBegin 0 self.old }
@@ -224,6 +173,19 @@ impl<'a> Parser<'a> {
     /// Puts an atom, whose element is uppermost, after the others of the innermost row.
     #[inline(always)]
     pub(crate) fn put(&mut self, core: Core) -> Result<State, AllocError>
+        requires { CanMake atom_made 1 self.old }
+        ensures holds { LeadsOn (MadeAtom core) self.old self.new result }
+        ensures step { Advances 2 self.old self.new result }
+    {
+        if self.frames.add(core) {
+            return Ok(State::Next);
+        }
+        self.put_adapted(core)
+    }
+
+    /// Puts an atom, whose element is uppermost, after the others of the innermost row. The element may have to change.
+    #[inline(never)]
+    fn put_adapted(&mut self, core: Core) -> Result<State, AllocError>
         requires { CanMake atom_made 1 self.old }
         ensures holds { LeadsOn (MadeAtom core) self.old self.new result }
         ensures step { Advances 2 self.old self.new result }
@@ -389,35 +351,5 @@ fn change_by(found: Option<Meaning>) -> Option<Change>
     match found {
         Some(Meaning::Changes(change)) => Some(change),
         _ => None,
-    }
-}
-
-/// Whether the character ends some rows, or continues an atom.
-#[inline(always)]
-pub(crate) fn ends_or_marks(c: char) -> bool
-    ensures { result ≡ ends_or_marks c }
-{
-    matches!(c, '&' | '_' | '^' | '\'' | ']' | '$')
-}
-
-/// Whether a character that is no letter and no digit is none of those that have a rule of their own.
-#[inline(always)]
-fn is_symbol(c: char) -> bool
-    ensures { result ≡ is_symbol c }
-{
-    !matches!(c, '.' | '~' | '&' | '#' | '$' | '_' | '^' | '\'')
-}
-
-/// Whether a command of this meaning begins an atom in each row, and does nothing else.
-#[inline(always)]
-pub(crate) fn begins_atoms(meaning: Meaning) -> bool
-    ensures { result ≡ begins_atoms (meaning_of meaning) }
-{
-    match meaning {
-        Meaning::Changes(_) => false,
-        Meaning::Limits | Meaning::NoLimits => false,
-        Meaning::Middle | Meaning::Right => false,
-        Meaning::EndTable | Meaning::LineBreak => false,
-        _ => true,
     }
 }

@@ -7,17 +7,18 @@ ghost use Rattle.latex2mathml_tex_grammar.specs.Makes;
 ghost use Rattle.latex2mathml_tex_grammar.specs.Starts;
 ghost use Rattle.latex2mathml_tex_units.specs.{Errors.second_on, Taking.piece_of};
 ghost use Rattle.latex2mathml_tex_commands.specs.Meanings.{limit_place_of, style_of};
-ghost use Rattle.latex2mathml_tex.specs.Frames.{base_of, primes_put};
+ghost use Rattle.latex2mathml_tex.specs.{Frames.Start, Frames.base_of, Frames.primes_put, Levels.Leads};
 ghost use Rattle.latex2mathml_tex_atoms.specs.Shapes.{changed_at};
 ghost use Rattle.latex2mathml_tex_atoms.specs.Models.{core_with, script_count, scripts_with, top};
-ghost use Rattle.latex2mathml_tex.specs.Steps.{CanMake, HoldsIn, Advances, LeadsOn, Ready, TookMark, TookScript, atom_made, elements_of, level, mark_model};
+ghost use Rattle.latex2mathml_tex.specs.Steps.{CanMake, Holds, HoldsIn, Advances, LeadsOn, Ready, TookMark, TookScript, atom_made, elements_of, left_of, level, level_within, mark_model};
 
 use crate::parse::frames::Frame;
+use crate::parse::operands::put_symbol_operand;
 use crate::parse::{Parser, State};
 use latex2mathml_attributes::attributes::{Attributes, Side};
 use latex2mathml_attributes::tag::{Pair, Triple};
 use latex2mathml_builder::builder::Builder;
-use latex2mathml_tex_atoms::atoms::{Core, Scripts};
+use latex2mathml_tex_atoms::atoms::{Context, Core, Scripts};
 use latex2mathml_tex_atoms::shapes::{fix_limits, put_primes, put_row};
 use latex2mathml_tex_commands::meaning::{LimitPlace, Style};
 use latex2mathml_tex_units::error::TexErrorKind;
@@ -119,9 +120,33 @@ impl<'a> Parser<'a> {
                     .innermost(self.style)
                     .context()
                     .styled(Style::InScript);
-                self.open(Frame::Script(core, scripts, side, place, context))
+                self.begin_script(core, scripts, side, place, context)
             }
         }
+    }
+
+    /// Begins the operand of a script in this context. Most operands are a letter or a digit: for these, no frame is opened.
+    fn begin_script(
+        &mut self,
+        core: Core,
+        scripts: Scripts,
+        side: Side,
+        place: usize,
+        context: Context,
+    ) -> Result<State, AllocError>
+        requires { CanMake atom_made (primes_put side scripts.primes + (script_count scripts + 1))
+            self.old }
+        ensures holds { (s : Start) → s.style ≡ style_of self.old.style
+            → Leads (level_within (Frame.Script core scripts side place context) 0 s self.old)
+            (left_of self.old)
+            → IfOk result (Holds s self.new) }
+        ensures step { Advances 6 self.old self.new result }
+    {
+        let is_put = put_symbol_operand(&mut self.input, &mut self.builder, context)?;
+        if is_put {
+            return self.with_script(core, scripts, side);
+        }
+        self.open(Frame::Script(core, scripts, side, place, context))
     }
 
     /// Goes on after an operand that is a script.

@@ -32,7 +32,7 @@ returns-then-is_ascii_digit-clause-holds c = λ s g.
     let p = c.args.self.now in
     let k = c.args.context in
     let digit : is_ascii_digit c.args.c ≡ true = sym c.is_ascii_digit.ensures.value ∙ c.if-is_ascii_digit.true in
-    c.number.ensures.holds s (k, refl, subst (λ r. Begins r 0 s p) (digit_rule (context_of k) c.args.c c.args.place digit) (begun g))
+    c.in_ok-number.ensures.holds s (k, refl, subst (λ r. Begins r 0 s p) (digit_rule (context_of k) c.args.c c.args.place digit) (begun g))
 
 pub returns-in-38-clause-step : goal.returns-in-38-clause-step
 returns-in-38-clause-step c = refused_step c.args.self.now c.refuse.new.self c.args.self.now.input _ c.refuse.result c.refuse.ensures.parser c.refuse.ensures.state (omega arith) c.requires.begin.elements

@@ -34,12 +34,12 @@ returns-then-has-clause-holds c = λ s g.
     rw (c.refuse-then-has.ensures.state, c.refuse-then-has.ensures.parser, c.second_on.ensures) (script_refused s c.args.self.now c.args.core c.args.scripts c.args.mark c.args.place c.in-Script.side c.in-Script.is (sym c.has.ensures ∙ c.if-has.true) g)
 
 -- the script is due within its frame
-abbrev IsDue : goal.After-open → Start → Type 0
+abbrev IsDue : goal.After-begin_script → Start → Type 0
 IsDue c s =
     let p : Parser = c.match-side.self in
     (s.style ≡ style_of p.style) × Leads (level_within (frame.Script c.args.core c.args.scripts c.in-Script.side c.args.place c.styled-context.result) 0 s p) (left_of p)
 
-is_due : (c : goal.After-open) (s : Start) (b : Built) → c.match-side.self ≡ record c.args.self.now { builder = b } → MarkPut s c.args.self.now c.args.core c.args.scripts c.args.mark c.args.place c.in-Script.side (elements_in b) → TookIt s c.args.self.now c.args.core c.args.scripts c.args.mark c.args.place → IsDue c s
+is_due : (c : goal.After-begin_script) (s : Start) (b : Built) → c.match-side.self ≡ record c.args.self.now { builder = b } → MarkPut s c.args.self.now c.args.core c.args.scripts c.args.mark c.args.place c.in-Script.side (elements_in b) → TookIt s c.args.self.now c.args.core c.args.scripts c.args.mark c.args.place → IsDue c s
 is_due c s b same put g =
     script_opened s c.args.self.now c.args.core c.args.scripts c.args.mark c.args.place c.match-side.self b same c.in-Script.side c.innermost.result c.styled-context.result c.in-Script.is (sym c.has.ensures ∙ c.if-has.false) (c.styled-context.ensures ∙ ap {A = Context} {B = Context} (λ k. record k { style = style.InScript }) c.context.ensures) put g c.innermost.ensures
 
@@ -55,7 +55,7 @@ returns-after-side-clause-holds c = λ s g.
         | in_default-via-in-Above+else-scripts-gt0 v ↦ is_due c s p.builder w.self-is (rw v.in-Above.is (above_put s p c.args.core c.args.scripts c.args.mark c.args.place (omega (arith, v.if-scripts-gt0.false)))) g
       ]
     ] in
-    c.open.ensures.holds s due.0 due.1
+    c.begin_script.ensures.holds s due.0 due.1
 
 pub returns-then-not-scripts-clause-step : goal.returns-then-not-scripts-clause-step
 returns-then-not-scripts-clause-step c =
