@@ -1,5 +1,5 @@
 -- Characters that begin atoms in every row.
-use Rattle.std.proofs.Common.{◌≡◌, ◌∙◌, ◌==◌, ◌||◌, ℕ, Bool, true, false, Some, ap, arith, refl}
+use Rattle.std.proofs.Common.{◌≡◌, ◌∙◌, ◌==◌, ◌||◌, ℕ, Bool, true, false, Some, ap, arith, refl, suc}
 use Rattle.std.proofs.lemmas.Bool.Decides.{nat_tests}
 use Rattle.latex2mathml_builder.specs.Built.{Built, elements_in}
 use Rattle.std.specs.Prelude.{not}
@@ -11,8 +11,9 @@ use Rattle.latex2mathml_tex_grammar.specs.Rules.{WholeText, InBraces, InBrackets
 use Rattle.latex2mathml_tex_grammar.specs.Starts.{RuleStart, atom_start, ends}
 use Rattle.latex2mathml_tex_grammar.specs.Units.{Character, Next, Open}
 use Rattle.latex2mathml_tex_atoms.specs.Models.{context_of, empty_row}
-use Rattle.latex2mathml_tex_units.specs.{Left.units_at, Taking.unit_of}
+use Rattle.latex2mathml_tex_units.specs.{Left.put_back, Left.unit_count, Left.units_at, Taking.unit_of}
 use Rattle.latex2mathml_tex_units.specs.declared.{input.Input.Input, unit.Unit.Unit}
+use Rattle.latex2mathml_tex_units.specs.declared.unit.Next.TheVariants as next
 use Rattle.latex2mathml_tex_units.specs.declared.unit.Piece.TheVariants as piece
 use Rattle.latex2mathml_tex_grammar.specs.{Commands.symbol_of, Makes.core, Makes.takes_limits, Rules.gives, Symbols.Symbol}
 use Rattle.latex2mathml_tex_grammar.specs.Makes
@@ -20,14 +21,14 @@ use Rattle.latex2mathml_tex_atoms.specs.{Models.kind_of, Shapes.IsPut}
 use Rattle.latex2mathml_tex_atoms.specs.declared.{atoms.Context.Context, atoms.Core.Core, atoms.Row.Row, atoms.Scripts.Scripts}
 use Rattle.latex2mathml_tex.specs.Frames.{Start, ending_of}
 use Rattle.latex2mathml_tex.specs.RowCharacters.{IsRowInnermost, ends_or_marks, is_symbol}
-use Rattle.latex2mathml_tex.specs.Begun.{lone_scripts}
-use Rattle.latex2mathml_tex.specs.Steps.{BeginsIn, CanBegin, Follows, Holds, Ready, Took, elements_of, left_of, level_within}
+use Rattle.latex2mathml_tex.specs.RowSymbols.{ReadSymbol, lone_scripts}
+use Rattle.latex2mathml_tex.specs.Steps.{Begins, BeginsIn, CanBegin, Follows, Holds, Ready, Took, elements_of, left_of, level_within}
 use Rattle.latex2mathml_tex.specs.declared.parse.Parser.{Parser}
 use Rattle.latex2mathml_tex.specs.declared.parse.State.TheVariants as state
 use Rattle.latex2mathml_tex.specs.Levels.{Leads}
 use Rattle.latex2mathml_tex.specs.declared.parse.frames.Ending.TheVariants as ending
 use Rattle.latex2mathml_tex.specs.declared.parse.frames.Frame.TheVariants as frame
-use Rattle.latex2mathml_tex.proofs.{Beginning.group_begins, Beginning.unit_begins, Beginnings.rule_begun, Operands.core_in_row, RowAwaits.row_awaits}
+use Rattle.latex2mathml_tex.proofs.{Beginning.group_begins, Beginning.unit_begins, Beginnings.rule_begun, Operands.core_in_row, Putting.put_held, RowAwaits.row_awaits}
 
 -- none of six tests
 record None6 (a b c d e f : Bool) : Type 0 where
@@ -107,6 +108,12 @@ group_begins_there p i u is next s k (e, (place, (own, (others, inner)))) h row 
     let begun = rule_begun s q u e (place, (own, (k, (others, inner)))) (λ at. rw is (open_ends_none (ending_of e at))) took (λ at. rw is (open_begins_by_rule (ending_of e at))) in
     group_begins s q k row u.place none (unit_begins s q (frame.Row e place k own) k u piece.Open refl is (others, inner) begun)
 
+-- the rule of a symbol begins in the innermost row, where it comes next
+pub symbol_begins : (p : Parser) (i : Input) (u : Unit) (c : ℕ) → p.input.next ≡ next.Unit u → u.piece ≡ piece.Character c → left_of p ≡ put_back p.input.next (units_at i) → (s : Start) (k : Context) → IsRowInnermost p.style p.frames.stack.items k → ends_or_marks c ≡ false → Holds s p state.Next → BeginsIn k (character_rule (context_of k) c u.place) 0 s (record p { input = i })
+symbol_begins p i u c there is taken s k row none h =
+    let next : left_of p ≡ Next (unit_of u) (units_at i) = taken ∙ ap (λ n. put_back n (units_at i)) there in
+    character_begins p i u c is s k row none (character_next p i u c is next) h
+
 -- what follows an atom that was put in the innermost row
 pub scripts_follow : (p : Parser) (k : Context) → IsRowInnermost p.style p.frames.stack.items k → (c : Core) (scripts : Scripts) → scripts ≡ record { primes = 0; below = false; above = false; is_exchanged = false; limits = c.limits; takes_limits = takes_limits (kind_of c.kind) } → (s : Start) → Holds s p (state.Core c) → Holds s p (state.Atom c scripts)
 scripts_follow p k (e, (place, (row, (others, inner)))) c scripts none s g = core_in_row s p c scripts (frame.Row e place k row) e place k row (others, inner) refl none g
@@ -132,13 +139,29 @@ scripts_due p k (e, (place, (row, (others, inner)))) c n follows =
       falls = omega (arith, follows.falls);
     }
 
+-- how many units are left after one was taken
+pub one_less : (p : Parser) (i : Input) (u : Unit) → p.input.next ≡ next.Unit u → left_of p ≡ put_back p.input.next (units_at i) → unit_count (left_of p) ≡ suc (unit_count (units_at i))
+one_less p i u there taken = ap unit_count (taken ∙ ap (λ n. put_back n (units_at i)) there)
+
+-- a symbol was taken, and its element was put
+pub symbol_put : (p : Parser) (i : Input) (b : Built) (k : Context) → IsRowInnermost p.style p.frames.stack.items k → unit_count (left_of p) ≡ suc (unit_count (units_at i)) → (c : Core) (made : Makes.Core) → IsPut c made (elements_of p) (elements_in b) → ((s : Start) → Holds s p state.Next → Begins (gives made) 0 s (record p { input = i })) → Ready p state.Next → ReadSymbol c p (record p { input = i; builder = b })
+symbol_put p i b k row less c made put begins ready =
+    let can : CanBegin 0 (record p { input = i }) = record { elements = ready.elements; awaits = record { accepted = ready.may_come.accepted; nested = ready.may_come.nested } } in
+    record {
+      holds = λ s h. scripts_follow (record p { input = i; builder = b }) k row c (lone_scripts c) refl s (put_held s (record p { input = i }) b c made put (begins s h));
+      step = record {
+        ready = scripts_ready (record p { input = i }) b k row c (lone_scripts c) made refl put can;
+        falls = omega (arith, less);
+      };
+    }
+
 -- The rules of digits, letters and signs
 
 pub digit_rule : (k : rules.Context) (c place : ℕ) → is_ascii_digit c ≡ true → character_rule k c place ≡ a_number k c
 digit_rule k c place digit = rw digit refl
 
--- none of eight tests
-record None8 (a b c d e f g h : Bool) : Type 0 where
+-- none of nine tests
+record None9 (a b c d e f g h i : Bool) : Type 0 where
   first : a ≡ false
   second : b ≡ false
   third : c ≡ false
@@ -147,17 +170,33 @@ record None8 (a b c d e f g h : Bool) : Type 0 where
   sixth : f ≡ false
   seventh : g ≡ false
   eighth : h ≡ false
+  ninth : i ≡ false
 
-none_of_8 : (a b c d e f g h : Bool) → not (a || b || c || d || e || f || g || h) ≡ true → None8 a b c d e f g h
-none_of_8 false false false false false false false false t = record { first = refl; second = refl; third = refl; fourth = refl; fifth = refl; sixth = refl; seventh = refl; eighth = refl }
-none_of_8 true b c d e f g h t = absurd (cc)
-none_of_8 false true c d e f g h t = absurd (cc)
-none_of_8 false false true d e f g h t = absurd (cc)
-none_of_8 false false false true e f g h t = absurd (cc)
-none_of_8 false false false false true f g h t = absurd (cc)
-none_of_8 false false false false false true g h t = absurd (cc)
-none_of_8 false false false false false false true h t = absurd (cc)
-none_of_8 false false false false false false false true t = absurd (cc)
+none_of_9 : (a b c d e f g h i : Bool) → not (a || b || c || d || e || f || g || h || i) ≡ true → None9 a b c d e f g h i
+none_of_9 false false false false false false false false false t = record { first = refl; second = refl; third = refl; fourth = refl; fifth = refl; sixth = refl; seventh = refl; eighth = refl; ninth = refl }
+none_of_9 true b c d e f g h i t = absurd (cc)
+none_of_9 false true c d e f g h i t = absurd (cc)
+none_of_9 false false true d e f g h i t = absurd (cc)
+none_of_9 false false false true e f g h i t = absurd (cc)
+none_of_9 false false false false true f g h i t = absurd (cc)
+none_of_9 false false false false false true g h i t = absurd (cc)
+none_of_9 false false false false false false true h i t = absurd (cc)
+none_of_9 false false false false false false false true i t = absurd (cc)
+none_of_9 false false false false false false false false true t = absurd (cc)
+
+symbol_tests : (c : ℕ) → is_symbol c ≡ true → None9 (c == byte ".") (c == byte "~") (c == byte "&") (c == byte "#") (c == byte "$") (c == byte "_") (c == byte "^") (c == byte "'") (c == byte "]")
+symbol_tests c plain = none_of_9 (c == byte ".") (c == byte "~") (c == byte "&") (c == byte "#") (c == byte "$") (c == byte "_") (c == byte "^") (c == byte "'") (c == byte "]") plain
+
+-- digits, letters and symbols end no row, and continue no atom
+
+pub digit_is_plain : (c : ℕ) → is_ascii_digit c ≡ true → ends_or_marks c ≡ false
+digit_is_plain c h = grind (arith, nat_tests)
+
+pub letter_is_plain : (c : ℕ) → is_ascii_alphabetic c ≡ true → ends_or_marks c ≡ false
+letter_is_plain c h = grind (arith, nat_tests)
+
+pub symbol_is_plain : (c : ℕ) → is_symbol c ≡ true → ends_or_marks c ≡ false
+symbol_is_plain c plain = let each = symbol_tests c plain in rw (each.third, each.sixth, each.seventh, each.eighth, each.ninth, each.fifth) refl
 
 module _ (k : rules.Context) (c place : ℕ) (no_digit : is_ascii_digit c ≡ false) where
   pub letter_rule : is_ascii_alphabetic c ≡ true → character_rule k c place ≡ gives (core (Makes.letter k.alphabet c))
@@ -165,5 +204,5 @@ module _ (k : rules.Context) (c place : ℕ) (no_digit : is_ascii_digit c ≡ fa
 
   pub symbol_rule : (symbol : Symbol) → is_ascii_alphabetic c ≡ false → is_symbol c ≡ true → symbol_of c ≡ Some symbol → character_rule k c place ≡ gives (Makes.symbol k.alphabet symbol)
   symbol_rule symbol no_letter plain is =
-      let each = none_of_8 (c == byte ".") (c == byte "~") (c == byte "&") (c == byte "#") (c == byte "$") (c == byte "_") (c == byte "^") (c == byte "'") plain in
+      let each = symbol_tests c plain in
       rw (no_digit, no_letter, each.first, each.second, each.third, each.fourth, each.fifth, each.sixth, each.seventh, each.eighth, is) refl

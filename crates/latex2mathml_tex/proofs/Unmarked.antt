@@ -6,7 +6,7 @@ use Rattle.latex2mathml_tex_units.specs.declared.{input.Input.Input, unit.Unit.U
 use Rattle.latex2mathml_tex_units.specs.declared.unit.Next.TheVariants as next
 use Rattle.latex2mathml_tex_units.proofs.Nexts.{no_more_past_space}
 use Rattle.latex2mathml_tex_atoms.specs.declared.atoms.Core.{Core}
-use Rattle.latex2mathml_tex.specs.{Begun.lone_scripts, Frames.Start}
+use Rattle.latex2mathml_tex.specs.{RowSymbols.lone_scripts, Frames.Start}
 use Rattle.latex2mathml_tex.specs.Innermost.{IsLonger, on_top}
 use Rattle.latex2mathml_tex.specs.Steps.{CanMake, Follows, Holds, Ready, atom_made, left_of, level, to_do}
 use Rattle.latex2mathml_tex.specs.declared.{parse.Parser.Parser, parse.frames.Frames.Frames}

@@ -1,5 +1,4 @@
 pub mod Answers
-pub mod Begun
 pub mod Frames
 pub mod Innermost
 pub mod Levels
@@ -7,6 +6,7 @@ pub mod Numbers
 pub mod ReadRows
 pub mod RowCharacters
 pub mod RowCommands
+pub mod RowSymbols
 pub mod Steps
 pub mod SymbolOperands
 pub mod Tables

@@ -15,6 +15,6 @@ IsRowInnermost s fs c = (e : Ending) × ((place : ℕ) × ((row : Row) × ((othe
 abbrev pub ends_or_marks : ℕ → Bool
 ends_or_marks c = c == byte "&" || c == byte "_" || c == byte "^" || c == byte "'" || c == byte "]" || c == byte "$"
 
--- whether a character that is no letter and no digit is none of those that have a rule of their own
+-- whether a character that is no letter and no digit is none of those that may be something else than a symbol in a row
 abbrev pub is_symbol : ℕ → Bool
-is_symbol c = not (c == byte "." || c == byte "~" || c == byte "&" || c == byte "#" || c == byte "$" || c == byte "_" || c == byte "^" || c == byte "'")
+is_symbol c = not (c == byte "." || c == byte "~" || c == byte "&" || c == byte "#" || c == byte "$" || c == byte "_" || c == byte "^" || c == byte "'" || c == byte "]")

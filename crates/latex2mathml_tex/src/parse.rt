@@ -27,7 +27,6 @@ mod values;
 mod words;
 
 use crate::parse::frames::{Frame, Frames};
-use crate::parse::plain::Begun;
 use latex2mathml_builder::builder::Builder;
 use latex2mathml_tex_atoms::atoms::{Core, Operand, Scripts, Words};
 use latex2mathml_tex_commands::meaning::{Alphabet, Style};
@@ -157,21 +156,16 @@ impl<'a> Parser<'a> {
         ensures holds { LeadsOn (HoldsIn State.Next) self.old self.new result }
         ensures step { Advances 1 self.old self.new result }
     {
-        'atoms: loop {
-            match self.begin_in_row()? {
-                Begun::Atom(core) => {
-                    if !self.add_unmarked(core) {
-                        return self.go_on(core, Scripts::none(core.kind, core.limits));
-                    }
-                }
-                Begun::Other(state) => return Ok(state),
-                Begun::Nothing => return self.next_part(),
+        'atoms: while let Some(core) = self.symbol_in_row()? {
+            if !self.add_unmarked(core) {
+                return self.go_on(core, Scripts::none(core.kind, core.limits));
             }
         }
+        self.begin_next()
     }
 
     /// Reads what the innermost frame waits for, whatever comes next.
-    fn next_part(&mut self) -> Result<State, AllocError>
+    pub(crate) fn next_part(&mut self) -> Result<State, AllocError>
         requires { Ready self.old State.Next }
         ensures holds { LeadsOn (HoldsIn State.Next) self.old self.new result }
         ensures step { Advances 1 self.old self.new result }

@@ -1,12 +1,12 @@
-//! Atoms that begin in a row. Most are letters, numbers and signs without scripts: for these, no frame is copied, and no state
-//! is made.
-ghost use Rattle.std.specs.Prelude.{◌≡◌, ◌+◌, IfOk};
-ghost use Rattle.latex2mathml_tex_grammar.specs.Rules.{character_rule, meaning_rule};
+//! How rows go on. Most of their atoms are letters, numbers and signs without scripts: for these, no frame is copied, and no
+//! state is made.
+ghost use Rattle.std.specs.Prelude.{◌≡◌, ◌+◌, IfOk, MatchOption};
+ghost use Rattle.latex2mathml_tex_grammar.specs.Units.{Command};
 ghost use Rattle.latex2mathml_tex_commands.specs.Meanings.{meaning_of};
-ghost use Rattle.latex2mathml_tex_atoms.specs.Models.{context_of};
+ghost use Rattle.latex2mathml_tex_units.specs.Taking.{piece_of};
 ghost use Rattle.latex2mathml_tex.specs.{Frames.Start, RowCharacters.IsRowInnermost, RowCharacters.ends_or_marks, RowCharacters.is_symbol, RowCommands.begins_atoms};
-ghost use Rattle.latex2mathml_tex.specs.Begun.{BeginsWithin, LeadsToBegun, added_state, begun_state, lone_scripts, room};
-ghost use Rattle.latex2mathml_tex.specs.Steps.{BeginsIn, CanBegin, Follows, Holds, HoldsIn, Ready, to_do};
+ghost use Rattle.latex2mathml_tex.specs.RowSymbols.{IsNext, ReadSymbol, added_state, lone_scripts};
+ghost use Rattle.latex2mathml_tex.specs.Steps.{Advances, Follows, Holds, HoldsIn, LeadsOn, Ready, to_do};
 
 use crate::parse::frames::{Ending, Frame};
 use crate::parse::scripts::mark_of;
@@ -19,105 +19,113 @@ use latex2mathml_tex_commands::signs::symbol_of;
 use latex2mathml_tex_units::unit::{Next, Piece};
 use std::alloc::AllocError;
 
-/// What was begun in a row.
-#[derive(Clone, Copy)]
-pub(crate) enum Begun {
-    /// An atom, whose element is uppermost. Scripts may follow.
-    Atom(Core),
-    /// Something else, after which this state is due.
-    Other(State),
-    /// Nothing was begun, and no unit was taken.
-    Nothing,
-}
-
 impl<'a> Parser<'a> {
-    /// Begins an atom, if the innermost frame is a row and a unit comes next that begins an atom in every row.
+    /// Takes the symbol or number that comes next in the innermost row and puts its element, if it is one in each row. Returns
+    /// the atom without its scripts.
     #[inline(always)]
-    pub(crate) fn begin_in_row(&mut self) -> Result<Begun, AllocError>
+    pub(crate) fn symbol_in_row(&mut self) -> Result<Option<Core>, AllocError>
         requires { Ready self.old State.Next }
-        ensures holds { LeadsToBegun (HoldsIn State.Next) self.old self.new result }
-        ensures step { IfOk result (λ begun.
-            Follows (to_do self.old + room begun) self.new (begun_state begun)) }
+        ensures { IfOk result (λ found. MatchOption found (self.new ≡ self.old)
+            (λ core. ReadSymbol core self.old self.new)) }
     {
         let Some(context) = self.frames.row_context(self.style) else {
-            return Ok(Begun::Nothing);
+            return Ok(None);
         };
         let Next::Unit(unit) = self.input.next else {
-            return Ok(Begun::Nothing);
+            return Ok(None);
         };
         match unit.piece {
-            Piece::Character(c) if !ends_or_marks(c) => {
-                self.input.advance();
-                self.character_in_row(c, unit.place, context)
-            }
-            Piece::Command(name) => match commands::look_up(name) {
-                Some(meaning) if begins_atoms(meaning) => {
-                    self.input.advance();
-                    self.command_in_row(meaning, unit.place, context)
-                }
-                _ => Ok(Begun::Nothing),
-            },
-            Piece::Open => {
-                self.input.advance();
-                let group = Frame::Row(Ending::Group, unit.place, context, Row::empty());
-                Ok(Begun::Other(self.open(group)?))
-            }
-            _ => Ok(Begun::Nothing),
+            Piece::Character(c) => self.character_in_row(c, context),
+            Piece::Command(name) => self.command_in_row(name, context),
+            _ => Ok(None),
         }
     }
 
-    /// Begins an atom of a row with this character, which was taken at this place.
+    /// Takes the character that comes next in the innermost row, as `symbol_in_row` does.
     #[inline(always)]
-    fn character_in_row(
-        &mut self,
-        c: char,
-        place: usize,
-        context: Context,
-    ) -> Result<Begun, AllocError>
-        requires begin { CanBegin 0 self.old }
+    fn character_in_row(&mut self, c: char, context: Context) -> Result<Option<Core>, AllocError>
+        requires ready { Ready self.old State.Next }
+        requires next { IsNext (Piece.Character c) self.old }
         requires row { IsRowInnermost self.old.style self.old.frames.stack.items context }
-        ensures holds { LeadsToBegun
-            (BeginsIn context (character_rule (context_of context) c place) 0)
-            self.old self.new result }
-        ensures step { BeginsWithin 13 self.old self.new result }
+        ensures { IfOk result (λ found. MatchOption found (self.new ≡ self.old)
+            (λ core. ReadSymbol core self.old self.new)) }
     {
         if c.is_ascii_digit() {
+            self.input.advance();
             let number = self.number(context.alphabet, c)?;
-            return Ok(Begun::Atom(number));
+            return Ok(Some(number));
         }
         if c.is_ascii_alphabetic() {
+            self.input.advance();
             let letter = put_letter(&mut self.builder, context.alphabet, c)?;
-            return Ok(Begun::Atom(letter));
+            return Ok(Some(letter));
         }
         if is_symbol(c)
             && let Some(symbol) = symbol_of(c)
         {
+            self.input.advance();
             let sign = put_symbol(&mut self.builder, context.alphabet, symbol)?;
-            return Ok(Begun::Atom(sign));
+            return Ok(Some(sign));
         }
-        Ok(Begun::Other(self.character(c, place, context)?))
+        Ok(None)
     }
 
-    /// Begins an atom of a row with a command of this meaning, which was taken at this place.
+    /// Takes the command that comes next in the innermost row, as `symbol_in_row` does.
     #[inline(always)]
     fn command_in_row(
         &mut self,
-        meaning: Meaning,
-        place: usize,
+        name: &'a str,
         context: Context,
-    ) -> Result<Begun, AllocError>
-        requires begin { CanBegin 0 self.old }
+    ) -> Result<Option<Core>, AllocError>
+        requires ready { Ready self.old State.Next }
+        requires next { IsNext (Piece.Command name) self.old }
         requires row { IsRowInnermost self.old.style self.old.frames.stack.items context }
-        ensures holds { LeadsToBegun
-            (BeginsIn context (meaning_rule place (context_of context) (meaning_of meaning)) 0)
-            self.old self.new result }
-        ensures step { BeginsWithin 13 self.old self.new result }
+        ensures { IfOk result (λ found. MatchOption found (self.new ≡ self.old)
+            (λ core. ReadSymbol core self.old self.new)) }
     {
-        let Meaning::Shows(symbol) = meaning else {
-            return Ok(Begun::Other(self.meaning(meaning, place, context)?));
+        let Some(meaning) = commands::look_up(name) else {
+            return Ok(None);
         };
+        let Meaning::Shows(symbol) = meaning else {
+            return Ok(None);
+        };
+        self.input.advance();
         let sign = put_symbol(&mut self.builder, context.alphabet, symbol)?;
-        Ok(Begun::Atom(sign))
+        Ok(Some(sign))
+    }
+
+    /// Begins what comes next in the innermost frame. In a row, no frame is copied for an atom that begins in each row.
+    #[inline(never)]
+    pub(crate) fn begin_next(&mut self) -> Result<State, AllocError>
+        requires { Ready self.old State.Next }
+        ensures holds { LeadsOn (HoldsIn State.Next) self.old self.new result }
+        ensures step { Advances 1 self.old self.new result }
+    {
+        if let Some(context) = self.frames.row_context(self.style)
+            && let Next::Unit(unit) = self.input.next
+        {
+            match unit.piece {
+                Piece::Character(c) if !ends_or_marks(c) => {
+                    self.input.advance();
+                    return self.character(c, unit.place, context);
+                }
+                Piece::Command(name) => {
+                    if let Some(meaning) = commands::look_up(name)
+                        && begins_atoms(meaning)
+                    {
+                        self.input.advance();
+                        return self.meaning(meaning, unit.place, context);
+                    }
+                }
+                Piece::Open => {
+                    self.input.advance();
+                    let group = Frame::Row(Ending::Group, unit.place, context, Row::empty());
+                    return self.open(group);
+                }
+                _ => {}
+            }
+        }
+        self.next_part()
     }
 
     /// Adds an atom without scripts, whose element is uppermost, to the innermost row in place, unless a mark comes next or the
@@ -150,12 +158,12 @@ fn ends_or_marks(c: char) -> bool
     matches!(c, '&' | '_' | '^' | '\'' | ']' | '$')
 }
 
-/// Whether a character that is no letter and no digit is none of those that have a rule of their own.
+/// Whether a character that is no letter and no digit is none of those that may be something else than a symbol in a row.
 #[inline(always)]
 fn is_symbol(c: char) -> bool
     ensures { result ≡ is_symbol c }
 {
-    !matches!(c, '.' | '~' | '&' | '#' | '$' | '_' | '^' | '\'')
+    !matches!(c, '.' | '~' | '&' | '#' | '$' | '_' | '^' | '\'' | ']')
 }
 
 /// Whether a command of this meaning begins an atom in each row, and does nothing else.

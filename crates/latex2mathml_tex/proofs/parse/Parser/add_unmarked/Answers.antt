@@ -3,7 +3,7 @@ use Rattle.latex2mathml_tex_grammar.specs.Starts.{mark_of}
 use Rattle.latex2mathml_tex_units.specs.Taking.{piece_of}
 use Rattle.latex2mathml_tex_units.specs.declared.unit.Unit.{Unit}
 use Rattle.latex2mathml_tex_units.specs.declared.unit.Next.TheVariants as next
-use Rattle.latex2mathml_tex.specs.Begun.{added_state}
+use Rattle.latex2mathml_tex.specs.RowSymbols.{added_state}
 use Rattle.latex2mathml_tex.specs.Steps.{Follows, Holds, to_do}
 use Rattle.latex2mathml_tex.proofs.Unmarked.{added_follow, added_held, by_test, marks_follow, marks_held}
 use Rattle.latex2mathml_tex.proofs.parse.Parser.add_unmarked.Goals as goal

@@ -4,65 +4,56 @@ use Rattle.latex2mathml_tex_grammar.specs.Makes
 use Rattle.latex2mathml_tex_grammar.specs.Makes.{core}
 use Rattle.latex2mathml_tex_commands.specs.Meanings.{alphabet_of, symbol_of}
 use Rattle.latex2mathml_tex_atoms.specs.Models.{context_of}
-use Rattle.latex2mathml_tex.specs.{Begun.lone_scripts, RowCharacters.is_symbol, Steps.Begins}
-use Rattle.latex2mathml_tex.proofs.{Putting.put_held, RowCharacters.digit_rule, RowCharacters.letter_rule, RowCharacters.scripts_due, RowCharacters.scripts_follow, RowCharacters.scripts_ready, RowCharacters.still_innermost, RowCharacters.symbol_rule, RuleSteps.begun}
+use Rattle.latex2mathml_tex.specs.{RowSymbols.lone_scripts, RowCharacters.is_symbol, Steps.Begins}
+use Rattle.latex2mathml_tex.specs.declared.parse.Parser.{Parser}
+use Rattle.latex2mathml_tex.proofs.RowCharacters.{digit_is_plain, digit_rule, letter_is_plain, letter_rule, one_less, scripts_due, scripts_follow, still_innermost, symbol_begins, symbol_is_plain, symbol_put, symbol_rule}
+use Rattle.latex2mathml_tex.proofs.RuleSteps.{begun}
 use Rattle.latex2mathml_tex.proofs.parse.Parser.character_in_row.Goals as goal
 
-pub returns-then-is_ascii_digit-clause-holds : goal.returns-then-is_ascii_digit-clause-holds
-returns-then-is_ascii_digit-clause-holds c = λ s g.
+pub returns-then-is_ascii_digit : goal.returns-then-is_ascii_digit
+returns-then-is_ascii_digit c =
     let p = c.args.self.now in
     let k = c.args.context in
-    let core = c.in_ok-number.number in
+    let i = c.advance.new.self in
+    let q : Parser = record p { input = i } in
+    let new = c.number.new.self in
+    let number = c.in_ok-number.number in
+    let (u, there, is) = c.requires.next in
     let digit : is_ascii_digit c.args.c ≡ true = sym c.is_ascii_digit.ensures.value ∙ c.if-is_ascii_digit.true in
-    let held = c.in_ok-number.ensures.holds s (k, refl, subst (λ r. Begins r 0 s p) (digit_rule (context_of k) c.args.c c.args.place digit) (begun g)) in
-    scripts_follow c.number.new.self k (still_innermost p c.number.new.self k c.in_ok-number.ensures.frames c.requires.row) core (lone_scripts core) refl s held
+    let row = still_innermost q new k c.in_ok-number.ensures.frames c.requires.row in
+    let due = scripts_due new k row number _ c.in_ok-number.ensures.step in
+    record {
+      holds = λ s h.
+          let begins = symbol_begins p i u c.args.c there is c.advance.ensures s k c.requires.row (digit_is_plain c.args.c digit) h in
+          let held = c.in_ok-number.ensures.holds s (k, refl, subst (λ r. Begins r 0 s q) (digit_rule (context_of k) c.args.c u.place digit) (begun begins)) in
+          scripts_follow new k row number (lone_scripts number) refl s held;
+      step = record { ready = due.ready; falls = omega (arith, due.falls, one_less p i u there c.advance.ensures) };
+    }
 
-pub returns-then-is_ascii_digit-clause-step : goal.returns-then-is_ascii_digit-clause-step
-returns-then-is_ascii_digit-clause-step c =
-    let p = c.args.self.now in
-    scripts_due c.number.new.self c.args.context (still_innermost p c.number.new.self c.args.context c.in_ok-number.ensures.frames c.requires.row) c.in_ok-number.number _ c.in_ok-number.ensures.step
-
-pub returns-then-is_ascii_alphabetic-clause-holds :
-    goal.returns-then-is_ascii_alphabetic-clause-holds
-returns-then-is_ascii_alphabetic-clause-holds c = λ s g.
+pub returns-then-is_ascii_alphabetic : goal.returns-then-is_ascii_alphabetic
+returns-then-is_ascii_alphabetic c =
     let p = c.args.self.now in
     let k = c.args.context in
-    let letter = c.in_ok-letter.letter in
+    let i = c.advance-then-is_ascii_alphabetic.new.self in
+    let (u, there, is) = c.requires.next in
     let no_digit : is_ascii_digit c.args.c ≡ false = sym c.is_ascii_digit.ensures.value ∙ c.if-is_ascii_digit.false in
     let alphabetic : is_ascii_alphabetic c.args.c ≡ true = sym c.is_ascii_alphabetic.ensures.value ∙ c.if-is_ascii_alphabetic.true in
     let drawn = core (Makes.letter (option_map alphabet_of k.alphabet) c.args.c) in
-    let begins = subst (λ r. Begins r 0 s p) (letter_rule (context_of k) c.args.c c.args.place no_digit alphabetic) (begun g) in
-    let held = put_held s p c.put_letter.new.builder letter drawn c.in_ok-letter.ensures begins in
-    scripts_follow (record p { builder = c.put_letter.new.builder }) k c.requires.row letter (lone_scripts letter) refl s held
+    symbol_put p i c.put_letter.new.builder k c.requires.row (one_less p i u there c.advance-then-is_ascii_alphabetic.ensures) c.in_ok-letter.letter drawn c.in_ok-letter.ensures
+    (λ s h. subst (λ r. Begins r 0 s (record p { input = i })) (letter_rule (context_of k) c.args.c u.place no_digit alphabetic) (begun (symbol_begins p i u c.args.c there is c.advance-then-is_ascii_alphabetic.ensures s k c.requires.row (letter_is_plain c.args.c alphabetic) h)))
+    c.requires.ready
 
-pub returns-then-is_ascii_alphabetic-clause-step : goal.returns-then-is_ascii_alphabetic-clause-step
-returns-then-is_ascii_alphabetic-clause-step c =
-    let letter = c.in_ok-letter.letter in
-    let drawn = core (Makes.letter (option_map alphabet_of c.args.context.alphabet) c.args.c) in
-    record {
-      ready = scripts_ready c.args.self.now c.put_letter.new.builder c.args.context c.requires.row letter (lone_scripts letter) drawn refl c.in_ok-letter.ensures c.requires.begin;
-      falls = omega arith;
-    }
-
-pub returns-clause-holds : goal.returns-clause-holds
-returns-clause-holds c = λ s g.
+pub returns : goal.returns
+returns c =
     let p = c.args.self.now in
     let k = c.args.context in
-    let sign = c.in_ok-sign.sign in
+    let i = c.advance-2.new.self in
+    let (u, there, is) = c.requires.next in
     let no_digit : is_ascii_digit c.args.c ≡ false = sym c.is_ascii_digit.ensures.value ∙ c.if-is_ascii_digit.false in
     let no_letter : is_ascii_alphabetic c.args.c ≡ false = sym c.is_ascii_alphabetic.ensures.value ∙ c.if-is_ascii_alphabetic.false in
     let plain : is_symbol c.args.c ≡ true = sym c.is_symbol.ensures ∙ c.if-is_symbol.true in
     let symbol = symbol_of c.in-Some.symbol in
     let drawn = Makes.symbol (option_map alphabet_of k.alphabet) symbol in
-    let begins = subst (λ r. Begins r 0 s p) (symbol_rule (context_of k) c.args.c c.args.place no_digit symbol no_letter plain c.in-Some.ensures) (begun g) in
-    let held = put_held s p c.put_symbol.new.builder sign drawn c.in_ok-sign.ensures begins in
-    scripts_follow (record p { builder = c.put_symbol.new.builder }) k c.requires.row sign (lone_scripts sign) refl s held
-
-pub returns-clause-step : goal.returns-clause-step
-returns-clause-step c =
-    let sign = c.in_ok-sign.sign in
-    let drawn = Makes.symbol (option_map alphabet_of c.args.context.alphabet) (symbol_of c.in-Some.symbol) in
-    record {
-      ready = scripts_ready c.args.self.now c.put_symbol.new.builder c.args.context c.requires.row sign (lone_scripts sign) drawn refl c.in_ok-sign.ensures c.requires.begin;
-      falls = omega arith;
-    }
+    symbol_put p i c.put_symbol.new.builder k c.requires.row (one_less p i u there c.advance-2.ensures) c.in_ok-sign.sign drawn c.in_ok-sign.ensures
+    (λ s h. subst (λ r. Begins r 0 s (record p { input = i })) (symbol_rule (context_of k) c.args.c u.place no_digit symbol no_letter plain c.in-Some.ensures) (begun (symbol_begins p i u c.args.c there is c.advance-2.ensures s k c.requires.row (symbol_is_plain c.args.c plain) h)))
+    c.requires.ready

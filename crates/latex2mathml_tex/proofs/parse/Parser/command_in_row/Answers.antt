@@ -1,23 +1,22 @@
-use Rattle.std.proofs.Common.{option_map, arith, refl}
+use Rattle.std.proofs.Common.{◌≡◌, ◌∙◌, ap, option_map, refl}
 use Rattle.latex2mathml_tex_grammar.specs.Makes
-use Rattle.latex2mathml_tex_commands.specs.Meanings.{alphabet_of, symbol_of}
-use Rattle.latex2mathml_tex.specs.Begun.{lone_scripts}
-use Rattle.latex2mathml_tex.proofs.{Putting.put_held, RowCharacters.scripts_follow, RowCharacters.scripts_ready, RuleSteps.begun}
+use Rattle.latex2mathml_tex_grammar.specs.Units.{Command, Next}
+use Rattle.latex2mathml_tex_commands.specs.Meanings.{alphabet_of, meaning_of, symbol_of}
+use Rattle.latex2mathml_tex_units.specs.{Left.put_back, Left.units_at, Taking.piece_of, Taking.unit_of}
+use Rattle.latex2mathml_tex.specs.Steps.{left_of}
+use Rattle.latex2mathml_tex.proofs.{RowCharacters.one_less, RowCharacters.symbol_put, RowCommands.command_begins, RowCommands.command_next, RuleSteps.begun}
 use Rattle.latex2mathml_tex.proofs.parse.Parser.command_in_row.Goals as goal
 
-pub returns-clause-holds : goal.returns-clause-holds
-returns-clause-holds c = λ s g.
+pub returns : goal.returns
+returns c =
     let p = c.args.self.now in
-    let sign = c.in_ok-sign.sign in
-    let drawn = Makes.symbol (option_map alphabet_of c.args.context.alphabet) (symbol_of c.in-Shows.symbol) in
-    let held = put_held s p c.put_symbol.new.builder sign drawn c.in_ok-sign.ensures (begun (rw c.in-Shows.is at g)) in
-    scripts_follow (record p { builder = c.put_symbol.new.builder }) c.args.context c.requires.row sign (lone_scripts sign) refl s held
-
-pub returns-clause-step : goal.returns-clause-step
-returns-clause-step c =
-    let sign = c.in_ok-sign.sign in
-    let drawn = Makes.symbol (option_map alphabet_of c.args.context.alphabet) (symbol_of c.in-Shows.symbol) in
-    record {
-      ready = scripts_ready c.args.self.now c.put_symbol.new.builder c.args.context c.requires.row sign (lone_scripts sign) drawn refl c.in_ok-sign.ensures c.requires.begin;
-      falls = omega arith;
-    }
+    let k = c.args.context in
+    let i = c.advance.new.self in
+    let (u, there, is) = c.requires.next in
+    let name = c.args.name.now in
+    let named : piece_of u.piece ≡ Command name = ap piece_of is in
+    let next : left_of p ≡ Next (unit_of u) (units_at i) = c.advance.ensures ∙ ap (λ n. put_back n (units_at i)) there in
+    let drawn = Makes.symbol (option_map alphabet_of k.alphabet) (symbol_of c.in-Shows.symbol) in
+    symbol_put p i c.put_symbol.new.builder k c.requires.row (one_less p i u there c.advance.ensures) c.in_ok-sign.sign drawn c.in_ok-sign.ensures
+    (λ s h. begun (rw c.in-Shows.is at (command_begins p i u name named s k (meaning_of c.in-Some.meaning) c.requires.row c.in-Some.ensures (rw c.in-Shows.is refl) (command_next p i u name named next) h)))
+    c.requires.ready
