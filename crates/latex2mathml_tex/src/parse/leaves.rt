@@ -178,6 +178,7 @@ pub(crate) fn number() -> Core
 }
 
 /// Puts a number of one digit.
+#[inline(always)]
 pub(crate) fn begin_number(
     builder: &mut Builder,
     alphabet: Option<Alphabet>,
@@ -208,6 +209,7 @@ fn append_digit(
 }
 
 /// Appends the digits that come next in the input to the unfinished number.
+#[inline(always)]
 fn digits(
     input: &mut Input,
     builder: &mut Builder,

@@ -39,6 +39,7 @@ pub(crate) fn put_symbol(
 }
 
 /// Puts a letter that is italic by default.
+#[inline(always)]
 pub(crate) fn put_letter(
     builder: &mut Builder,
     alphabet: Option<Alphabet>,
@@ -93,8 +94,24 @@ pub(crate) fn put_upright_letter(
     }
 }
 
-/// Puts a sign of this class.
+/// Puts a sign of this class. Most signs have no attributes.
+#[inline(always)]
 fn put_sign(builder: &mut Builder, class: Class, c: char) -> Result<Core, AllocError>
+    ensures { IfOk result (PutsCore (core (Makes.sign (class_of class) c))
+        builder.old builder.new) }
+{
+    match class {
+        Class::Binary | Class::Relation if !stretches(c) => {
+            let sign = Core::new(sign_kind(class, c), false);
+            put_character(builder, Token::Mo, Attributes::plain(), c, sign)
+        }
+        class => put_other_sign(builder, class, c),
+    }
+}
+
+/// Puts a sign of this class, which may have attributes.
+#[inline(never)]
+fn put_other_sign(builder: &mut Builder, class: Class, c: char) -> Result<Core, AllocError>
     ensures { IfOk result (PutsCore (core (Makes.sign (class_of class) c))
         builder.old builder.new) }
 {
@@ -116,6 +133,7 @@ fn put_operator(builder: &mut Builder, c: char, limits: LimitPlace) -> Result<Co
 }
 
 /// Puts an element that holds a character and is a whole atom.
+#[inline(always)]
 fn put_character(
     builder: &mut Builder,
     tag: Token,
@@ -194,6 +212,7 @@ fn leaves_space(c: char) -> bool
     )
 }
 
+#[inline(always)]
 fn sign_kind(class: Class, c: char) -> Kind
     ensures { kind_of result ≡ Makes.sign_kind (class_of class) c }
 {
