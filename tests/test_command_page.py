@@ -44,7 +44,7 @@ class Page(Case):
         for old, new, told in (
             ("Meaning::Root }", "Meaning::Uproot }", f"\\sqrt {unlisted}Uproot"),
             ("Meaning::Root }", "meaning(Root) }", f"\\sqrt {unlisted}meaning(Root)"),
-            ('{ name: "sqrt", meaning: Meaning::Root }', '{ meaning: Meaning::Root, name: "sqrt" }', "entries can be read"),
+            ('{ name: "sqrt", key: 0x7371727400000000,', '{ key: 0x7371727400000000, name: "sqrt",', "entries can be read"),
             ("character: '!', symbol: Symbol::Sign(Class::Closing", "character: '!', symbol: Symbol::Sign(Class::Curly",
              f"! {unlisted}Character(Sign(Curly, _))"),
             ('"split", delimiters: None, layout: Layout::InPairs', '"split", delimiters: None, layout: Layout::InRed',

@@ -31,7 +31,8 @@ PLACES = {form: Place(section, *said) for section, forms in SECTIONS.items() for
 
 
 def commands():
-    return entries(f"{COMMANDS}/commands/*.rt", r"\w+", "name", "meaning")
+    """The commands of the table, and what each means; the checker compares the keys with the names."""
+    return [(name, meaning) for name, _, meaning in entries(f"{COMMANDS}/commands/*.rt", r"\w+", "name", "key", "meaning")]
 
 
 def characters():

@@ -36,9 +36,6 @@ no_digits (c ∷ name) h = elim (cases_Bool (c == byte "#")) [
   | inr s ↦ rw s refl
 ]
 
-pub by_digits : (name digits : List ℕ) → name ≡ byte "#" ∷ digits → color_of name ≡ color_of_digits (digit_values digits)
-by_digits name digits e = rw e refl
-
 -- Digits
 
 -- there are as many values as digits

@@ -4,7 +4,7 @@ use Rattle.std.specs.declared.cmp.Ordering.{Ordering}
 use Rattle.std.specs.declared.cmp.Ordering.TheVariants.{Less, Equal, Greater}
 use Rattle.std.specs.Ordering.{nat_cmp, is_lt, is_eq, ordering_reverse}
 use Rattle.std.specs.{Cmp.Lexicographic.slice_cmp, Cmp.Lexicographic.texts_ties, Prelude.⊤, Str.bytes_eq}
-use Rattle.std.proofs.{lemmas.Cmp.nat_list_cmp_total, lemmas.Slice.Eq.bytes_eq-Decides, lemmas.Bool.cases_Bool, lemmas.Bool.Decides.nat_tests, lemmas.List.map-append, lemmas.List.length-take, lemmas.List.length-drop, lemmas.List.length-map}
+use Rattle.std.proofs.{lemmas.Cmp.nat_list_cmp_total, lemmas.Slice.Eq.bytes_eq-Decides, lemmas.Bool.cases_Bool, lemmas.Bool.Decides.nat_tests, lemmas.List.map-append, lemmas.List.length-take, lemmas.List.length-drop}
 use Rattle.latex2mathml_tex_grammar.specs.{Commands.entry_meaning, Meaning.Meaning, Sorted.ascending, Sorted.before_first}
 
 -- Sorted entries

@@ -1,5 +1,5 @@
 -- The parts of the command table are sorted, and looking up a name in its part is looking it up in the table.
-use Rattle.std.proofs.Common.{◌≡◌, ℕ, ◌<◌, Bool, true, false, ◌==◌, nat_lt, List, [], ◌∷◌, map, length, inl, inr, refl, sym, ap, subst, ◌∙◌, arith}
+use Rattle.std.proofs.Common.{◌≡◌, ℕ, ◌<◌, true, ◌==◌, nat_lt, List, [], ◌∷◌, map, length, inl, inr, refl, sym, ap, subst, ◌∙◌, arith}
 use Rattle.std.specs.{List.filter, Str.byte, Str.bytes_eq}
 use Rattle.std.proofs.{lemmas.Bool.cases_Bool, lemmas.Bool.Decides.nat_tests, lemmas.List.length-map, lemmas.Slice.Eq.bytes_eq-Decides}
 use Rattle.latex2mathml_tex_grammar.specs.{Commands.command_entries, Commands.entry_meaning, Commands.meaning_of, CommandsUpToL.commands_up_to_l, CommandsFromM.commands_from_m, Meaning.Meaning, Sorted.ascending}

@@ -1,5 +1,5 @@
 -- The characters of a length one by one.
-use Rattle.std.proofs.Common.{◌≡◌, ◌∙◌, ℕ, ◌+◌, ◌<◌, ◌≤◌, List, [], ◌∷◌, drop, get_or, length, suc, zero, refl, sym, ap, arith}
+use Rattle.std.proofs.Common.{◌≡◌, ◌∙◌, ℕ, ◌+◌, ◌<◌, List, [], ◌∷◌, drop, get_or, length, suc, zero, refl, sym, ap, arith}
 use Rattle.latex2mathml_tex_grammar.specs.Lengths.{Length, length_of, with_all, with_character}
 
 -- the character at an index, and those after it
@@ -12,12 +12,3 @@ pub one_told : (i : ℕ) (cs : List ℕ) (before after : Length) (c : ℕ) → i
 one_told i cs before after c h is put so_far =
     let next : i + 1 ≡ suc i = omega arith in
     so_far ∙ ap (with_all before) (parted i cs h) ∙ ap (λ d. with_all (with_character before d) (drop (suc i) cs)) (sym is) ∙ ap (λ l. with_all l (drop (suc i) cs)) (sym put) ∙ ap (λ k. with_all after (drop k cs)) (sym next)
-
-none_left : (i : ℕ) (cs : List ℕ) → length cs ≤ i → drop i cs ≡ []
-none_left zero [] h = refl
-none_left (suc i) [] h = refl
-none_left zero (c ∷ cs) h = absurd (omega (arith, h))
-none_left (suc i) (c ∷ cs) h = none_left i cs (omega (arith, h))
-
-pub all_told : (i : ℕ) (cs : List ℕ) (l : Length) → length cs ≤ i → length_of cs ≡ with_all l (drop i cs) → length_of cs ≡ l
-all_told i cs l h so_far = so_far ∙ ap (with_all l) (none_left i cs h)

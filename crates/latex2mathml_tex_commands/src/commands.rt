@@ -1,9 +1,10 @@
 //! The look-up of commands.
-ghost use Rattle.std.specs.Prelude.{◌≡◌, ◌<◌, IsTrue, map, length, Some, None, MatchOption};
-ghost use Rattle.std.specs.{Cmp.Lexicographic.slice_cmp, Ordering.nat_cmp};
+ghost use Rattle.std.specs.Prelude.{◌≡◌, ◌<◌, IsTrue, map, get_or, length, Some, None, MatchOption};
+ghost use Rattle.std.specs.{Cmp.Lexicographic.slice_cmp, List.AllPass, List.list_all, Ordering.nat_cmp};
+ghost use Rattle.latex2mathml_tokens.specs.Keys.{is_key};
 ghost use Rattle.latex2mathml_tex_grammar.specs.{Commands.entry_meaning, Commands.meaning_of, Sorted.ascending};
 ghost use Rattle.latex2mathml_tex_commands.specs.Meanings;
-ghost use Rattle.latex2mathml_tex_commands.specs.{Meanings.entry_of, Parts.entries_in, Parts.part_of};
+ghost use Rattle.latex2mathml_tex_commands.specs.{Meanings.entry_of, Keys.has_key, Parts.entries_in, Parts.part_of};
 
 mod a_and_b;
 mod before_a;
@@ -26,7 +27,8 @@ pub fn look_up(name: &str) -> Option<Meaning>
 
 /// Returns the part of the table in which this name is looked up.
 fn part_for(name: &str) -> &'static [Entry]
-    ensures { map entry_of result.now ≡ entries_in (part_of name.now) }
+    ensures part { map entry_of result.now ≡ entries_in (part_of name.now) }
+    ensures keyed { IsTrue (list_all has_key result.now) }
 {
     match name.as_bytes() {
         [c, ..] if *c >= b't' => from_t::entries(),
@@ -44,21 +46,70 @@ fn part_for(name: &str) -> &'static [Entry]
 fn search(table: &[Entry], name: &str) -> Option<Meaning>
     requires ordered { IsTrue (ascending (map entry_of table.now)) }
     requires few { length table.now < 512 }
+    requires keyed { AllPass has_key table.now }
     ensures { MatchOption result (entry_meaning (map entry_of table.now) name.now ≡ None)
         (λ meaning. entry_meaning (map entry_of table.now) name.now
         ≡ Some (Meanings.meaning_of meaning)) }
 {
+    let key = key_of(name);
     let mut entries = table;
     while !entries.is_empty() {
         let middle = entries.len() / 2;
         let entry = &entries[middle];
-        match order(name, entry.name) {
+        match compare(key, name, entry) {
             Ordering::Equal => return Some(entry.meaning),
             Ordering::Less => entries = &entries[..middle],
             Ordering::Greater => entries = &entries[middle + 1..],
         }
     }
     None
+}
+
+/// Compares the name, which has this key, with the entry's name. Most names differ in their keys, and short names with the
+/// same key differ only in length.
+#[inline(always)]
+fn compare(key: u64, name: &str, entry: &Entry) -> Ordering
+    requires key { IsTrue (is_key key name.now) }
+    requires keyed { IsTrue (has_key entry.now) }
+    ensures { result ≡ slice_cmp nat_cmp name.now entry.now.name.now }
+{
+    if key < entry.key {
+        return Ordering::Less;
+    }
+    if key > entry.key {
+        return Ordering::Greater;
+    }
+    if name.len() <= 8 && entry.name.len() <= 8 {
+        return name.len().cmp(&entry.name.len());
+    }
+    name.cmp(entry.name)
+}
+
+/// Returns the key of a name: its first eight bytes as a number, with zeros after its end.
+#[inline(always)]
+fn key_of(name: &str) -> u64
+    ensures { IsTrue (is_key result name.now) }
+{
+    let bytes = name.as_bytes();
+    let mut key: u64 = 0;
+    let mut place: usize = 0;
+    while place < 8 {
+        key = key * 256 + byte_at(bytes, place);
+        place += 1;
+    }
+    key
+}
+
+/// Returns the byte at this place, or zero after the end.
+#[inline(always)]
+fn byte_at(bytes: &[u8], place: usize) -> u64
+    ensures value { result ≡ get_or bytes.now place 0 }
+    ensures byte { result < 256 }
+{
+    match bytes.get(place) {
+        Some(&byte) => u64::from(byte),
+        None => 0,
+    }
 }
 
 /// Returns how two names are ordered. Most names differ in their first bytes, which are compared first.

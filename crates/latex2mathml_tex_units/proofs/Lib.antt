@@ -5,6 +5,7 @@ pub mod DefinedTables
 pub mod DefinitionTexts
 pub mod Grouping
 pub mod Hexadecimal
+pub mod Letters
 pub mod Listings
 pub mod Names
 pub mod Nexts
@@ -21,3 +22,4 @@ pub mod Turning
 pub mod UsualForms
 pub mod UsualLookups
 pub mod Whole
+pub mod WordForms

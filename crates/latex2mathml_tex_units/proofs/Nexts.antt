@@ -1,61 +1,9 @@
 -- Units that come next, ignoring white space.
-use Rattle.std.proofs.Common.{◌≡◌, ℕ, ◌<◌, ◌≤◌, List, [], ◌∷◌, ◌++◌, Option, Some, None, arith, inl, inr, refl, ap, ◌∙◌, append-nil, sym}
+use Rattle.std.proofs.Common.{◌≡◌, ℕ, ◌<◌, ◌≤◌, List, [], ◌∷◌, ◌++◌, Option, Some, None, arith, inl, inr, refl, ap, sym}
 use Rattle.std.proofs.lemmas.Bool.{cases_Bool}
-use Rattle.latex2mathml_tex_grammar.specs.Next.{first_is, first_passes, is_space_piece, next_are, past_space, with_text}
+use Rattle.latex2mathml_tex_grammar.specs.Next.{first_is, first_passes, is_space_piece, next_are, past_space}
 use Rattle.latex2mathml_tex_grammar.specs.Units.{Piece, Units, Next, End, Stop}
 use Rattle.latex2mathml_tex_units.specs.Left.{unit_count}
-
--- a unit that passes a test, followed by another
-module _ (first second : Piece → Option (List ℕ)) where
-  passed : (found : Option (List ℕ)) (us m n : Units) (a b : List ℕ) → first_passes found (Some ([], us)) ≡ Some (a, m) → first_is second (next_are []) (past_space m) ≡ Some (b, n) → first_passes found (first_is second (next_are []) (past_space us)) ≡ Some (a ++ b, n)
-  passed (Some text) us m n a b e f =
-      let here : List ℕ × Units = (text ++ [], us) in
-      let there : List ℕ × Units = (a, m) in
-      let both : here ≡ there = cc in
-      let same : text ≡ a = sym (append-nil text) ∙ ap (λ t. t.0) both in
-      let rest : us ≡ m = ap (λ t. t.1) both in
-      rw (same, rest, f) refl
-  passed None us m n a b e f = cc
-
-  pub both_stand : (l m n : Units) (a b : List ℕ) → next_are (first ∷ []) l ≡ Some (a, m) → next_are (second ∷ []) m ≡ Some (b, n) → next_are (first ∷ second ∷ []) l ≡ Some (a ++ b, n)
-  both_stand l m n a b e f = seen (past_space l) e
-    where
-      seen : (w : Units) → first_is first (next_are []) w ≡ Some (a, m) → first_is first (next_are (second ∷ [])) w ≡ Some (a ++ b, n)
-      seen (Next u us) h = passed (first u.piece) us m n a b h f
-      seen (End place) h = cc
-      seen (Stop r) h = cc
-
--- a unit that passes a test, and what follows it
-module _ (test : Piece → Option (List ℕ)) (tests : List (Piece → Option (List ℕ))) where
-  found_behind : (found : Option (List ℕ)) (us m : Units) (a : List ℕ) → first_passes found (Some ([], us)) ≡ Some (a, m) → first_passes found (next_are tests us) ≡ with_text a (next_are tests m)
-  found_behind (Some text) us m a e =
-      let here : List ℕ × Units = (text ++ [], us) in
-      let there : List ℕ × Units = (a, m) in
-      let both : here ≡ there = cc in
-      let same : text ≡ a = sym (append-nil text) ∙ ap (λ t. t.0) both in
-      let rest : us ≡ m = ap (λ t. t.1) both in
-      rw (same, rest) refl
-  found_behind None us m a e = cc
-
-  pub first_stands : (l m : Units) (a : List ℕ) → next_are (test ∷ []) l ≡ Some (a, m) → next_are (test ∷ tests) l ≡ with_text a (next_are tests m)
-  first_stands l m a e = seen (past_space l) e
-    where
-      seen : (w : Units) → first_is test (next_are []) w ≡ Some (a, m) → first_is test (next_are tests) w ≡ with_text a (next_are tests m)
-      seen (Next u us) h = found_behind (test u.piece) us m a h
-      seen (End place) h = cc
-      seen (Stop r) h = cc
-
-  none_behind : (found : Option (List ℕ)) (us : Units) → first_passes found (Some ([], us)) ≡ None → first_passes found (next_are tests us) ≡ None
-  none_behind (Some text) us e = cc
-  none_behind None us e = refl
-
-  pub first_missing : (l : Units) → next_are (test ∷ []) l ≡ None → next_are (test ∷ tests) l ≡ None
-  first_missing l e = seen (past_space l) e
-    where
-      seen : (w : Units) → first_is test (next_are []) w ≡ None → first_is test (next_are tests) w ≡ None
-      seen (Next u us) h = none_behind (test u.piece) us h
-      seen (End place) h = refl
-      seen (Stop r) h = refl
 
 -- How many units are left
 

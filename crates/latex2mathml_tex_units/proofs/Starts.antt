@@ -1,10 +1,11 @@
 -- How texts begin: what each branch of the lexer has found agrees with the definitions.
-use Rattle.std.proofs.Common.{◌≡◌, ℕ, ◌+◌, true, false, List, [], ◌∷◌, ◌++◌, codes, refl, sym, ap, subst, ◌∙◌, arith, append_assoc, Some, None}
-use Rattle.std.proofs.lemmas.Bool.Decides.{nat_tests}
+use Rattle.std.proofs.Common.{◌≡◌, ℕ, ◌+◌, ◌==◌, true, false, List, [], ◌∷◌, ◌++◌, codes, refl, sym, ap, subst, ◌∙◌, arith, append_assoc, length, Some, None}
+use Rattle.std.proofs.lemmas.{Bool.Decides.nat_tests, Str.encode_ascii}
 use Rattle.std.specs.{Char.is_ascii_alphabetic, Str.byte, Str.encode_utf8_all}
 use Rattle.latex2mathml_tex_grammar.specs.Refusal.{LoneBackslash, ForbiddenCharacter, refusal_at}
 use Rattle.latex2mathml_tex_grammar.specs.Units.{Space, Command, IsRun, is_space, is_in_line, is_forbidden, symbol_name, head, Stops, Spells, white_space, comment, last_comment, symbol_command, letter_command, IsRefusedAt, lone_backslash, forbidden, forbidden_name}
-use Rattle.latex2mathml_tex_units.specs.Taking.{IsCommentEnd}
+use Rattle.latex2mathml_tex_units.specs.{Runs.IsName, Taking.IsCommentEnd}
+use Rattle.latex2mathml_tex_units.proofs.Letters.{is_one_byte}
 
 place_plus_zero : (place : ℕ) → place ≡ place + 0
 place_plus_zero place = omega arith
@@ -23,11 +24,19 @@ pub symbol_named : (c : ℕ) (text after name : List ℕ) → text ≡ c ∷ aft
 symbol_named c text after name e h f n = (byte "\\" ∷ c ∷ [], ap (λ k. byte "\\" ∷ k) e, symbol_command c h f refl (ap (λ k. Some (Command k)) n))
 
 -- a command of letters, with the white space after it
-pub letters_named : (c : ℕ) (text after behind rest name : List ℕ) → text ≡ c ∷ after → is_ascii_alphabetic c ≡ true → (cs : List ℕ) × ((after ≡ cs ++ behind) × IsRun is_ascii_alphabetic cs behind) → (space : List ℕ) × ((behind ≡ space ++ rest) × IsRun is_space space rest) → ((w : List ℕ) → text ≡ w ++ behind → name ≡ encode_utf8_all w) → (w : List ℕ) × (byte "\\" ∷ text ≡ w ++ rest) × Spells w rest (Some (Command name))
-letters_named c text after behind rest name e h (cs, (whole, run)) (space, (spaces, run')) named =
-    let letters : text ≡ c ∷ cs ++ behind = e ∙ ap (λ k. c ∷ k) whole in
-    let all : byte "\\" ∷ text ≡ (byte "\\" ∷ c ∷ (cs ++ space)) ++ rest = ap (λ k. byte "\\" ∷ k) letters ∙ ap (λ k. byte "\\" ∷ c ∷ (cs ++ k)) spaces ∙ ap (λ k. byte "\\" ∷ c ∷ k) (sym (append_assoc cs space rest)) in
-    (byte "\\" ∷ c ∷ (cs ++ space), all, letter_command c cs space refl h (subst (IsRun is_ascii_alphabetic cs) spaces run) run' (ap (λ k. Some (Command k)) (named (c ∷ cs) letters)))
+pub letters_named : (text behind rest name : List ℕ) → (w : List ℕ) × IsName text w name behind → (length name == 0) ≡ false → (space : List ℕ) × ((behind ≡ space ++ rest) × IsRun is_space space rest) → (w : List ℕ) × (byte "\\" ∷ text ≡ w ++ rest) × Spells w rest (Some (Command name))
+letters_named text behind rest name ([], named) some spaces = absurd (let none : length name ≡ 0 = ap length named.bytes in grind (arith, nat_tests))
+letters_named text behind rest name (c ∷ cs, named) some (space, (spaces, run')) =
+    let run : IsRun is_ascii_alphabetic cs behind = record { passes = named.run.passes.1; ends = named.run.ends } in
+    let all : byte "\\" ∷ text ≡ (byte "\\" ∷ c ∷ (cs ++ space)) ++ rest = ap (λ k. byte "\\" ∷ k) named.whole ∙ ap (λ k. byte "\\" ∷ c ∷ (cs ++ k)) spaces ∙ ap (λ k. byte "\\" ∷ c ∷ k) (sym (append_assoc cs space rest)) in
+    (byte "\\" ∷ c ∷ (cs ++ space), all, letter_command c cs space refl named.run.passes.0 (subst (IsRun is_ascii_alphabetic cs) spaces run) run' (ap (λ k. Some (Command k)) named.bytes))
+
+-- a text that begins with no letters does not begin with a letter
+pub no_letters : (text behind after name : List ℕ) (c : ℕ) → (w : List ℕ) × IsName text w name behind → (length name == 0) ≡ true → text ≡ c ∷ after → is_ascii_alphabetic c ≡ false
+no_letters text behind after name c ([], named) none e = subst (λ k. Stops is_ascii_alphabetic (head k)) (sym named.whole ∙ e) named.run.ends
+no_letters text behind after name c (d ∷ w, named) none e =
+    let one : length name ≡ length (d ∷ encode_utf8_all w) = ap length (named.bytes ∙ ap (λ bs. bs ++ encode_utf8_all w) (encode_ascii d (is_one_byte d named.run.passes.0))) in
+    absurd (grind (arith, nat_tests))
 
 not_in_line : (c : ℕ) → is_in_line c ≡ false → c ≡ byte "\n"
 not_in_line c h = grind (arith, nat_tests)

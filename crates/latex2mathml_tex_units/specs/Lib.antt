@@ -17,3 +17,4 @@ pub mod Taking
 pub mod Texts
 pub mod UsualForms
 pub mod Whole
+pub mod WordForms

@@ -1,16 +1,14 @@
 //! A text, character by character and run by run.
-ghost use Rattle.std.specs.Prelude.{◌≡◌, ◌∷◌, ◌++◌, ℕ, [], false, IsTrue, List, MatchOption};
-ghost use Rattle.std.specs.{Str.chars, Str.encode_utf8_all};
+ghost use Rattle.std.specs.Prelude.{◌≡◌, ◌<◌, ◌≤◌, ◌∷◌, ◌++◌, ℕ, [], false, IsFalse, IsTrue, List, MatchOption, get_or, length};
+ghost use Rattle.std.specs.{Char.is_ascii_alphabetic, Str.chars, Str.encode_utf8_all};
 ghost use Rattle.latex2mathml_tex_grammar.specs.Units;
-ghost use Rattle.latex2mathml_tex_units.specs.Runs.{in_class, IsLongestRun};
+ghost use Rattle.latex2mathml_tex_units.specs.Runs.{in_class, AreLetters, IsLongestRun, IsName};
 
 /// The classes of characters that form runs.
 #[derive(Clone, Copy)]
 pub enum Class {
     /// White space.
     Space,
-    /// The ASCII letters.
-    Letter,
     /// The characters of a line, without its end.
     Line,
 }
@@ -21,7 +19,6 @@ impl Class {
     {
         match self {
             Class::Space => is_space(c),
-            Class::Letter => c.is_ascii_alphabetic(),
             Class::Line => c != '\n',
         }
     }
@@ -75,6 +72,30 @@ pub fn skip_run(class: Class, text: &str) -> &str
         rest = after;
     }
     rest
+}
+
+/// Returns the letters at the start of the text, and what follows them. Each letter is one byte, so no character is decoded.
+#[inline(always)]
+pub(crate) fn split_letters(text: &str) -> (&str, &str)
+    ensures { (w : List ℕ) × IsName (chars text.now) w result.0.now (chars result.1.now) }
+{
+    text.split_at(count_letters(text))
+}
+
+/// Returns how many letters the text begins with.
+#[inline(always)]
+fn count_letters(text: &str) -> usize
+    ensures within { result ≤ length text.now }
+    ensures letters { AreLetters text.now result }
+    ensures end { result < length text.now
+        → IsFalse (is_ascii_alphabetic (get_or text.now result 0)) }
+{
+    let bytes = text.as_bytes();
+    let mut count = 0;
+    while count < bytes.len() && bytes[count].is_ascii_alphabetic() {
+        count += 1;
+    }
+    count
 }
 
 /// Returns the part of the text before its end `rest`.

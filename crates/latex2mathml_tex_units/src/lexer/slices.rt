@@ -5,7 +5,9 @@ ghost use Rattle.latex2mathml_tex_grammar.specs.Units;
 ghost use Rattle.latex2mathml_tex_grammar.specs.Units.{is_special};
 ghost use Rattle.latex2mathml_tex_units.specs.Taking.{IsCommentEnd, IsNear, IsStart};
 
-use crate::lexer::characters::{Class, before, first_char, is_forbidden, is_space, skip_run};
+use crate::lexer::characters::{
+    Class, before, first_char, is_forbidden, is_space, skip_run, split_letters,
+};
 use crate::unit::{Fault, Piece};
 
 /// What is at the start of a text.
@@ -73,16 +75,13 @@ fn command(text: &str) -> Start<'_>
     ensures start { IsStart (byte "\\" ∷ chars text.now) result }
     ensures near { IsNear result }
 {
+    let (name, behind) = split_letters(text);
+    if !name.is_empty() {
+        return Start::Piece(Piece::Command(name), skip_run(Class::Space, behind));
+    }
     let Some((c, after)) = first_char(text) else {
         return Start::Fault(Fault::LoneBackslash, 0);
     };
-    if c.is_ascii_alphabetic() {
-        let behind = skip_run(Class::Letter, after);
-        return Start::Piece(
-            Piece::Command(before(text, behind)),
-            skip_run(Class::Space, behind),
-        );
-    }
     if is_forbidden(c) {
         return Start::Fault(Fault::Forbidden(c), 1);
     }

@@ -1,16 +1,16 @@
 //! The units of a text, with what they expand to in their place.
-ghost use Rattle.std.specs.Prelude.{◌≡◌, IfOk, MatchOption, None};
+ghost use Rattle.std.specs.Prelude.{◌≡◌, ℕ, IfOk, IsTrue, MatchOption, None};
 ghost use Rattle.std.specs.Str.{chars};
-ghost use Rattle.latex2mathml_tex_grammar.specs.{Cutting.units_of, Expanding.expansion, Expansion.most_units, Expansion.most_uses};
+ghost use Rattle.latex2mathml_tex_grammar.specs.{Cutting.units_of, Expanding.expansion, Expansion.Stays, Expansion.most_units, Expansion.most_uses};
 ghost use Rattle.latex2mathml_tex_grammar.specs.Units as units;
 ghost use Rattle.latex2mathml_tex_units.specs.{Expanded.IsHalted, Expanded.Turned, Expanded.expanded_left, Expanded.turn_of_name, MacroTables.macros_in, Characters.TakesCharacter, Taking.Takes};
 
-use crate::macros::definitions::word_named;
+use crate::macros::definitions::{may_be_word, word_named};
 use crate::macros::halt::Halt;
 use crate::macros::pending::Pending;
 use crate::macros::scope::Scope;
 use crate::macros::table::Macros;
-use crate::macros::usual::usual_macro;
+use crate::macros::usual::{may_be_usual, usual_macro};
 use crate::unit::{Fault, Next, Piece, Unit};
 use std::alloc::{AllocError, Global};
 
@@ -67,6 +67,9 @@ impl<'m, 'a> Expander<'m, 'a> {
             let Piece::Command(name) = unit.piece else {
                 return Ok(next);
             };
+            if self.surely_stays(name) {
+                return Ok(next);
+            }
             match self.turn(name, unit.place) {
                 Ok(turned) => {
                     if !turned {
@@ -104,8 +107,20 @@ impl<'m, 'a> Expander<'m, 'a> {
         }
     }
 
+    /// Whether a command with this name surely stays as it is. Most commands do, and few instructions tell those apart.
+    #[inline(always)]
+    fn surely_stays(&self, name: &str) -> bool
+        ensures { IsTrue result → (place : ℕ) → turn_of_name self.now name.now place ≡ Stays }
+    {
+        if !self.macros.is_empty() {
+            return false;
+        }
+        !may_be_usual(name) && !may_be_word(name)
+    }
+
     /// Replaces the macro with this name, which was taken at this place, or takes the definition that begins with this name.
     /// Returns whether the name is one of the two.
+    #[inline(never)]
     fn turn(&mut self, name: &'a str, place: usize) -> Result<bool, Halt>
         ensures turned { Turned result (turn_of_name self.old name.now place)
             self.old self.new }

@@ -1,5 +1,5 @@
 //! The macros that hold in a text.
-ghost use Rattle.std.specs.Prelude.{◌≡◌, ℕ, List, None, OnOk, option_map};
+ghost use Rattle.std.specs.Prelude.{◌≡◌, ℕ, IsTrue, List, None, OnOk, option_map};
 ghost use Rattle.std.specs.Option.{is_some};
 ghost use Rattle.latex2mathml_tex_grammar.specs.{Definitions.behind_definition, Macros.SameMacros, Macros.with_macro, UsualMacros.usual_macros};
 ghost use Rattle.latex2mathml_tex_units.specs.{Bodies.macro_of, Defined.definition_in, Defined.word_of, MacroTables.defined_in, MacroTables.defined_before, MacroTables.macros_in, MacroTables.table_of};
@@ -37,6 +37,17 @@ impl<'m, 'a> Scope<'m, 'a> {
         Scope {
             outer: Some(macros),
             inner: BTreeMap::new(alloc),
+        }
+    }
+
+    /// Whether no macro was defined.
+    #[inline(always)]
+    pub(crate) fn is_empty(&self) -> bool
+        ensures { IsTrue result → (name : List ℕ) → defined_in self.now name ≡ None }
+    {
+        match self.outer {
+            Some(outer) => self.inner.is_empty() && outer.is_empty(),
+            None => self.inner.is_empty(),
         }
     }
 

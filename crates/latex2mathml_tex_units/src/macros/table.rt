@@ -1,5 +1,5 @@
 //! Macros for formulas.
-ghost use Rattle.std.specs.Prelude.{◌≡◌, IfOk, option_map};
+ghost use Rattle.std.specs.Prelude.{◌≡◌, ℕ, IfOk, IsTrue, List, None, option_map};
 ghost use Rattle.std.specs.Str.{chars};
 ghost use Rattle.latex2mathml_tex_grammar.specs.{DefinitionTexts.AreRefused, DefinitionTexts.Defines, Macros.SameMacros, Macros.Table, UsualMacros.usual_macros};
 ghost use Rattle.latex2mathml_tex_units.specs.{Bodies.macro_of, Errors.IfRefused, MacroTables.AreDefined, MacroTables.defined_by, MacroTables.macros_in};
@@ -59,6 +59,14 @@ impl<'a> Macros<'a> {
             }),
             Err(Halt::OutOfMemory) => Err(TexError::out_of_memory()),
         }
+    }
+
+    /// Whether no macro was defined.
+    #[inline(always)]
+    pub(crate) fn is_empty(&self) -> bool
+        ensures { IsTrue result → (name : List ℕ) → defined_by self.now name ≡ None }
+    {
+        self.defined.is_empty()
     }
 
     /// Returns the macro that was defined with this name.

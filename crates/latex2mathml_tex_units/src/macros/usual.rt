@@ -125,7 +125,7 @@ fn find(table: &[Usual], name: &str) -> Option<Usual>
 /// Whether a usual macro may have this name, by its first byte and its length. Most commands are no usual macros, and this test
 /// tells most of those apart.
 #[inline(always)]
-fn may_be_usual(name: &str) -> bool
+pub(crate) fn may_be_usual(name: &str) -> bool
     ensures { result ≡ may_be_usual name.now }
 {
     match name.as_bytes() {
