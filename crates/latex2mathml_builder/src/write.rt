@@ -32,8 +32,15 @@ impl Builder {
         list.clear();
         let mut place = self.len() - count;
         'elements: while place < self.len() {
-            self.write_part(self.open_at(place), list, out)?;
-            self.finish(list, out)?;
+            match self.open_at(place) {
+                Part::Token(tag, attributes, from, to) => {
+                    write_token(tag, attributes, self.text_between(from, to), out)?;
+                }
+                part => {
+                    self.write_outer(part, list, out)?;
+                    self.finish(list, out)?;
+                }
+            }
             place += 1;
         }
         Ok(())
@@ -117,30 +124,6 @@ impl Builder {
             place += 1;
         }
         Ok(())
-    }
-
-    /// Writes what precedes the children of an element, and pushes what follows on the list.
-    #[inline(always)]
-    fn write_part(
-        &self,
-        part: Part,
-        works: &mut Vec<Work>,
-        out: &mut String,
-    ) -> Result<(), AllocError>
-        requires fits { Fits self.now.texts (length self.now.settled) part }
-        requires inside { AreIn self.now works.old.items }
-        ensures inside { OnOk result (AreIn self.now works.new.items) }
-        ensures print { OnOk result (Writes self.now (string_bytes out.old) works.old.items
-            (print (element_in self.now part)) (string_bytes out.new) works.new.items) }
-        ensures weight { OnOk result (load self.now works.new.items
-            < load self.now works.old.items + weight (element_in self.now part)) }
-    {
-        match part {
-            Part::Token(tag, attributes, start, end) => {
-                write_token(tag, attributes, self.text_between(start, end), out)
-            }
-            part => self.write_outer(part, works, out),
-        }
     }
 
     /// Writes what precedes the children of an element that holds no text, and pushes what follows on the list.
