@@ -1,5 +1,5 @@
 -- The names and attributes of the code, as values of the definitions.
-use Rattle.std.specs.Prelude.{ℕ, List, None, option_map, pos}
+use Rattle.std.specs.Prelude.{ℕ, List, Option, None, Some, option_map, pos}
 use Rattle.latex2mathml_elements.specs.Attributes as attributes
 use Rattle.latex2mathml_elements.specs.Element as element
 use Rattle.latex2mathml_attributes.specs.declared.attributes.Attributes.{Attributes}
@@ -70,6 +70,11 @@ attributes_of a = record {
   color = None;
   background = None;
 }
+
+-- the attributes of an element that may have none
+abbrev pub attributes_if_any : Option Attributes → attributes.Attributes
+attributes_if_any None = attributes.plain
+attributes_if_any (Some a) = attributes_of a
 
 abbrev pub token_of : Token → element.Token
 token_of token.Mi = element.Mi

@@ -1,8 +1,8 @@
 //! The attributes of elements.
-ghost use Rattle.std.specs.Prelude.{◌≡◌, ◌++◌, [], true, IsTrue, OnOk, option_map, string_bytes};
+ghost use Rattle.std.specs.Prelude.{◌≡◌, ◌++◌, true, OnOk, option_map, string_bytes};
 ghost use Rattle.latex2mathml_elements.specs.Attributes.{plain, styled};
 ghost use Rattle.latex2mathml_elements.specs.Print.{accent_text, attributes_text, form_text, if_so, size_text, space_text, stretch_text, style_text};
-ghost use Rattle.latex2mathml_attributes.specs.Names.{attributes_of, form_of, math_style_of, side_of, size_of, space_of, stretch_of};
+ghost use Rattle.latex2mathml_attributes.specs.Names.{attributes_if_any, attributes_of, form_of, math_style_of, side_of, size_of, space_of, stretch_of};
 
 use std::alloc::AllocError;
 
@@ -118,13 +118,12 @@ impl Attributes {
         }
     }
 
-    /// Whether there are no attributes.
+    /// Returns these attributes, or `None` if there are none.
     #[inline(always)]
-    pub fn are_none(&self) -> bool
-        ensures { IsTrue result → attributes_text (attributes_of self.now) ≡ [] }
+    pub fn if_any(self) -> Option<Attributes>
+        ensures { attributes_if_any result ≡ attributes_of self }
     {
-        matches!(
-            self,
+        match self {
             Attributes {
                 upright: false,
                 form: None,
@@ -137,8 +136,9 @@ impl Attributes {
                 accent: None,
                 no_line: false,
                 style: None,
-            }
-        )
+            } => None,
+            attributes => Some(attributes),
+        }
     }
 
     /// Appends the attributes, each after a space.

@@ -1,10 +1,10 @@
 -- Two tokens become one, and settled parts are exchanged.
-use Rattle.std.proofs.Common.{◌≡◌, ℕ, zero, suc, ◌+◌, ◌-◌, ◌<◌, ◌≤◌, true, false, None, List, [], ◌∷◌, ◌++◌, length, take, drop, refl, sym, ap, ◌∙◌, arith, subst}
+use Rattle.std.proofs.Common.{Option, ◌≡◌, ℕ, zero, suc, ◌+◌, ◌-◌, ◌<◌, ◌≤◌, true, false, None, List, [], ◌∷◌, ◌++◌, length, take, drop, refl, sym, ap, ◌∙◌, arith, subst}
 use Rattle.std.proofs.Math.{ListN.get_or, ListN.set, ListN.drop_of_length-le, Seq.drop-cons, Seq.drop-length, Seq.take-add, Seq.take-suc-set}
 use Rattle.std.specs.List.{swap}
 use Rattle.latex2mathml_elements.specs.{Attributes.plain, Element.Element, Element.token, Element.space, Element.rectangle, Element.container, Element.pair, Element.triple, Element.table}
 use Rattle.latex2mathml_builder.specs.Built.{Adjoin, AllFit, HasText, IsSound, between}
-use Rattle.latex2mathml_attributes.specs.Names.{attributes_of, token_of}
+use Rattle.latex2mathml_attributes.specs.Names.{attributes_if_any, token_of}
 use Rattle.latex2mathml_builder.specs.Stacks.{are_tokens, joined, ordered, token_at, token_of_element}
 use Rattle.latex2mathml_attributes.specs.declared.attributes.Attributes.{Attributes}
 use Rattle.latex2mathml_builder.specs.declared.part.Part.{Part}
@@ -29,7 +29,7 @@ between_joined text start middle end h k =
     ∙ ap (λ l. take (middle - start) (drop start text) ++ take (end - middle) l) (drop_drop (middle - start) start text ∙ ap (λ n. drop n text) there)
 
 -- the last two parts are tokens
-module _ (texts : List ℕ) (settled stack : List Part) (t u : Token) (a b none : Attributes) (start middle from end : ℕ) (s : IsSound texts settled stack) (enough : 2 ≤ length stack) (upper : get_or stack (length stack - 1) (part.Token u b from end) ≡ part.Token u b from end) (lower : get_or stack (length stack - 2) (part.Token t a start middle) ≡ part.Token t a start middle) where
+module _ (texts : List ℕ) (settled stack : List Part) (t u : Token) (a b none : Option Attributes) (start middle from end : ℕ) (s : IsSound texts settled stack) (enough : 2 ≤ length stack) (upper : get_or stack (length stack - 1) (part.Token u b from end) ≡ part.Token u b from end) (lower : get_or stack (length stack - 2) (part.Token t a start middle) ≡ part.Token t a start middle) where
   abbrev x : Part
   x = part.Token t a start middle
 
@@ -72,7 +72,7 @@ module _ (texts : List ℕ) (settled stack : List Part) (t u : Token) (a b none 
       whole : HasText texts start end
       whole = (let h = both.0.0 in let k = both.1.0.0 in omega (arith, meet), (both.0.1.0, both.1.0.1.1))
 
-  pub elements_joined : attributes_of none ≡ plain → elements texts settled (take (length stack - 1) (set stack (length stack - 2) z)) ≡ joined (elements texts settled stack)
+  pub elements_joined : attributes_if_any none ≡ plain → elements texts settled (take (length stack - 1) (set stack (length stack - 2) z)) ≡ joined (elements texts settled stack)
   elements_joined e =
       ap (elements texts settled) becomes
       ∙ stacked-append (element texts settled) base (z ∷ [])

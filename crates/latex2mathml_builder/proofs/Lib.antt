@@ -1,4 +1,5 @@
 pub mod Below
+pub mod Bytes
 pub mod Joined
 pub mod Opens
 pub mod Parts

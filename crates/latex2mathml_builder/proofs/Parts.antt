@@ -1,5 +1,5 @@
 -- Parts still fit after texts and settled elements are added, and their elements stay the same.
-use Rattle.std.proofs.Common.{◌≡◌, ℕ, suc, ◌+◌, ◌-◌, ◌≤◌, false, List, [], ◌∷◌, ◌++◌, length, length-append, append-nil, append_assoc, length-drop, take, drop, map, option_map, refl, sym, ap, ◌∙◌, arith, subst}
+use Rattle.std.proofs.Common.{Option, ◌≡◌, ℕ, suc, ◌+◌, ◌-◌, ◌≤◌, false, List, [], ◌∷◌, ◌++◌, length, length-append, append-nil, append_assoc, length-drop, take, drop, map, option_map, refl, sym, ap, ◌∙◌, arith, subst}
 use Rattle.std.specs.Str.{IsUtf8, IsCharBoundary}
 use Rattle.std.proofs.lemmas.Str.{IsCharBoundary-from_take}
 use Rattle.std.proofs.lemmas.List.{drop-append-le, take-append-le}
@@ -9,7 +9,7 @@ use Rattle.latex2mathml_elements.specs.Element.{Element, token, container, child
 use Rattle.latex2mathml_builder.specs.Stacks.{around_first}
 use Rattle.latex2mathml_builder.specs.Built.{AllFit, Adjoin, EachFits, EndsAt, Fits, HasText, IsCut, Meets, between, element_of, is_token_part, settled_on}
 use Rattle.latex2mathml_attributes.specs.Columns.{columns_of}
-use Rattle.latex2mathml_attributes.specs.Names.{attributes_of, container_of, math_style_of, pair_of, token_of, triple_of}
+use Rattle.latex2mathml_attributes.specs.Names.{attributes_if_any, container_of, math_style_of, pair_of, token_of, triple_of}
 use Rattle.latex2mathml_builder.specs.Stacks.{pair_with, table_with, triple_with}
 use Rattle.latex2mathml_attributes.specs.declared.{attributes.Attributes.Attributes, tag.Token.Token}
 use Rattle.latex2mathml_builder.specs.declared.part.Part.{Part}
@@ -76,13 +76,13 @@ fits_more texts more n m (part.Triple t a first is_exchanged) h f = omega arith
 fits_more texts more n m (part.Table own columns first count) h f = (f.0, omega (arith, f.1))
 
 pub element_kept : (texts more : List ℕ) (xs ys : List Element) (n : ℕ) (p : Part) → n ≤ length xs → Fits texts n p → element_of (texts ++ more) (xs ++ ys) p ≡ element_of texts xs p
-element_kept texts more xs ys n (part.Token t a start end) h f = ap (token (token_of t) (attributes_of a)) (between_kept texts more start end f)
+element_kept texts more xs ys n (part.Token t a start end) h f = ap (token (token_of t) (attributes_if_any a)) (between_kept texts more start end f)
 element_kept texts more xs ys n (part.Space width) h f = refl
 element_kept texts more xs ys n (part.Rectangle e) h f = refl
 element_kept texts more xs ys n (part.Around a first) h f = ap (around_first a) (same_children xs ys first 1 n f h)
-element_kept texts more xs ys n (part.Container c a first count) h f = ap (λ l. container (container_of c) (attributes_of a) (children l)) (same_children xs ys first count n f h)
-element_kept texts more xs ys n (part.Pair p a first) h f = ap (pair_with (pair_of p) (attributes_of a)) (same_children xs ys first 2 n f h)
-element_kept texts more xs ys n (part.Triple t a first is_exchanged) h f = ap (triple_with (triple_of t) (attributes_of a) is_exchanged) (same_children xs ys first 3 n f h)
+element_kept texts more xs ys n (part.Container c a first count) h f = ap (λ l. container (container_of c) (attributes_if_any a) (children l)) (same_children xs ys first count n f h)
+element_kept texts more xs ys n (part.Pair p a first) h f = ap (pair_with (pair_of p) (attributes_if_any a)) (same_children xs ys first 2 n f h)
+element_kept texts more xs ys n (part.Triple t a first is_exchanged) h f = ap (triple_with (triple_of t) (attributes_if_any a) is_exchanged) (same_children xs ys first 3 n f h)
 element_kept texts more xs ys n (part.Table own columns first count) h f = ap (table_with (styled (option_map math_style_of own)) (columns_of columns)) (same_children xs ys first count n f.1 h)
 
 -- Lists of parts
@@ -175,15 +175,15 @@ adjoin_cut n m (o ∷ []) qs p e s = (meets_no_token o p e, ends_no_token m p e)
 adjoin_cut n m (o ∷ r ∷ ps) qs p e s = (s.0, adjoin_cut n m (r ∷ ps) qs p e s.1)
 
 -- a token that begins where another one begins, and a token that ends where another one ends
-pub same_before : (t u : Token) (a b : Attributes) (start end to : ℕ) (o : Part) → Meets o (part.Token t a start end) → Meets o (part.Token u b start to)
+pub same_before : (t u : Token) (a b : Option Attributes) (start end to : ℕ) (o : Part) → Meets o (part.Token t a start end) → Meets o (part.Token u b start to)
 same_before t u a b start end to (part.Token v d i j) e = e
 same_before t u a b start end to o e = tt
 
-same_after : (t u : Token) (a b : Attributes) (start from end : ℕ) (o : Part) → Meets (part.Token t a start end) o → Meets (part.Token u b from end) o
+same_after : (t u : Token) (a b : Option Attributes) (start from end : ℕ) (o : Part) → Meets (part.Token t a start end) o → Meets (part.Token u b from end) o
 same_after t u a b start from end (part.Token v d i j) e = e
 same_after t u a b start from end o e = tt
 
-pub same_behind : (n : ℕ) (t u : Token) (a b : Attributes) (start from end : ℕ) (qs : List Part) → Adjoin n (part.Token t a start end ∷ qs) → Adjoin n (part.Token u b from end ∷ qs)
+pub same_behind : (n : ℕ) (t u : Token) (a b : Option Attributes) (start from end : ℕ) (qs : List Part) → Adjoin n (part.Token t a start end ∷ qs) → Adjoin n (part.Token u b from end ∷ qs)
 same_behind n t u a b start from end [] e = e
 same_behind n t u a b start from end (q ∷ qs) e = (same_after t u a b start from end q e.0, e.1)
 

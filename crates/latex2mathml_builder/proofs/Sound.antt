@@ -1,12 +1,12 @@
 -- A builder stays sound, and its elements are those that its functions promise.
-use Rattle.std.proofs.Common.{◌≡◌, ℕ, suc, ◌+◌, ◌-◌, ◌<◌, ◌≤◌, Bool, true, false, List, [], ◌∷◌, ◌++◌, length, length-append, length-drop, append-nil, take, drop, map, reverse, refl, sym, ap, ◌∙◌, arith, subst}
+use Rattle.std.proofs.Common.{Option, ◌≡◌, ℕ, suc, ◌+◌, ◌-◌, ◌<◌, ◌≤◌, Bool, true, false, List, [], ◌∷◌, ◌++◌, length, length-append, length-drop, append-nil, take, drop, map, reverse, refl, sym, ap, ◌∙◌, arith, subst}
 use Rattle.std.proofs.lemmas.List.{length-reverse, length-take-le, reverse-reverse, take-append-drop}
 use Rattle.std.proofs.Math.{ListN.get_or, ListN.set, Seq.drop-append_seam, Seq.drop-length, Seq.take-length, Seq.take-suc-set}
 use Rattle.std.specs.Str.{IsUtf8}
 use Rattle.latex2mathml_elements.specs.{Element.Element, Element.token}
 use Rattle.latex2mathml_elements.specs.Attributes as attributes
 use Rattle.latex2mathml_builder.specs.Built.{Adjoin, AllFit, EachFits, EndsAt, Fits, HasText, IsCut, IsSound, Meets, between, element_of, is_token_part, settled_on}
-use Rattle.latex2mathml_attributes.specs.Names.{attributes_of, token_of}
+use Rattle.latex2mathml_attributes.specs.Names.{attributes_if_any, token_of}
 use Rattle.latex2mathml_builder.specs.Stacks.{given, is_token, lengthened, ordered, token_at, token_of_element, with_attributes}
 use Rattle.latex2mathml_attributes.specs.declared.attributes.Attributes.{Attributes}
 use Rattle.latex2mathml_builder.specs.declared.part.Part.{Part}
@@ -41,7 +41,7 @@ pub elements_push : (texts : List ℕ) (settled stack : List Part) (p : Part) �
 elements_push texts settled stack p = stacked-push (element texts settled) stack p
 
 -- a token without text is pushed
-pub sound_token : (texts : List ℕ) (settled stack : List Part) (t : Token) (a : Attributes) (end : ℕ) → end ≡ length texts → IsUtf8 texts → IsSound texts settled stack → IsSound texts settled (stack ++ part.Token t a end end ∷ [])
+pub sound_token : (texts : List ℕ) (settled stack : List Part) (t : Token) (a : Option Attributes) (end : ℕ) → end ≡ length texts → IsUtf8 texts → IsSound texts settled stack → IsSound texts settled (stack ++ part.Token t a end end ∷ [])
 sound_token texts settled stack t a end e u s =
     let cut = subst (IsCut texts) (sym e) (cut_end texts u) in
     sound_push texts settled stack _ s (omega arith, (cut, cut)) e e
@@ -58,7 +58,7 @@ elements_longer texts more settled stack f g =
     ∙ ap reverse (elements_kept texts more xs [] (length settled) stack (omega arith) g)
 
 -- a token with these texts is pushed
-module _ (texts more : List ℕ) (settled stack : List Part) (t : Token) (a : Attributes) (s : IsSound texts settled stack) (new : List ℕ) (start end : ℕ) (is : new ≡ texts ++ more) (starts : start ≡ length texts) (ends : end ≡ length new) where
+module _ (texts more : List ℕ) (settled stack : List Part) (t : Token) (a : Option Attributes) (s : IsSound texts settled stack) (new : List ℕ) (start end : ℕ) (is : new ≡ texts ++ more) (starts : start ≡ length texts) (ends : end ≡ length new) where
   pub sound_text : IsUtf8 texts → IsUtf8 new → IsSound new settled (stack ++ part.Token t a start end ∷ [])
   sound_text u v = rw (starts, ends, is) (record {
     settled_fit = each_more texts more 0 settled s.settled_fit;
@@ -69,10 +69,10 @@ module _ (texts more : List ℕ) (settled stack : List Part) (t : Token) (a : At
       fits : HasText (texts ++ more) (length texts) (length (texts ++ more))
       fits = (omega (arith, length-append texts more), (cut_kept texts more (length texts) (cut_end texts u), cut_end (texts ++ more) (subst IsUtf8 is v)))
 
-  pub elements_text : elements new settled (stack ++ part.Token t a start end ∷ []) ≡ token (token_of t) (attributes_of a) more ∷ elements texts settled stack
+  pub elements_text : elements new settled (stack ++ part.Token t a start end ∷ []) ≡ token (token_of t) (attributes_if_any a) more ∷ elements texts settled stack
   elements_text = rw (starts, ends, is) (
       elements_push (texts ++ more) settled stack _
-      ∙ cc (ap (token (token_of t) (attributes_of a)) whole, elements_longer texts more settled stack s.settled_fit s.open_fit))
+      ∙ cc (ap (token (token_of t) (attributes_if_any a)) whole, elements_longer texts more settled stack s.settled_fit s.open_fit))
     where
       rest : length (texts ++ more) - length texts ≡ length more
       rest = omega (arith, length-append texts more)
@@ -95,7 +95,7 @@ last_set stack q h =
     ∙ ap (λ l. take (length stack - 1) stack ++ (q ∷ l)) (ap (λ n. drop n stack) all ∙ drop-length stack)
 
 -- the last part is a token whose text becomes longer
-module _ (texts more : List ℕ) (settled stack : List Part) (t : Token) (a : Attributes) (start end : ℕ) (s : IsSound texts settled stack) (some : 0 < length stack) (is : get_or stack (length stack - 1) (part.Token t a start end) ≡ part.Token t a start end) where
+module _ (texts more : List ℕ) (settled stack : List Part) (t : Token) (a : Option Attributes) (start end : ℕ) (s : IsSound texts settled stack) (some : 0 < length stack) (is : get_or stack (length stack - 1) (part.Token t a start end) ≡ part.Token t a start end) where
   abbrev base : List Part
   base = take (length stack - 1) stack
 
@@ -128,7 +128,7 @@ module _ (texts more : List ℕ) (settled stack : List Part) (t : Token) (a : At
   elements_lengthened =
       ap (elements (texts ++ more) settled) new_last
       ∙ elements_push (texts ++ more) settled base _
-      ∙ cc (ap (token (token_of t) (attributes_of a)) (between_more texts more start end has ends), elements_longer texts more settled base s.settled_fit (all_left texts (length settled) base _ whole_fit))
+      ∙ cc (ap (token (token_of t) (attributes_if_any a)) (between_more texts more start end has ends), elements_longer texts more settled base s.settled_fit (all_left texts (length settled) base _ whole_fit))
       ∙ sym (ap (λ l. lengthened more (elements texts settled l)) old_last ∙ ap (lengthened more) (elements_push texts settled base _))
 
   -- the longer token replaces the old one

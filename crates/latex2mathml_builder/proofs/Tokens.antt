@@ -1,9 +1,9 @@
 -- Parts that are not tokens are elements without a text of their own.
-use Rattle.std.proofs.Common.{◌≡◌, ℕ, Bool, true, false, List, [], ◌∷◌, None, option_map, refl}
-use Rattle.latex2mathml_elements.specs.{Attributes.Attributes, Attributes.styled, Columns.Columns, Element.Element, Element.Pair, Element.Triple}
+use Rattle.std.proofs.Common.{◌≡◌, ℕ, Bool, true, false, List, [], ◌∷◌, Option, None, Some, option_map, refl, sym, unwrap_or}
+use Rattle.latex2mathml_elements.specs.{Attributes.Attributes, Attributes.plain, Attributes.styled, Columns.Columns, Element.Element, Element.Pair, Element.Triple}
 use Rattle.latex2mathml_attributes.specs.declared.around.Around.{Around}
 use Rattle.latex2mathml_builder.specs.Stacks.{around_first}
-use Rattle.latex2mathml_attributes.specs.{Columns.columns_of, Names.attributes_of, Names.math_style_of, Names.pair_of, Names.triple_of}
+use Rattle.latex2mathml_attributes.specs.{Columns.columns_of, Names.attributes_if_any, Names.attributes_of, Names.math_style_of, Names.pair_of, Names.triple_of}
 use Rattle.latex2mathml_builder.specs.Stacks.{pair_with, table_with, token_of_element, triple_with, with_attributes}
 use Rattle.latex2mathml_attributes.specs.declared.{attributes.Attributes.Attributes as OwnAttributes, tag.Token.Token}
 use Rattle.latex2mathml_builder.specs.declared.part.Part.{Part}
@@ -36,12 +36,17 @@ table_has_none : (a : Attributes) (columns : Columns) (xs : List Element) → Ha
 table_has_none a columns [] = (refl, λ b. refl)
 table_has_none a columns (x ∷ xs) = (refl, λ b. refl)
 
-pub has_none : (texts : List ℕ) (settled : List Part) (p : Part) → ((t : Token) (a : OwnAttributes) (start end : ℕ) → p ≡ part.Token t a start end → ⊥) → HasNoText (element texts settled p)
+pub has_none : (texts : List ℕ) (settled : List Part) (p : Part) → ((t : Token) (a : Option OwnAttributes) (start end : ℕ) → p ≡ part.Token t a start end → ⊥) → HasNoText (element texts settled p)
 has_none texts settled (part.Token t a start end) h = absurd (h t a start end refl)
 has_none texts settled (part.Space width) h = (refl, λ b. refl)
 has_none texts settled (part.Rectangle e) h = (refl, λ b. refl)
 has_none texts settled (part.Around a first) h = around_has_none a _
 has_none texts settled (part.Container c a first count) h = (refl, λ b. refl)
-has_none texts settled (part.Pair p a first) h = pair_has_none (pair_of p) (attributes_of a) _
-has_none texts settled (part.Triple t a first is_exchanged) h = triple_has_none (triple_of t) (attributes_of a) is_exchanged _
+has_none texts settled (part.Pair p a first) h = pair_has_none (pair_of p) (attributes_if_any a) _
+has_none texts settled (part.Triple t a first is_exchanged) h = triple_has_none (triple_of t) (attributes_if_any a) is_exchanged _
 has_none texts settled (part.Table own columns first count) h = table_has_none (styled (option_map math_style_of own)) (columns_of columns) _
+
+-- the attributes of a part are those that stand for its own, or none
+pub some_attributes : (o : Option OwnAttributes) (none : OwnAttributes) → attributes_of none ≡ plain → attributes_if_any o ≡ attributes_of (unwrap_or o none)
+some_attributes None none h = sym h
+some_attributes (Some a) none h = refl

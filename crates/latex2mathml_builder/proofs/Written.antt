@@ -130,6 +130,20 @@ lowest_first out xs ys x new middle due whole is none ends writes before =
     ∙ ap (λ l. out ++ prints (children l)) (sym is)
     ∙ before
 
+-- A token is written, and then the elements after it
+
+pub token_first : (out : List ℕ) (xs ys : List Element) (x : Element) (new whole : List ℕ) → xs ≡ x ∷ ys → new ≡ out ++ print x → out ++ prints (children xs) ≡ whole → new ++ prints (children ys) ≡ whole
+token_first out xs ys x new whole is writes before =
+    ap (λ l. l ++ prints (children ys)) writes
+    ∙ append_assoc out (print x) (prints (children ys))
+    ∙ ap (λ l. out ++ prints (children l)) (sym is)
+    ∙ before
+
+-- the first elements are written, and then the others and what is due
+pub after_tokens : (first out whole others due all : List ℕ) → out ++ others ≡ first ++ whole → all ≡ out ++ (others ++ due) → all ≡ first ++ (whole ++ due)
+after_tokens first out whole others due all before writes =
+    writes ∙ sym (append_assoc out others due) ∙ ap (λ l. l ++ due) before ∙ append_assoc first whole due
+
 -- An element around another
 
 around_written : (a : Around) (xs : List Element) → length xs ≡ 1 → print (around_first a xs) ≡ start_tag (container_name (around_name a)) (around_attributes a) ++ (prints (children xs) ++ end_tag (container_name (around_name a)))

@@ -5,7 +5,7 @@ use Rattle.latex2mathml_elements.specs.Attributes.{styled}
 use Rattle.latex2mathml_elements.specs.Element.{Element, token, space, rectangle, container, children}
 use Rattle.latex2mathml_builder.specs.Stacks.{around_first}
 use Rattle.latex2mathml_attributes.specs.{Arounds.extent_of, Columns.columns_of}
-use Rattle.latex2mathml_attributes.specs.Names.{attributes_of, container_of, math_style_of, pair_of, token_of, triple_of}
+use Rattle.latex2mathml_attributes.specs.Names.{attributes_if_any, container_of, math_style_of, pair_of, token_of, triple_of}
 use Rattle.latex2mathml_builder.specs.Stacks.{pair_with, table_with, triple_with}
 use Rattle.latex2mathml_builder.specs.declared.part.Part.{Part}
 use Rattle.latex2mathml_builder.specs.declared.part.Part.TheVariants as part
@@ -16,13 +16,13 @@ between start end text = take (end - start) (drop start text)
 
 -- the element of a part, whose children are among these elements
 abbrev pub element_of : List ℕ → List Element → Part → Element
-element_of texts xs (part.Token t a start end) = token (token_of t) (attributes_of a) (between start end texts)
+element_of texts xs (part.Token t a start end) = token (token_of t) (attributes_if_any a) (between start end texts)
 element_of texts xs (part.Space width) = space width
 element_of texts xs (part.Rectangle e) = rectangle (extent_of e)
 element_of texts xs (part.Around a first) = around_first a (take 1 (drop first xs))
-element_of texts xs (part.Container c a first count) = container (container_of c) (attributes_of a) (children (take count (drop first xs)))
-element_of texts xs (part.Pair p a first) = pair_with (pair_of p) (attributes_of a) (take 2 (drop first xs))
-element_of texts xs (part.Triple t a first is_exchanged) = triple_with (triple_of t) (attributes_of a) is_exchanged (take 3 (drop first xs))
+element_of texts xs (part.Container c a first count) = container (container_of c) (attributes_if_any a) (children (take count (drop first xs)))
+element_of texts xs (part.Pair p a first) = pair_with (pair_of p) (attributes_if_any a) (take 2 (drop first xs))
+element_of texts xs (part.Triple t a first is_exchanged) = triple_with (triple_of t) (attributes_if_any a) is_exchanged (take 3 (drop first xs))
 element_of texts xs (part.Table own columns first count) = table_with (styled (option_map math_style_of own)) (columns_of columns) (take count (drop first xs))
 
 -- these elements, followed by those of the parts, each of whose children are among the elements before it

@@ -77,13 +77,15 @@ impl Builder {
     }
 
     /// Pushes an element that holds a text. The text is empty at first.
+    #[inline(always)]
     pub fn token(&mut self, tag: Token, attributes: Attributes) -> Result<(), AllocError>
         ensures elements { OnOk result
             (Puts (element_with_text tag attributes []) self.old self.new) }
         ensures err { OnErr result (self.new ≡ self.old) }
     {
         let end = self.texts.len();
-        self.stack.push(Part::Token(tag, attributes, end, end))?;
+        self.stack
+            .push(Part::Token(tag, attributes.if_any(), end, end))?;
         Ok(())
     }
 
@@ -100,6 +102,7 @@ impl Builder {
     }
 
     /// Pushes an element that holds this character.
+    #[inline(always)]
     pub fn character(
         &mut self,
         tag: Token,
@@ -114,7 +117,10 @@ impl Builder {
         let start = self.texts.len();
         self.texts.push(c)?;
         let end = self.texts.len();
-        match self.stack.push(Part::Token(tag, attributes, start, end)) {
+        match self
+            .stack
+            .push(Part::Token(tag, attributes.if_any(), start, end))
+        {
             Ok(()) => Ok(()),
             Err(failed) => {
                 self.texts.truncate(start);
@@ -213,7 +219,7 @@ impl Builder {
         let Part::Token(tag, _, start, _) = self.stack[len - 2] else {
             return false;
         };
-        self.stack[len - 2] = Part::Token(tag, Attributes::plain(), start, end);
+        self.stack[len - 2] = Part::Token(tag, None, start, end);
         self.stack.truncate(len - 1);
         true
     }
@@ -229,7 +235,9 @@ impl Builder {
             return None;
         }
         match self.stack[len - 1 - depth] {
-            Part::Token(tag, attributes, _, _) => Some((tag, attributes)),
+            Part::Token(tag, attributes, _, _) => {
+                Some((tag, attributes.unwrap_or(Attributes::plain())))
+            }
             _ => None,
         }
     }
@@ -247,10 +255,11 @@ impl Builder {
         let Part::Token(tag, _, start, end) = self.stack[place] else {
             return;
         };
-        self.stack[place] = Part::Token(tag, attributes, start, end);
+        self.stack[place] = Part::Token(tag, attributes.if_any(), start, end);
     }
 
     /// Makes an element of the `count` uppermost ones.
+    #[inline(always)]
     pub fn container(
         &mut self,
         tag: Container,
@@ -263,6 +272,7 @@ impl Builder {
             self.old self.new) }
         ensures err { OnErr result (self.new ≡ self.old) }
     {
+        let attributes = attributes.if_any();
         if count == 0 {
             self.stack.push(Part::Container(tag, attributes, 0, 0))?;
             return Ok(());
@@ -272,6 +282,7 @@ impl Builder {
     }
 
     /// Makes an element of the two uppermost ones. If they are exchanged, the uppermost one becomes the first.
+    #[inline(always)]
     pub fn pair(
         &mut self,
         tag: Pair,
@@ -285,7 +296,7 @@ impl Builder {
         ensures err { OnErr result (self.new ≡ self.old) }
     {
         let first = self.settled.as_slice().len();
-        self.wrap(2, is_exchanged, Part::Pair(tag, attributes, first))
+        self.wrap(2, is_exchanged, Part::Pair(tag, attributes.if_any(), first))
     }
 
     /// Makes a row of the three uppermost elements, in which the lower two of them are exchanged.
@@ -296,14 +307,11 @@ impl Builder {
         ensures err { OnErr result (self.new ≡ self.old) }
     {
         let first = self.settled.as_slice().len();
-        self.wrap(
-            3,
-            true,
-            Part::Container(Container::Mrow, Attributes::plain(), first, 3),
-        )
+        self.wrap(3, true, Part::Container(Container::Mrow, None, first, 3))
     }
 
     /// Makes an element of the three uppermost ones. If they are exchanged, the uppermost one becomes the second.
+    #[inline(always)]
     pub fn triple(
         &mut self,
         tag: Triple,
@@ -317,7 +325,11 @@ impl Builder {
         ensures err { OnErr result (self.new ≡ self.old) }
     {
         let first = self.settled.as_slice().len();
-        self.wrap(3, false, Part::Triple(tag, attributes, first, is_exchanged))
+        self.wrap(
+            3,
+            false,
+            Part::Triple(tag, attributes.if_any(), first, is_exchanged),
+        )
     }
 
     /// Makes a table of the `count` uppermost elements: each becomes a row. The children of an `mrow` become the cells of its
@@ -341,6 +353,7 @@ impl Builder {
 
     /// Replaces the `count` uppermost elements by one. They become settled, with the first two of them exchanged if the flag
     /// says so.
+    #[inline(never)]
     fn wrap(&mut self, count: usize, is_exchanged: bool, whole: Part) -> Result<(), AllocError>
         requires some { 0 < count }
         requires all { count ≤ length (elements_in self.old) }

@@ -6,11 +6,12 @@ use latex2mathml_attributes::columns::Columns;
 use latex2mathml_attributes::extent::Extent;
 use latex2mathml_attributes::tag::{Container, Pair, Token, Triple};
 
-/// An element. Its text is a part of the builder's texts. Its children are next to each other among the settled elements.
+/// An element. Its text is a part of the builder's texts. Its children are next to each other among the settled elements. Most
+/// elements have no attributes, which `None` stands for.
 #[derive(Clone, Copy)]
 pub(crate) enum Part {
     /// A text: where it starts and where it ends in the texts, in bytes.
-    Token(Token, Attributes, usize, usize),
+    Token(Token, Option<Attributes>, usize, usize),
     /// A space, in eighteenths of an em.
     Space(i32),
     /// An empty or black rectangle.
@@ -18,11 +19,11 @@ pub(crate) enum Part {
     /// The child.
     Around(Around, usize),
     /// The first child, and how many there are.
-    Container(Container, Attributes, usize, usize),
+    Container(Container, Option<Attributes>, usize, usize),
     /// The first child.
-    Pair(Pair, Attributes, usize),
+    Pair(Pair, Option<Attributes>, usize),
     /// The first child, and whether the third comes before the second.
-    Triple(Triple, Attributes, usize, bool),
+    Triple(Triple, Option<Attributes>, usize, bool),
     /// A style of its own, if any, and the columns; the first row, and how many there are.
     Table(Option<MathStyle>, Columns, usize, usize),
 }

@@ -1,7 +1,8 @@
-use Rattle.std.proofs.Common.{◌-◌, ◌<◌, ◌≤◌, ◌∙◌, ap, arith, length, string_bytes, sym}
+use Rattle.std.proofs.Common.{Some, ◌-◌, ◌<◌, ◌≤◌, ◌∙◌, ap, arith, length, string_bytes, sym}
 use Rattle.std.proofs.Math.ListN.{get_or}
 use Rattle.latex2mathml_builder.specs.{Built.elements_in, Stacks.token_at, Stacks.token_of_element}
-use Rattle.latex2mathml_builder.proofs.{Opens.none_at, Sound.element, Sound.elements, Sound.elements_length, Sound.found_at, Tokens.has_none}
+use Rattle.latex2mathml_attributes.specs.Names.{attributes_of, token_of}
+use Rattle.latex2mathml_builder.proofs.{Opens.none_at, Sound.element, Sound.elements, Sound.elements_length, Sound.found_at, Tokens.has_none, Tokens.some_attributes}
 use Rattle.latex2mathml_builder.proofs.builder.Builder.token_at.Goals as goal
 
 pub returns-then-depth-len : goal.returns-then-depth-len
@@ -23,6 +24,7 @@ returns-in-Token c =
     sym (ap (λ b. token_at c.args.depth (elements_in b)) c.self.view_is)
     ∙ found_at texts settled stack c.args.depth p within is
     ∙ ap (λ q. token_of_element (element texts settled q)) c.in-Token.is
+    ∙ ap (λ a. Some (token_of c.in-Token.tag, a)) (some_attributes c.in-Token.attributes _ c.plain.ensures ∙ ap attributes_of (sym c.unwrap_or.ensures))
 
 pub returns-in_default : goal.returns-in_default
 returns-in_default c =

@@ -1,6 +1,6 @@
-use Rattle.std.proofs.Common.{◌≡◌, ◌∷◌, ◌∙◌, OnOk, false, ap, drop, length, subst}
+use Rattle.std.proofs.Common.{◌≡◌, ◌∷◌, ◌∙◌, OnOk, false, ap, drop, length, reverse, subst, take}
 use Rattle.latex2mathml_builder.specs.{Built.elements_in, Stacks.triple_with}
-use Rattle.latex2mathml_attributes.specs.Names.{attributes_of, triple_of}
+use Rattle.latex2mathml_attributes.specs.Names.{attributes_if_any, triple_of}
 use Rattle.latex2mathml_builder.proofs.Sound.{children_back}
 use Rattle.latex2mathml_builder.proofs.builder.Builder.triple.Goals as goal
 
@@ -8,5 +8,6 @@ pub returns-clause-elements : goal.returns-clause-elements
 returns-clause-elements c =
     let b = c.args.self.now in
     let first = ap length c.as_slice-first.ensures.value ∙ ap (λ d. length d.settled) c.self.view_is in
-    subst (λ l. OnOk c.wrap.result (elements_in c.wrap.new.self ≡ triple_with (triple_of c.args.tag) (attributes_of c.args.attributes) c.args.is_exchanged l ∷ drop 3 (elements_in b)))
-    (children_back b.texts b.settled (elements_in b) _ 3 false first c.requires) c.wrap.ensures.elements
+    subst (λ a. OnOk c.wrap.result (elements_in c.wrap.new.self ≡ triple_with (triple_of c.args.tag) a c.args.is_exchanged (reverse (take 3 (elements_in b))) ∷ drop 3 (elements_in b))) c.if_any.ensures
+    (subst (λ l. OnOk c.wrap.result (elements_in c.wrap.new.self ≡ triple_with (triple_of c.args.tag) (attributes_if_any c.if_any.result) c.args.is_exchanged l ∷ drop 3 (elements_in b)))
+    (children_back b.texts b.settled (elements_in b) _ 3 false first c.requires) c.wrap.ensures.elements)

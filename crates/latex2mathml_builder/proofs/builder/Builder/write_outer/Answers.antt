@@ -9,7 +9,7 @@ use Rattle.latex2mathml_attributes.specs.Arounds.{around_attributes, around_name
 use Rattle.latex2mathml_builder.specs.Built.{Fits, element_of, settled_in}
 use Rattle.latex2mathml_attributes.specs.Columns.{columns_of}
 use Rattle.latex2mathml_builder.specs.Due.{arranged, due, row_prints, settled_from, weight}
-use Rattle.latex2mathml_attributes.specs.Names.{attributes_of, math_style_of, pair_of, triple_of}
+use Rattle.latex2mathml_attributes.specs.Names.{attributes_if_any, math_style_of, pair_of, triple_of}
 use Rattle.latex2mathml_builder.proofs.Parts.{settled_count}
 use Rattle.latex2mathml_builder.proofs.Tables.{table_loaded, table_written}
 use Rattle.latex2mathml_builder.proofs.Written.{opened, taken_length, print_around, print_pair, print_triple, weight_around, weight_pair, weight_triple}
@@ -59,9 +59,9 @@ returns-in_ok-push_work-in-Pair-clause-print c =
     let found = c.in-Pair in
     let fits = subst (λ p. Fits b.texts (length b.settled) p) found.is c.requires.fits in
     let enough : found.first + 2 ≤ length (settled_in b) = omega (arith, settled_count b.texts b.settled, fits) in
-    let whole = ap (λ p. print (element_of b.texts (settled_in b) p)) found.is ∙ print_pair (pair_of found.tag) (attributes_of found.attributes) (settled_in b) found.first enough in
+    let whole = ap (λ p. print (element_of b.texts (settled_in b) p)) found.is ∙ print_pair (pair_of found.tag) (attributes_if_any found.attributes) (settled_in b) found.first enough in
     on_ok_weaker c.push_work-in-Pair-2.result
-    (λ h. opened (pair_name (pair_of found.tag)) (attributes_of found.attributes) (string_bytes c.args.out.now) (prints (children (settled_from b found.first 2))) (due b c.args.works.now.items) _ _ _ _ _ _ c.start-in-Pair.ensures c.in_ok-start_tag-in-Pair.ensures c.end-in-Pair.ensures c.in_ok-push_work-in-Pair.ensures.print h whole)
+    (λ h. opened (pair_name (pair_of found.tag)) (attributes_if_any found.attributes) (string_bytes c.args.out.now) (prints (children (settled_from b found.first 2))) (due b c.args.works.now.items) _ _ _ _ _ _ c.start-in-Pair.ensures c.in_ok-start_tag-in-Pair.ensures c.end-in-Pair.ensures c.in_ok-push_work-in-Pair.ensures.print h whole)
     c.push_work-in-Pair-2.ensures.print
 
 pub returns-in_ok-push_work-in-Pair-clause-weight : goal.returns-in_ok-push_work-in-Pair-clause-weight
@@ -70,7 +70,7 @@ returns-in_ok-push_work-in-Pair-clause-weight c =
     let found = c.in-Pair in
     let fits = subst (λ p. Fits b.texts (length b.settled) p) found.is c.requires.fits in
     let enough : found.first + 2 ≤ length (settled_in b) = omega (arith, settled_count b.texts b.settled, fits) in
-    let whole = ap (λ p. weight (element_of b.texts (settled_in b) p)) found.is ∙ weight_pair (pair_of found.tag) (attributes_of found.attributes) (settled_in b) found.first enough in
+    let whole = ap (λ p. weight (element_of b.texts (settled_in b) p)) found.is ∙ weight_pair (pair_of found.tag) (attributes_if_any found.attributes) (settled_in b) found.first enough in
     on_ok_weaker c.push_work-in-Pair-2.result
     (λ h. omega (arith, h, whole, c.in_ok-push_work-in-Pair.ensures.weight))
     c.push_work-in-Pair-2.ensures.weight
@@ -81,9 +81,9 @@ returns-in_ok-push_work-in-Triple-clause-print c =
     let found = c.in-Triple in
     let fits = subst (λ p. Fits b.texts (length b.settled) p) found.is c.requires.fits in
     let enough : found.first + 3 ≤ length (settled_in b) = omega (arith, settled_count b.texts b.settled, fits) in
-    let whole = ap (λ p. print (element_of b.texts (settled_in b) p)) found.is ∙ print_triple (triple_of found.tag) (attributes_of found.attributes) found.is_exchanged (settled_in b) found.first enough in
+    let whole = ap (λ p. print (element_of b.texts (settled_in b) p)) found.is ∙ print_triple (triple_of found.tag) (attributes_if_any found.attributes) found.is_exchanged (settled_in b) found.first enough in
     on_ok_weaker c.push_three.result
-    (λ h. opened (triple_name (triple_of found.tag)) (attributes_of found.attributes) (string_bytes c.args.out.now) (prints (children (arranged found.is_exchanged (settled_from b found.first 3)))) (due b c.args.works.now.items) _ _ _ _ _ _ c.start-in-Triple.ensures c.in_ok-start_tag-in-Triple.ensures c.end-in-Triple.ensures c.in_ok-push_work-in-Triple.ensures.print h whole)
+    (λ h. opened (triple_name (triple_of found.tag)) (attributes_if_any found.attributes) (string_bytes c.args.out.now) (prints (children (arranged found.is_exchanged (settled_from b found.first 3)))) (due b c.args.works.now.items) _ _ _ _ _ _ c.start-in-Triple.ensures c.in_ok-start_tag-in-Triple.ensures c.end-in-Triple.ensures c.in_ok-push_work-in-Triple.ensures.print h whole)
     c.push_three.ensures.print
 
 pub returns-in_ok-push_work-in-Triple-clause-weight : goal.returns-in_ok-push_work-in-Triple-clause-weight
@@ -92,7 +92,7 @@ returns-in_ok-push_work-in-Triple-clause-weight c =
     let found = c.in-Triple in
     let fits = subst (λ p. Fits b.texts (length b.settled) p) found.is c.requires.fits in
     let enough : found.first + 3 ≤ length (settled_in b) = omega (arith, settled_count b.texts b.settled, fits) in
-    let whole = ap (λ p. weight (element_of b.texts (settled_in b) p)) found.is ∙ weight_triple (triple_of found.tag) (attributes_of found.attributes) found.is_exchanged (settled_in b) found.first enough in
+    let whole = ap (λ p. weight (element_of b.texts (settled_in b) p)) found.is ∙ weight_triple (triple_of found.tag) (attributes_if_any found.attributes) found.is_exchanged (settled_in b) found.first enough in
     on_ok_weaker c.push_three.result
     (λ h. omega (arith, h, whole, c.in_ok-push_work-in-Triple.ensures.weight))
     c.push_three.ensures.weight
