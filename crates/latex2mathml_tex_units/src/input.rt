@@ -185,6 +185,7 @@ impl<'a> Input<'a> {
     }
 
     /// Takes a digit, if one comes next.
+    #[inline(always)]
     pub fn take_digit(&mut self) -> Option<char>
         ensures { MatchOption result
             (TakesNone (a_digit ∷ []) self.old self.new)
