@@ -112,7 +112,7 @@ impl<'a> Parser<'a> {
         ensures ready { IfOk result (λ read. Ready self.new (last_state read)) }
     {
         let mut state = match form {
-            Form::Atoms => State::Next,
+            Form::Atoms => self.begin_atoms()?,
             Form::Rows => self.begin_text()?,
         };
         'steps: loop {
@@ -122,6 +122,16 @@ impl<'a> Parser<'a> {
                 going_on => state = self.step(going_on)?,
             }
         }
+    }
+
+    /// Begins the row of the whole formula. It is on the stack from the start, so that its first atom is added to it in place.
+    fn begin_atoms(&mut self) -> Result<State, AllocError>
+        requires { self.old.frames.stack.items ≡ [] }
+        ensures holds { LeadsOn (HoldsIn State.Next) self.old self.new result }
+        ensures ready { IfOk result (Ready self.new) }
+    {
+        self.frames.begin(self.style)?;
+        Ok(State::Next)
     }
 
     /// Takes out the reason why the formula is refused.

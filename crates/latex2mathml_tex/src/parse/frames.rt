@@ -268,6 +268,14 @@ impl Frames {
         self.stack.clear();
     }
 
+    /// Pushes the row of a whole formula of this style, before its first atom.
+    pub(crate) fn begin(&mut self, style: Style) -> Result<(), AllocError>
+        ensures { OnOk result
+            (self.new.stack.items ≡ self.old.stack.items ++ begun_row style ∷ []) }
+    {
+        self.push(text_row(style))
+    }
+
     /// Pushes a frame.
     pub(crate) fn push(&mut self, frame: Frame) -> Result<(), AllocError>
         ensures { OnOk result (self.new.stack.items ≡ self.old.stack.items ++ frame ∷ []) }

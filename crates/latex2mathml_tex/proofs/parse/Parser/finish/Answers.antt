@@ -5,29 +5,19 @@ use Rattle.latex2mathml_tex.specs.declared.parse.Form.TheVariants as form
 use Rattle.latex2mathml_tex.specs.declared.parse.State.TheVariants as state
 use Rattle.latex2mathml_tex.proofs.Answering.{begins, begins_rows}
 use Rattle.latex2mathml_tex.proofs.parse.Parser.finish.Goals as goal
-use Rattle.latex2mathml_tex.proofs.parse.Parser.finish.Goals.{in-Atoms, in-Rows+in_ok-state-in-Rows}
-
--- before the first step
-first_ready : (p : Parser) → p.frames.stack.items ≡ [] → Ready p state.Next
-first_ready p e =
-    let none = ap (sum_by element_count) e in
-    record {
-      elements = omega (arith, none);
-      may_come = record {
-        accepted = subst (λ fs. IsTrue (first_accepts core_made (reverse fs))) (sym e) refl;
-        nested = subst (λ fs. IsTrue (are_nested (reverse fs))) (sym e) refl;
-      };
-    }
+use Rattle.latex2mathml_tex.proofs.parse.Parser.finish.Goals.{in-Atoms+in_ok-state-in-Atoms, in-Rows+in_ok-state-in-Rows}
 
 pub steps-init : goal.steps-init
 steps-init c =
     let p = c.args.self.now in
     elim c.match-form.branch [
-      | in-Atoms w ↦ (
-          let first : Holds (start_of c.args.form p) p state.Next = rw w.in-Atoms.is (begins p c.requires) in
+      | in-Atoms+in_ok-state-in-Atoms w ↦ (
+          let q = w.begin_atoms.new.self in
+          let given = w.in_ok-state-in-Atoms in
+          let first : Holds (start_of c.args.form p) q given.state = rw w.in-Atoms.is (given.ensures.holds (start_of form.Atoms p) (begins p c.requires)) in
           record {
-            ready = subst (λ q. Ready q c.match-form.state) (sym w.self-is) (subst (Ready p) (sym w.state-is) (first_ready p c.requires));
-            holds = subst (λ q. Holds (start_of c.args.form p) q c.match-form.state) (sym w.self-is) (subst (Holds (start_of c.args.form p) p) (sym w.state-is) first);
+            ready = subst (λ q. Ready q c.match-form.state) (sym w.self-is) (subst (Ready q) (sym w.state-is) given.ensures.ready);
+            holds = subst (λ q. Holds (start_of c.args.form p) q c.match-form.state) (sym w.self-is) (subst (Holds (start_of c.args.form p) q) (sym w.state-is) first);
           })
       | in-Rows+in_ok-state-in-Rows w ↦ (
           let q = w.begin_text.new.self in
