@@ -1,6 +1,6 @@
 //! Writes elements as markup.
 ghost use Rattle.std.specs.Prelude.{◌≡◌, ◌+◌, ◌<◌, ◌≤◌, ◌∷◌, ◌++◌, [], false, IsTrue, OnOk, codes, length, set, string_bytes};
-ghost use Rattle.std.specs.Str.{IsAscii};
+ghost use Rattle.std.specs.Str.{IsAscii, IsUtf8};
 ghost use Rattle.latex2mathml_elements.specs.Attributes.{plain};
 ghost use Rattle.latex2mathml_elements.specs.Element.{children, token};
 ghost use Rattle.latex2mathml_elements.specs.Print.{attributes_text, print, prints};
@@ -251,6 +251,8 @@ fn write_plain(tag: Token, text: &str, out: &mut String) -> Result<(), AllocErro
 {
     match text.as_bytes() {
         [byte] if byte.is_ascii() && is_kept(*byte) => write_byte(tag, *byte, out),
+        [a, b] if is_kept(*a) && is_kept(*b) => write_two(tag, *a, *b, out),
+        [a, b, c] if is_kept(*a) && is_kept(*b) && is_kept(*c) => write_three(tag, *a, *b, *c, out),
         _ => match tag {
             Token::Mi => write_text("<mi>", text, "</mi>", out),
             Token::Mn => write_text("<mn>", text, "</mn>", out),
@@ -272,7 +274,7 @@ fn write_text(
         ++ (before.now ++ (content text.now ++ after.now))) }
 {
     out.push_str(before)?;
-    write_content(text, out)?;
+    append_content(text, out)?;
     out.push_str(after)
 }
 
@@ -289,6 +291,44 @@ fn write_byte(tag: Token, byte: u8, out: &mut String) -> Result<(), AllocError>
         Token::Mn => push_with_byte(b"<mn> </mn>", 4, byte, out),
         Token::Mo => push_with_byte(b"<mo> </mo>", 4, byte, out),
         Token::Mtext => push_with_byte(b"<mtext> </mtext>", 7, byte, out),
+    }
+}
+
+/// Appends an element without attributes that holds these two bytes, which are a character.
+#[inline(always)]
+fn write_two(tag: Token, first: u8, second: u8, out: &mut String) -> Result<(), AllocError>
+    requires text { IsUtf8 (first ∷ second ∷ []) }
+    requires content { content (first ∷ second ∷ []) ≡ first ∷ second ∷ [] }
+    ensures { OnOk result (string_bytes out.new ≡ string_bytes out.old
+        ++ print (token (token_of tag) plain (first ∷ second ∷ []))) }
+{
+    match tag {
+        Token::Mi => push_with_two(b"<mi>  </mi>", 4, first, second, out),
+        Token::Mn => push_with_two(b"<mn>  </mn>", 4, first, second, out),
+        Token::Mo => push_with_two(b"<mo>  </mo>", 4, first, second, out),
+        Token::Mtext => push_with_two(b"<mtext>  </mtext>", 7, first, second, out),
+    }
+}
+
+/// Appends an element without attributes that holds these three bytes, which are a character.
+#[inline(always)]
+fn write_three(
+    tag: Token,
+    first: u8,
+    second: u8,
+    third: u8,
+    out: &mut String,
+) -> Result<(), AllocError>
+    requires text { IsUtf8 (first ∷ second ∷ third ∷ []) }
+    requires content { content (first ∷ second ∷ third ∷ []) ≡ first ∷ second ∷ third ∷ [] }
+    ensures { OnOk result (string_bytes out.new ≡ string_bytes out.old
+        ++ print (token (token_of tag) plain (first ∷ second ∷ third ∷ []))) }
+{
+    match tag {
+        Token::Mi => push_with_three(b"<mi>   </mi>", 4, first, second, third, out),
+        Token::Mn => push_with_three(b"<mn>   </mn>", 4, first, second, third, out),
+        Token::Mo => push_with_three(b"<mo>   </mo>", 4, first, second, third, out),
+        Token::Mtext => push_with_three(b"<mtext>   </mtext>", 7, first, second, third, out),
     }
 }
 
@@ -312,14 +352,58 @@ fn push_with_byte<const N: usize>(
     out.push_str(unsafe { str::from_utf8_unchecked(&bytes) })
 }
 
-/// Appends a text as contents. Most texts of several bytes are one character.
+/// Appends markup with these two bytes from the place on.
+#[inline(always)]
+fn push_with_two<const N: usize>(
+    markup: &[u8; N],
+    place: usize,
+    first: u8,
+    second: u8,
+    out: &mut String,
+) -> Result<(), AllocError>
+    requires place { place + 1 < length markup.now }
+    requires text { IsUtf8 (set (set markup.now place first) (place + 1) second) }
+    ensures { OnOk result (string_bytes out.new ≡ string_bytes out.old
+        ++ set (set markup.now place first) (place + 1) second) }
+{
+    let mut bytes = *markup;
+    bytes[place] = first;
+    bytes[place + 1] = second;
+    // The caller shows that the bytes are a text.
+    out.push_str(unsafe { str::from_utf8_unchecked(&bytes) })
+}
+
+/// Appends markup with these three bytes from the place on.
+#[inline(always)]
+fn push_with_three<const N: usize>(
+    markup: &[u8; N],
+    place: usize,
+    first: u8,
+    second: u8,
+    third: u8,
+    out: &mut String,
+) -> Result<(), AllocError>
+    requires place { place + 2 < length markup.now }
+    requires text { IsUtf8
+        (set (set (set markup.now place first) (place + 1) second) (place + 2) third) }
+    ensures { OnOk result (string_bytes out.new ≡ string_bytes out.old
+        ++ set (set (set markup.now place first) (place + 1) second) (place + 2) third) }
+{
+    let mut bytes = *markup;
+    bytes[place] = first;
+    bytes[place + 1] = second;
+    bytes[place + 2] = third;
+    // The caller shows that the bytes are a text.
+    out.push_str(unsafe { str::from_utf8_unchecked(&bytes) })
+}
+
+/// Appends a text as contents. Most texts are one character.
 #[inline(always)]
 fn write_content(text: &str, out: &mut String) -> Result<(), AllocError>
     ensures { OnOk result (string_bytes out.new ≡ string_bytes out.old ++ content text.now) }
 {
     match text.as_bytes() {
-        [a, b] if is_kept(*a) && is_kept(*b) => out.push_str(text),
-        [a, b, c] if is_kept(*a) && is_kept(*b) && is_kept(*c) => out.push_str(text),
+        [byte] if byte.is_ascii() && is_kept(*byte) => out.push(char::from(*byte)),
         _ => append_content(text, out),
     }
 }

@@ -1,8 +1,8 @@
-use Rattle.std.proofs.Common.{◌++◌, ap, codes, refl, rules, string_bytes, sym}
+use Rattle.std.proofs.Common.{[], ◌∷◌, ◌++◌, ap, codes, refl, rules, string_bytes, sym}
 use Rattle.std.proofs.lemmas.Result.{on_ok_weaker}
 use Rattle.latex2mathml_elements.specs.Print.{end_tag, token_name}
 use Rattle.latex2mathml_attributes.specs.Names.{token_of}
-use Rattle.latex2mathml_builder.proofs.Bytes.{ascii_markup, byte_written}
+use Rattle.latex2mathml_builder.proofs.Bytes.{ascii_markup, bytes_written}
 use Rattle.latex2mathml_builder.proofs.write.write_byte.Goals as goal
 
 pub push_with_byte-requires : goal.push_with_byte-requires
@@ -13,7 +13,7 @@ returns-in-Mi c =
     let begins = ap (λ t. (codes "<" ++ token_name (token_of t)) ++ codes ">") (sym c.in-Mi.is) in
     let ends = ap (λ t. end_tag (token_name (token_of t))) (sym c.in-Mi.is) in
     on_ok_weaker c.push_with_byte.result
-    (byte_written (token_of c.args.tag) (string_bytes c.args.out.now) _ _ _ c.args.byte c.requires.content begins ends)
+    (bytes_written (token_of c.args.tag) (string_bytes c.args.out.now) (c.args.byte ∷ []) _ _ _ c.requires.content begins ends)
     c.push_with_byte.ensures
 
 pub push_with_byte-requires-in-Mn : goal.push_with_byte-requires-in-Mn
@@ -24,7 +24,7 @@ returns-in-Mn c =
     let begins = ap (λ t. (codes "<" ++ token_name (token_of t)) ++ codes ">") (sym c.in-Mn.is) in
     let ends = ap (λ t. end_tag (token_name (token_of t))) (sym c.in-Mn.is) in
     on_ok_weaker c.push_with_byte-in-Mn.result
-    (byte_written (token_of c.args.tag) (string_bytes c.args.out.now) _ _ _ c.args.byte c.requires.content begins ends)
+    (bytes_written (token_of c.args.tag) (string_bytes c.args.out.now) (c.args.byte ∷ []) _ _ _ c.requires.content begins ends)
     c.push_with_byte-in-Mn.ensures
 
 pub push_with_byte-requires-in-Mo : goal.push_with_byte-requires-in-Mo
@@ -35,7 +35,7 @@ returns-in-Mo c =
     let begins = ap (λ t. (codes "<" ++ token_name (token_of t)) ++ codes ">") (sym c.in-Mo.is) in
     let ends = ap (λ t. end_tag (token_name (token_of t))) (sym c.in-Mo.is) in
     on_ok_weaker c.push_with_byte-in-Mo.result
-    (byte_written (token_of c.args.tag) (string_bytes c.args.out.now) _ _ _ c.args.byte c.requires.content begins ends)
+    (bytes_written (token_of c.args.tag) (string_bytes c.args.out.now) (c.args.byte ∷ []) _ _ _ c.requires.content begins ends)
     c.push_with_byte-in-Mo.ensures
 
 pub push_with_byte-requires-in-Mtext : goal.push_with_byte-requires-in-Mtext
@@ -46,5 +46,5 @@ returns-in-Mtext c =
     let begins = ap (λ t. (codes "<" ++ token_name (token_of t)) ++ codes ">") (sym c.in-Mtext.is) in
     let ends = ap (λ t. end_tag (token_name (token_of t))) (sym c.in-Mtext.is) in
     on_ok_weaker c.push_with_byte-in-Mtext.result
-    (byte_written (token_of c.args.tag) (string_bytes c.args.out.now) _ _ _ c.args.byte c.requires.content begins ends)
+    (bytes_written (token_of c.args.tag) (string_bytes c.args.out.now) (c.args.byte ∷ []) _ _ _ c.requires.content begins ends)
     c.push_with_byte-in-Mtext.ensures
