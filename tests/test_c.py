@@ -7,7 +7,7 @@ import shutil
 
 from tests.cases import every_rule
 from tests.nesting import kinds_of
-from tests.runs import Runs, runs_of
+from tests.runs import Runs
 from tests.support import Case, Has, ROOT, c_library, each_row, requires, run, scratch
 from tests.texts import LESS, LESS_BLOCK, UNCLOSED
 
@@ -157,7 +157,7 @@ class Sanitized(Built):
 
 
 @requires(CC[0], "python3")
-class Examples(Runs):
+class Examples(Runs, file="c.txt"):
     @classmethod
     def setUpClass(cls):
         # a copy, because they are built next to their sources and find the library in the folder above; a path may have spaces
@@ -170,10 +170,6 @@ class Examples(Runs):
         examples = self.library / "examples"
         environment = {**os.environ, "PYTHONPATH": str(examples), "PYTHONDONTWRITEBYTECODE": "1"}
         return run([tool if tool == "python3" else examples / tool, *words], env=environment, **more)
-
-    @each_row(runs_of("c.txt"))
-    def answer(self, runs):
-        self.do_each(runs)
 
     def test_they_are_built(self):
         self.expect(self.built)

@@ -121,5 +121,6 @@ class Reader(Case):
             self.assertTrue(formula and contents.startswith("<"), formula)
 
     def test_all_files_are_read(self):
-        read = {file for pattern, _ in KINDS for file in cases.files(pattern)} | set(cases.ELSEWHERE)
-        self.assertEqual(sorted(read), cases.files("**/*.txt"))
+        """Here, or by the class that the file names."""
+        read = {file for pattern, _ in KINDS for file in cases.files(pattern)}
+        self.assertEqual([it for it in cases.files("**/*.txt") if (it in read) == bool(cases.reader_of(it))], [])

@@ -3,8 +3,8 @@ import os
 import re
 import shutil
 
-from tests.runs import Runs, runs_of
-from tests.support import ROOT, dist, each_row, newest_version, program, put, requires, run, run_folder, tex_program
+from tests.runs import Runs
+from tests.support import ROOT, dist, newest_version, program, put, requires, run, run_folder, tex_program
 
 CRATE = "crates/latex2mathml_c"
 
@@ -13,7 +13,7 @@ FAKES = ROOT / "tests/fakes/making"
 
 
 @requires("cc", "objdump", "ldd")
-class Dist(Runs):
+class Dist(Runs, file="dist.txt"):
     @classmethod
     def setUpClass(cls):
         cls.dist = dist()
@@ -98,10 +98,6 @@ class Dist(Runs):
     def run_as(self, tool, words, **more):
         """Runs a program of the folder, without an environment."""
         return run([self.dist / tool, *words], env={}, **more)
-
-    @each_row(runs_of("dist.txt"))
-    def are_converted(self, runs):
-        self.do_each(runs)
 
     def test_links(self):
         """Each link of a document leads to a file that the folder has."""

@@ -12,7 +12,7 @@ import pytest
 
 from tests.cases import by_heading
 from tests.environments import environment, proved, requires_python, run_python
-from tests.runs import Runs, runs_of
+from tests.runs import Runs
 from tests.support import ROOT, Case, each_row, limit, requires
 
 pytestmark = pytest.mark.long
@@ -94,14 +94,14 @@ def letters(markup):
 @requires("python:markdown")
 class Formulas(Case):
     @each_row({name: (name, *row) for name, row in by_heading("markdown.txt").items()})
-    def are_converted(self, name, cases):
+    def are_converted(self, name, *cases):
         for others in EXTENSIONS.get(name, [[]]):
             for case in cases:
                 with self.subTest(case.place, others=others):
                     self.assertEqual(letters_of(convert(case.input.decode(), others)[0]), case.answer.decode())
 
     @each_row(by_heading("markdown_slow.txt"))
-    def are_found(self, cases):
+    def are_found(self, *cases):
         """Before the process that looks for them is ended."""
         for case, (page, said) in zip(cases, convert_apart(*(it.input.decode() for it in cases)), strict=True):
             with self.subTest(case.place):
@@ -163,11 +163,7 @@ class Formulas(Case):
 
 
 @requires_python("markdown")
-class Pages(Runs):
-    @each_row(runs_of("markdown.txt"))
-    def are_made(self, runs):
-        self.do_each(runs)
-
+class Pages(Runs, file="markdown.txt"):
     def test_example(self):
         """The example of the package is converted without a warning."""
         folder = self.folder / "out"

@@ -5,18 +5,14 @@ import pytest
 
 from tests.environments import requires_python
 from tests.integration import math_in
-from tests.runs import Runs, runs_of
-from tests.support import ROOT, each_row, put
+from tests.runs import Runs
+from tests.support import ROOT, put
 
 pytestmark = pytest.mark.long
 
 
 @requires_python("markdown", "mkdocs", "pymdownx")
-class Sites(Runs):
-    @each_row(runs_of("mkdocs.txt"))
-    def are_built(self, runs):
-        self.do_each(runs)
-
+class Sites(Runs, file="mkdocs.txt"):
     def shows(self, *words):
         """What the formulas of a site's first page show, which is built without a warning."""
         self.expect(self.run_as("mkdocs", ["build", "--strict", "-d", self.folder / "site", *words], cwd=self.folder))

@@ -4,7 +4,7 @@ import shutil
 import subprocess
 
 from tests import cases
-from tests.runs import Runs, runs_of
+from tests.runs import Runs
 from tests.support import BUILD_NOTHING, Case, ROOT, each_row, limit, program, put, run
 from tests.texts import BAD_ENTRY, LESS, STOPPED, UNCLOSED, UNPAIRED, UNREAD, USAGE, X, error, math
 
@@ -151,10 +151,8 @@ class Site(Case):
         self.expect(run([self.command, "html", path], stdin=subprocess.DEVNULL, **more), 1 if faults else 0, b"", lines)
 
 
-class Folders(Runs):
-    @each_row(runs_of("latex2mathml.txt"))
-    def are_converted(self, runs):
-        self.do_each(runs)
+class Folders(Runs, file="latex2mathml.txt"):
+    """What `html` makes of folders and files."""
 
 
 class Files(Site):

@@ -12,7 +12,7 @@ import zipfile
 from tests import texts
 from tests.cases import rows_of_lines, with_tags
 from tests.environments import ask, environment, proved, requires_python, run_python, wheel
-from tests.runs import Runs, runs_of
+from tests.runs import Runs
 from tests.support import ROOT, Case, c_library, each_row, requires, run
 from tests.texts import UNCLOSED
 
@@ -77,11 +77,7 @@ def call(name, *words, **named):
 
 
 @requires_python()
-class Wheel(Runs):
-    @each_row(runs_of("python.txt"))
-    def is_run(self, runs):
-        self.do_each(runs)
-
+class Wheel(Runs, file="python.txt"):
     def test_platform(self):
         """It requires the newest version of the C library that the shared library needs, and no newer one."""
         symbols = run(["objdump", "-T", c_library() / "liblatex2mathml.so"]).stdout.decode()

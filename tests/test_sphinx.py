@@ -9,7 +9,7 @@ import pytest
 from tests.cases import by_heading
 from tests.environments import proved, requires_python
 from tests.integration import math_in
-from tests.runs import Runs, runs_of
+from tests.runs import Runs
 from tests.support import ROOT, each_row, put, requires
 
 pytestmark = pytest.mark.long
@@ -36,15 +36,13 @@ class Project(Runs):
 
 
 @requires_python("sphinx", "myst_parser")
-class Pages(Runs):
-    @each_row(runs_of("sphinx.txt"))
-    def are_built(self, runs):
-        self.do_each(runs)
+class Pages(Runs, file="sphinx.txt"):
+    """Pages without what Sphinx writes around them."""
 
 
 class Markup(Project):
     @each_row(by_heading("sphinx_rows.txt"))
-    def are_made(self, cases):
+    def are_made(self, *cases):
         for case in cases:
             with self.subTest(case.place):
                 text = f"Title\n=====\n\n.. math::\n\n{textwrap.indent(case.input.decode(), '   ')}\n"

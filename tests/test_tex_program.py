@@ -6,7 +6,7 @@ import threading
 import xml.etree.ElementTree as ElementTree
 
 from tests import cases, faulty
-from tests.runs import Runs, runs_of
+from tests.runs import Runs
 from tests.support import ROOT, Case, each_row, newest_version, put, requires, run, tex_program
 from tests.texts import UNREAD, X, math
 
@@ -17,11 +17,7 @@ def ask(*words, stdin=b"", **more):
     return run([tex_program(), *words], stdin=stdin, **more)
 
 
-class Answers(Runs):
-    @each_row(runs_of("tex2mathml.txt"))
-    def are_written(self, runs):
-        self.do_each(runs)
-
+class Answers(Runs, file="tex2mathml.txt"):
     def test_input_that_cannot_be_read(self):
         folder = os.open("/", os.O_RDONLY)
         self.addCleanup(os.close, folder)
@@ -97,7 +93,7 @@ class Definitions(Case):
                 self.expect(self.ask(definitions, b"a\\pmod n\\dots"), stdout=usual.stdout)
 
     @each_row(cases.by_heading("tex_definition_refusals.txt"))
-    def are_refused(self, refused):
+    def are_refused(self, *refused):
         for case in refused:
             definitions, told = case.input.decode(), case.answer.decode()
             with self.subTest(case.place):
