@@ -18,7 +18,7 @@ PLACE = "[place]"
 COLUMNS = re.compile(r" {2,}")
 
 # The files that are tables, and how many columns each has.
-TABLES = {"commands.txt": 3, "growth.txt": 4, "one_at_a_time.txt": 3, "requests.txt": 4, "requests_for_each.txt": 4}
+TABLES = {"commands.txt": 3, "growth.txt": 4, "one_at_a_time.txt": 3, "requests.txt": 4, "requests_for_each.txt": 4, "site_slow.txt": 2}
 
 # What a file says that another module reads: the class of tests, which has a test for each heading, or for each line of a table.
 READER = re.compile(r"^#.* Tried by `(test_\w+\.\w+)`\.$", re.M)

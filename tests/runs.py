@@ -145,7 +145,7 @@ class Runs(Case):
                 given = step.text
             elif action == "run":
                 due = itertools.takewhile(lambda it: it.form["of"], steps[at + 1:])
-                done = self.run_tool(folder, step.text.decode(), given, {it.form["of"]: it.text for it in due})
+                done = self.run_tool(folder, os.fsdecode(step.text), given, {it.form["of"]: it.text for it in due})
             else:
                 self.check(step, folder, done)
 

@@ -246,20 +246,3 @@ class Full(Walks):
             held = file.read_bytes()
             self.expect(support.run([faulty.program(), "html", file]), stdout=b"")
             self.assertEqual(file.read_bytes(), held)
-
-
-class Large(Walks):
-    """Documents of many megabytes are converted like any other."""
-
-    @support.each_row({"2 megabytes": (2 << 20,), "64 megabytes": (64 << 20,)})
-    def is_converted(self, size):
-        prose = b"Let us see what there is. " * (size // 26)
-        support.put(self.site, {"a.html": prose + b"$x$", "b.html": b"$x$"})
-        self.expect(support.run([support.program(), "html", self.site]), 0, b"")
-        self.assertTrue((self.site / "a.html").read_bytes() == prose + X)
-        self.assertEqual((self.site / "b.html").read_bytes(), X)
-
-    def test_many_formulas(self):
-        support.put(self.site, {"a.html": b"$x$" * 700_000})
-        self.expect(support.run([support.program(), "html", self.site]), 0, b"")
-        self.assertTrue((self.site / "a.html").read_bytes() == X * 700_000)

@@ -5,6 +5,7 @@ import pytest
 
 from tests.environments import requires_python
 from tests.integration import math_in
+from tests.pages import code_blocks, read
 from tests.runs import Runs
 from tests.support import ROOT, put
 
@@ -19,8 +20,7 @@ class Sites(Runs, file="mkdocs.txt"):
         return [re.sub("<[^>]*>", "", it) for it in math_in((self.folder / "site/index.html").read_text(encoding="utf-8"))]
 
     def test_readme(self):
-        text = (ROOT / "integrations/python/README.md").read_text(encoding="utf-8")
-        [options] = re.findall(r"```yaml\n(.*?)```", text, re.DOTALL)
+        [options] = code_blocks(read("integrations/python/README.md"), "yaml")
         put(self.folder, {"mkdocs.yml": "site_name: Equations\n" + options, "docs/index.md": "$\\norm{x} \\in \\R$\n"})
         self.assertEqual(self.shows(), ["∥x∥∈ℝ"])
 

@@ -174,18 +174,11 @@ class MarkdownIt(Package):
     def test_the_plugin(self):
         self.run_tests("markdown-it.test.cjs")
 
-    def test_texts_that_are_slow_to_read(self):
-        def render(source):
-            self.expect(self.node(TESTS / "render.cjs", stdin=source.encode(), preexec_fn=limit(CPU=30), timeout=300))
-
-        for source in ("$a$ $$ $ [ ", "$a$\n", "$$\n", "$$\na\n", "$ ", "\\$", "`$", "- $$\n", "> $$ ", "\\(", "\\[ ", "\\[\n", "\\[\na\n",
-                       "- \\[\n", "> \\( ", "[\\( ", "\\(\\[", "\\`\\( ", "```math\n"):
-            with self.subTest(source):
-                render(source * 20_000)
-        render("$$\n" + "a\n" * 50_000)
-        render("$" + "a " * 50_000)
-        render("\\[\n" * 20_000 + "`\n\\]")
-        render("\\( " * 20_000 + "` \\)")
+    @each_row(rows_of_lines("markdown_it_slow.txt"))
+    def are_read(self, *texts):
+        for text, in texts:
+            with self.subTest(text.place):
+                self.expect(self.node(TESTS / "render.cjs", stdin=text.expand(), preexec_fn=limit(CPU=30), timeout=300))
 
     @requires("tsc")
     def test_declarations(self):

@@ -7,15 +7,13 @@ import shutil
 
 from tests.environments import interpreter, requires_python
 from tests.integration import answer_of, tex_answer_of
+from tests.pages import code_blocks
 from tests.support import Case, dist, put, requires, run, scratch
 
 PACKAGES = pathlib.Path("/usr/share/nodejs")  # Debian's
 
 # Replaces the toolchain, at the front of the path.
-TOOLCHAIN = """#!/bin/sh
-echo "$0 is called" >&2
-exit 127
-"""
+TOOLCHAIN = '#!/bin/sh\necho "$0 is called" >&2\nexit 127\n'
 
 # A program with the lines of the README for Rust. It shows the last of its markups, and other results of these lines.
 MAIN = """#![allow(unused_variables)]
@@ -49,11 +47,6 @@ def commands(readme):
     """The commands of a README: the lines of its blocks of code that are not files, with those that a backslash continues."""
     blocks = re.findall(r"(?:^    .*\n)+", readme, re.MULTILINE)
     return [" ".join(line.split()) for block in blocks for line in block.replace("\\\n", " ").splitlines()]
-
-
-def code(readme, language):
-    """The blocks of code in a language."""
-    return re.findall(rf"^```{language}\n(.*?)^```$", readme, re.DOTALL | re.MULTILINE)
 
 
 class Readme(Case):
@@ -126,7 +119,7 @@ class OfThePackageForPython(Readme):
 
     def check_code(self, readme, folder):
         """The blocks of Python that no tool reads from a file of its own."""
-        mapping, _, page, renderer = code(readme, "python")
+        mapping, _, page, renderer = code_blocks(readme, "python")
         script = PYTHON.format(mapping=mapping, page=page, renderer=renderer)
         done = self.follow("venv/bin/python -", folder, stdin=script.encode())
         self.expect(done)
@@ -208,7 +201,7 @@ class OfThePackageForNode(Readme):
 
     def test_its_code(self):
         self.install(*self.installs()[0])
-        calls, plugin = code(self.readme("integrations/node"), "js")
+        calls, plugin = code_blocks(self.readme("integrations/node"), "js")
         [imports] = re.findall(r"(?:^    import .*\n)+", self.readme("integrations/node"), re.MULTILINE)
         document = f"Let {answer_of('x<y')} be."
         with self.subTest("calls"):
@@ -247,7 +240,7 @@ class OfTheCrateForRust(Readme):
         readme = self.readme("integrations/rust")
         dependency, replacement = re.findall(r"^    (latex2mathml = .*)$", readme, re.MULTILINE)
         [patch] = re.findall(r"^    (\[patch\..*)$", readme, re.MULTILINE)
-        [lines] = code(readme, "rust")
+        [lines] = code_blocks(readme, "rust")
         printed = (f"Let {answer_of('x<y')} be.\n{tex_answer_of(MEMBER)}\n"
                    'marked as an error: Undefined("Command(\\"le\\")")\n')
         put(self.project, {"src/main.rs": MAIN.format(lines=lines)})

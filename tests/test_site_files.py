@@ -11,10 +11,11 @@ import stat
 import subprocess
 import time
 
+from tests.cases import of_size, rows
 from tests.environments import environment, requires_python
 from tests.integration import command, site, tex
 from tests.runs import files_of
-from tests.support import NOBODY, Case, as_nobody, hear_signals, limit, put, read_terminal, requires, run, scratch
+from tests.support import NOBODY, Case, as_nobody, each_row, hear_signals, limit, put, read_terminal, requires, run, scratch
 
 PAGE = "<p>$x$ and \\(y\\)</p>\n"
 
@@ -171,19 +172,14 @@ class Hostile(Site):
         self.run_site(".", says=summary(1, 1, count), timeout=600)
         self.assertEqual((self.folder / "a.html").read_text(), part.replace("$x$", tex("x")[0], 1) * count)
 
-    def test_pages_that_take_long(self):
+    @each_row({f"pages with many {key}": (of_size(text),) for _, key, text in rows("site_slow.txt")})
+    def is_read(self, text):
         """Time grows with the length of a page, whatever it contains."""
-        for name, text in {
-                "comments": "<!-- $x$ ", "tags": '<a b=" $x$', "open": "<b>", "ends": "<b></i>", "dollars": "$x ", "brackets": "\\( ",
-                "signs": "<", "references": "&", "declarations": "<!", "instructions": "<?", "classes": "class=math", "attributes": "<a b=c ",
-                "quotes": "<a b='", "sections": "<![CDATA[", "other sections": "<![a", "scripts": "<script>", "macros": "<script>macros: {a:[[",
-                "paragraphs": "<p>", "refused": "\\(\\foo\\)\n"}.items():
-            with self.subTest(name):
-                self.put("a.html", text=text * (300_000 // len(text)) + "$x$")
-                before = resource.getrusage(resource.RUSAGE_CHILDREN)
-                self.run_site("a.html", "b.html", stderr=None)
-                after = resource.getrusage(resource.RUSAGE_CHILDREN)
-                self.assertLess(after.ru_utime - before.ru_utime, 15)
+        self.put("a.html", text=text(300_000))
+        before = resource.getrusage(resource.RUSAGE_CHILDREN)
+        self.run_site("a.html", "b.html", stderr=None)
+        after = resource.getrusage(resource.RUSAGE_CHILDREN)
+        self.assertLess(after.ru_utime - before.ru_utime, 15)
 
     def test_what_may_only_be_read(self):
         """It is reported, stays as it is, and everything else is converted."""

@@ -32,17 +32,6 @@ class Answers(Runs, file="tex2mathml.txt"):
         put(self.folder, {"a b.tex": "\\def\\a{x}"})
         self.expect(run([ROOT / "tex2mathml", "--definitions", "a b.tex"], stdin=b"\\a", cwd=self.folder), stdout=X_LINE)
 
-    def test_as_if_each_were_alone(self):
-        """What was read before leaves nothing behind."""
-        formulas = [b"\\left(x", b"y", b"{{{", b"\\text{a", b"z", b"x_i"]
-        self.expect(ask("--null", stdin=b"\0".join(formulas)), stdout=b"".join(map(self.alone, formulas)))
-
-    def alone(self, formula):
-        done = ask(stdin=formula)
-        if done.returncode == 0:
-            return b"mathml\n" + done.stdout.removesuffix(b"\n") + b"\0"
-        return b"error\n" + done.stderr.removeprefix(b"tex2mathml: ").removesuffix(b"\n") + b"\0"
-
     def test_annotation_of_each_case(self):
         """An XML parser finds the formula in the annotation, and next to it what the case shows."""
         of_tex = [case for name in cases.files("tex/*.txt") for case in cases.read(name)]
@@ -82,15 +71,6 @@ class Definitions(Case):
         """The file of the program's own run."""
         words = ["--definitions", ROOT / "crates/latex2mathml_tex_app/data/macros.tex"]
         self.expect(ask(*words, stdin=b"\\half{\\R}"), stdout=math("<mfrac><mi>ℝ</mi><mn>2</mn></mfrac>".encode()) + b"\n")
-
-    def test_nothing_defined(self):
-        """The usual macros hold, as they do after any definitions."""
-        usual = ask(stdin=b"a\\pmod n\\dots")
-        self.assertEqual(usual.returncode, 0)
-        for definitions in ("", " \n", "% nothing", "\\def\\a{x}"):
-            with self.subTest(definitions):
-                self.expect(self.ask(definitions, b"x"), stdout=X_LINE)
-                self.expect(self.ask(definitions, b"a\\pmod n\\dots"), stdout=usual.stdout)
 
     @each_row(cases.by_heading("tex_definition_refusals.txt"))
     def are_refused(self, *refused):
@@ -179,23 +159,8 @@ class Calls(faulty.OneByteAtATime):
 
 
 class Words(Case):
-    def test_help(self):
-        done = ask("--help")
-        self.expect(done, stdout=None)
-        for word in (b"Usage: tex2mathml [OPTIONS]", b"--display", b"--null", b"--definitions <FILE>", b"--annotation", b"inline", b"block", b"each"):
-            self.assertIn(word, done.stdout)
-
     def test_version(self):
         self.expect(ask("--version"), stdout=f"tex2mathml {newest_version()}\n".encode())
-
-    def test_wrong_ones(self):
-        definitions = ["--definitions", "/dev/null"]
-        for words in (["--wrong"], ["--display"], ["--display", "wrong"], ["x"], ["--null", "--null"], ["--annotation", "--annotation"],
-                      ["--annotation=x"], ["--definitions"], [*definitions, *definitions], ["--definitions", "--null"], [b"\xff"]):
-            with self.subTest(words):
-                done = ask(*words, stdin=b"x")
-                self.expect(done, 2, b"", None)
-                self.assertTrue(done.stderr)
 
 
 class Page(Case):
