@@ -5,6 +5,7 @@ import itertools
 import os
 import re
 import shlex
+import shutil
 
 from tests.cases import Line, WrongCase, blocks, grouped
 from tests.environments import environment, run_python
@@ -15,7 +16,7 @@ from tests.texts import math
 FORMULA = re.compile(r"<(inline|block)>(.*?)</\1>", re.DOTALL)
 
 # What a line does, or of what it says something: a stream, the status, all files, those that the run kept, or one of them.
-LINE = re.compile(r"(?P<action>file|folder|link|in|run)(?: (?P<name>.+?))?(?::(?: |$)|$)|(?P<of>.+?)(?P<verb> has| counts| asks as|):(?: |$)")
+LINE = re.compile(r"(?P<action>file|copy|folder|link|in|run)(?: (?P<name>.+?))?(?::(?: |$)|$)|(?P<of>.+?)(?P<verb> has| counts| asks as|):(?: |$)")
 
 
 def pandoc(words, converter=None, **more):
@@ -137,6 +138,8 @@ class Runs(Case):
             action, name = step.form["action"], step.form["name"]
             if action == "file":
                 put(folder, {name: step.text})
+            elif action == "copy":
+                shutil.copytree(ROOT / step.text.decode(), folder / name)
             elif action == "folder":
                 (folder / name).mkdir(parents=True)
             elif action == "link":

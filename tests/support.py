@@ -175,6 +175,14 @@ def put(folder, texts):
             path.chmod(0o755)
 
 
+def link_tools(folder, *names):
+    """A folder with these programs of the system, for a path with no others."""
+    folder.mkdir(exist_ok=True)
+    for name in names:
+        (folder / name).symlink_to(shutil.which(name))
+    return folder
+
+
 @contextlib.contextmanager
 def scratch():
     """A folder for the duration of a `with`, as a `pathlib.Path`; removed afterwards, whatever permissions are left in it."""

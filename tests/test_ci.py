@@ -4,7 +4,7 @@
 """
 import shutil
 
-from tests.support import Case, Has, ROOT, each_row, put, run, scratch
+from tests.support import Case, Has, ROOT, each_row, link_tools, put, run, scratch
 
 PACKAGES = "# a remark\nhere\nmissing # behind a package too\n\nlost\n"
 INSTALL = "install --no-install-recommends"
@@ -27,8 +27,7 @@ class Run(Case):
         test = '#!/bin/sh\necho "skips nothing: $LATEX2MATHML_SKIP_NOTHING"; exit ${STATUS:-0}\n'
         put(self.house, {".ci/packages": PACKAGES, "test": test})
         put(self.folder / "bin", {name: f"#!/bin/sh\n{text}\n" for name, text in STUBS.items()})
-        for name in ("sh", "dirname", "sed", "grep", "timeout", "date"):
-            (self.folder / "bin" / name).symlink_to(shutil.which(name))
+        link_tools(self.folder / "bin", "sh", "dirname", "sed", "grep", "timeout", "date")
 
     def run_ci(self, stdout, stderr=None, status=0, **environment):
         """What `.ci/run` calls apt-get for, where its status and its streams are these."""

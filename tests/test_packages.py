@@ -11,7 +11,7 @@ import pytest
 
 from tests.environments import interpreter, requires_python
 from tests.integration import tex
-from tests.support import ROOT, Case, Has, dist, newest_version, put, requires, run
+from tests.support import ROOT, Case, Has, dist, link_tools, newest_version, put, requires, run
 
 pytestmark = pytest.mark.long
 
@@ -163,11 +163,7 @@ class Packages(Case):
         """It has an addon that was built before."""
         package = self.folder / "node"
         shutil.copytree(self.dist / "integrations/node", package)
-        tools = package.parent / "bin"
-        tools.mkdir()
-        for name in ("sh", "dirname"):
-            (tools / name).symlink_to(shutil.which(name))
-        done = run([package / "make-addon"], env={"PATH": str(tools)})
+        done = run([package / "make-addon"], env={"PATH": str(link_tools(self.folder / "bin", "sh", "dirname"))})
         self.expect(done, 0, b"", b"make-addon: there is no cc, so the addon that came with the package is used\n")
         self.assertFalse((package / "build").exists())
         [formula] = tex("x_i^2")
