@@ -114,8 +114,8 @@ class Files(Site):
         self.put(*(f"{number}.html" for number in range(3)))
         reader, writer = pty.openpty()
         impatient = "from latex2mathml_proved.site import command; command.PATIENCE = command.PERIOD = 0; command.script()"
-        with subprocess.Popen([environment(), "-c", impatient, ".", "--jobs", "1"], cwd=self.folder, stdout=subprocess.DEVNULL,
-                              stderr=writer) as running:
+        words = [environment(), "-c", impatient, ".", "--jobs", "1"]
+        with subprocess.Popen(words, cwd=self.folder, stdout=subprocess.DEVNULL, stderr=writer) as running:
             os.close(writer)
             shown = read_terminal(reader)
         self.assertEqual(running.returncode, 0)
@@ -132,18 +132,16 @@ class Names(Site):
         self.holds(self.made, "a.html", "b.html")
 
     def test_names_that_are_no_text(self):
-        names = [b"\xff.html", b"a\nb.html", b"-x.html", "é ü.html".encode(), b"\x1b[31m.html", b"x" * 250 + b".html"]
-        folder = os.fsencode(self.folder)
-        for name in names:
-            with open(os.path.join(folder, name), "w") as file:
-                file.write("$x$ $\\foo$")
+        # each, and how it is reported
+        names = {b"\xff.html": b"\\xff.html", b"a\nb.html": b"a\\nb.html", b"\x1b[31m.html": b"\\x1b[31m.html",
+                 **{it: it for it in (b"-x.html", "é ü.html".encode(), b"x" * 250 + b".html")}}
+        self.put(*names, text="$x$ $\\foo$")
         done = self.run_site(".", says=summary(len(names), len(names), len(names), len(names)), stderr=None)
-        for name in (b"\\xff.html", b"a\\nb.html", b"-x.html", "é ü.html".encode(), b"\\x1b[31m.html", names[-1]):
-            self.assertIn(name + b":1:6: \\foo: unknown command \\foo\n", done.stderr)
-        self.assertEqual(sorted(os.listdir(folder)), sorted(names))
-        for name in names:
-            with open(os.path.join(folder, name)) as file:
-                self.assertTrue(file.read().startswith(tex("x")[0]))
+        for told in names.values():
+            self.assertIn(told + b":1:6: \\foo: unknown command \\foo\n", done.stderr)
+        self.assertEqual({os.fsencode(it.name) for it in self.folder.iterdir()}, set(names))
+        for file in self.folder.iterdir():
+            self.assertTrue(file.read_text().startswith(tex("x")[0]))
         self.run_site(".", says=summary(len(names), 0, 0, len(names)), stderr=None)
 
     def test_what_is_no_file(self):
@@ -155,18 +153,16 @@ class Names(Site):
 
 class Hostile(Site):
     def test_binary_files(self):
-        contents = {"a.html": bytes(range(256)) * 40, "b.html": b"\0" * 5000 + b"$x$", "c.html": random.Random(1).randbytes(100_000),
-                    "d.html": "$x$".encode("utf-16")}
-        for name, content in contents.items():
-            (self.folder / name).write_bytes(content)
+        binary = {"a.html": bytes(range(256)) * 40, "c.html": random.Random(1).randbytes(100_000), "d.html": "$x$".encode("utf-16")}
+        put(self.folder, {**binary, "b.html": b"\0" * 5000 + b"$x$"})
         done = self.run_site(".", stderr=None)
-        for name in ("a.html", "c.html", "d.html"):
+        for name, content in binary.items():
             self.assertIn(f"{name}: not UTF-8: left as it is\n".encode(), done.stderr)
-            self.assertEqual((self.folder / name).read_bytes(), contents[name])
-        self.assertEqual((self.folder / "b.html").read_bytes(), contents["b.html"].replace(b"$x$", tex("x")[0].encode()))
+            self.assertEqual((self.folder / name).read_bytes(), content)
+        self.assertEqual((self.folder / "b.html").read_bytes(), b"\0" * 5000 + tex("x")[0].encode())
 
     def test_50_megabytes(self):
-        part = "<p>a $x$ b &amp; <code>$x$</code> é</p>\n" + "<p>" + "prose and &lt; prose again " * 40 + "</p>\n"
+        part = f"<p>a $x$ b &amp; <code>$x$</code> é</p>\n<p>{'prose and &lt; prose again ' * 40}</p>\n"
         count = 50_000_000 // len(part)
         self.put("a.html", text=part * count)
         self.run_site(".", says=summary(1, 1, count), timeout=600)
@@ -189,8 +185,7 @@ class Hostile(Site):
         (self.folder / "e").chmod(0o000)
         other = as_nobody(self.folder)
         # a Python that everyone may run
-        package = environment().parent.parent / "lib"
-        [packages] = package.glob("python*/site-packages")
+        [packages] = environment().parent.parent.glob("lib/python*/site-packages")
         copy = self.enterContext(scratch())
         copy.chmod(0o755)
         shutil.copytree(packages / "latex2mathml_proved", copy / "latex2mathml_proved")
@@ -248,7 +243,7 @@ class Hostile(Site):
 
     def waiting(self):
         """How many new pages wait to be moved into place."""
-        return sum(1 for _ in self.folder.rglob(".latex2mathml-*"))
+        return len(list(self.folder.rglob(".latex2mathml-*")))
 
     def test_killed_at_30_moments(self):
         """Pages are whole, and the next run removes what was being written, and converts the rest."""
@@ -258,9 +253,8 @@ class Hostile(Site):
         for turn in range(30):
             self.put(*names, text=text)
             is_strict, moment = turn % 3 == 0, moments.randrange(len(names))
-            words = ["--jobs", "2"] + (["--strict"] if is_strict else [])
-            with subprocess.Popen(command(".", *words), cwd=self.folder, stdout=subprocess.DEVNULL, stderr=subprocess.DEVNULL,
-                                  start_new_session=True) as running:
+            words, quiet = command(".", "--jobs", "2", *["--strict"] * is_strict), {"stdout": subprocess.DEVNULL, "stderr": subprocess.DEVNULL}
+            with subprocess.Popen(words, cwd=self.folder, start_new_session=True, **quiet) as running:
                 self.wait_until(lambda: (self.waiting() if is_strict else self.changed(names, text)) >= moment, running)
                 time.sleep(moments.random() * 0.02)
                 running.kill()
@@ -330,5 +324,4 @@ class Hostile(Site):
             finally:
                 running.send_signal(signal.SIGINT)
                 said = running.communicate(timeout=300)[1]
-        self.assertEqual(running.returncode, 130)
-        self.assertEqual(said, b"latex2mathml-site: interrupted\n")
+        self.assertEqual((running.returncode, said), (130, b"latex2mathml-site: interrupted\n"))
