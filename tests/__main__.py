@@ -168,11 +168,9 @@ def try_cases(words):
 def name_of(word):
     """The name that pytest has for a module, a class or a case, which may also be spelled as Python does, or for a file of cases
     or a line of one, as `cases/refusals.txt:12`."""
-    if word.startswith("-"):
-        return word
     if word.startswith("cases/"):
         word = cases.test_name(word)
-    if "/" in word or "::" in word:
+    if word.startswith("-") or "/" in word or "::" in word:
         return word
     module, *rest = word.removesuffix(".py").removeprefix("tests.").split(".")
     return "::".join([f"tests/{module}.py", *rest])

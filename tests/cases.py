@@ -97,7 +97,6 @@ class Command:
 
     @property
     def formula(self):
-        """The command alone, as bytes."""
         return f"\\{self.name}".encode()
 
 
@@ -173,10 +172,9 @@ def read(name, counts=(2,)):
         if len(lines) not in counts:
             due = " or ".join(map(str, counts))
             raise WrongCase(f"{lines[0].place}: a case has {due} lines, and a blank line after it; this has {len(lines)}")
-        case = Case(heading, lines)
-        before = inputs.setdefault(case.first.text, case)
-        if before is not case:
-            raise WrongCase(f"{case.place}: the input stands in line {before.first.number} as well")
+        before = inputs.setdefault(lines[0].text, Case(heading, lines))
+        if before.lines is not lines:
+            raise WrongCase(f"{lines[0].place}: the input stands in line {before.first.number} as well")
     return list(inputs.values())
 
 
@@ -233,10 +231,8 @@ def runs():
     for word in ("inline", "block", "document"):
         for case in read(f"program/{word}.txt"):
             answer = case.document_answer
-            if answer.startswith(ERROR):
-                due = (1, b"", answer + b"\n")
-            else:
-                due = (0, answer if word == "document" else answer + b"\n", b"")
+            line = answer if word == "document" else answer + b"\n"
+            due = (1, b"", answer + b"\n") if answer.startswith(ERROR) else (0, line, b"")
             rows[f"{word} {case.first.number}"] = (word, case.input, *due)
     return rows
 
@@ -272,15 +268,14 @@ def test_name(word):
     tests = reader_of(name) or f"test_cases.{class_name(name)}"
     if not line:
         return f"tests.{tests}"
-    found = {str(number): key for number, key in tests_of_lines(name)}
-    if line not in found:
-        raise WrongCase(f"{word}: no case has this line")
-    return f"tests.{tests}.{case_name(found[line])}"
+    for number, key in tests_of_lines(name):
+        if line == str(number):
+            return f"tests.{tests}.{case_name(key)}"
+    raise WrongCase(f"{word}: no case has this line")
 
 
 def tests_of_lines(name):
-    """The number of each line of a file, and the key of the test that has it: the line in which its case begins, its heading, or the
-    name of a row."""
+    """The number of each line of a file, and the key of the test that has it: where its case begins, its heading, or the name of a row."""
     if name in TABLES:
         yield from ((line.number, str(line.number) if name == "commands.txt" else key) for line, key, *_ in rows(name))
     elif reader_of(name) and not name.startswith("program/"):

@@ -240,22 +240,18 @@ class Case(unittest.TestCase):
         """A folder that lasts as long as the case."""
         return self.enterContext(scratch())
 
-    def wait_for(self, is_so):
-        for _ in range(600):
-            if is_so():
-                return
-            time.sleep(0.05)
-        self.fail("it did not come to that within half a minute")
+    def wait_for(self, is_so, seconds=30, pause=0.05):
+        end = time.monotonic() + seconds
+        while not is_so():
+            self.assertLess(time.monotonic(), end, f"it did not come to that within {seconds} seconds")
+            time.sleep(pause)
 
     def expect(self, done, status=0, stdout=None, stderr=b""):
         """Checks the status and the streams of a finished command. A stream that is None may contain anything."""
-        if done.returncode == status and stdout in (None, done.stdout) and stderr in (None, done.stderr):
-            return
-        lines = [f"ran: {' '.join(map(show, done.args))}"]
-        for name, wanted, came in (("status", status, done.returncode), ("stdout", stdout, done.stdout), ("stderr", stderr, done.stderr)):
-            if wanted is not None and wanted != came:
-                lines += [f"{name} wanted: {show(wanted)}", f"{name} came:   {show(came)}"]
-        self.fail("\n".join(lines))
+        due = (("status", status, done.returncode), ("stdout", stdout, done.stdout), ("stderr", stderr, done.stderr))
+        if differs := [it for it in due if it[1] not in (None, it[2])]:
+            lines = [f"{name} wanted: {show(wanted)}\n{name} came:   {show(came)}" for name, wanted, came in differs]
+            self.fail("\n".join([f"ran: {' '.join(map(show, done.args))}", *lines]))
 
 
 def show(value):

@@ -18,9 +18,7 @@ FOLDER = ROOT / "integrations/pandoc"
 COUNTER = '#!/bin/sh\necho "$@" >>"$0.count"\nexec {program} "$@"\n'
 
 UNCLOSED = "{ is not closed at 0"
-
-# What pandoc's status says if a filter ends the run.
-FILTER_ENDED = 83
+FILTER_ENDED = 83  # pandoc's status if a filter ends the run
 
 
 def refused(latex, reason):
@@ -63,9 +61,8 @@ class Pandoc(Runs):
 
     def places(self, formulas, display="InlineMath", stderr=b"", **options):
         """The output for formulas that are given without any syntax of pandoc."""
-        blocks = [{"t": "Plain", "c": [{"t": "Math", "c": [{"t": display}, latex]}]} for latex in formulas]
-        # a rule between each two
-        blocks = [block for pair in zip(blocks, [{"t": "HorizontalRule"}] * len(blocks)) for block in pair]
+        # a rule behind each
+        blocks = [it for latex in formulas for it in ({"t": "Plain", "c": [{"t": "Math", "c": [{"t": display}, latex]}]}, {"t": "HorizontalRule"})]
         return self.page(json_of(blocks, **options), "-f", "json", "-t", "html", stderr=stderr).split("\n<hr />\n")[:-1]
 
     def ends(self, source, fault, *words, **more):

@@ -8,21 +8,13 @@ import shutil
 from tests.environments import interpreter, requires_python
 from tests.integration import answer_of, tex_answer_of
 from tests.pages import code_blocks
-from tests.support import Case, dist, put, requires, run, scratch
+from tests.support import ROOT, Case, dist, put, requires, run, scratch
 
 PACKAGES = pathlib.Path("/usr/share/nodejs")  # Debian's
 
 # Replaces the toolchain, at the front of the path.
 TOOLCHAIN = '#!/bin/sh\necho "$0 is called" >&2\nexit 127\n'
 
-# A program with the lines of the README for Rust. It shows the last of its markups, and other results of these lines.
-MAIN = """#![allow(unused_variables)]
-fn main() -> Result<(), Box<dyn std::error::Error>> {{
-{lines}
-    println!("{{}}\\n{{}}\\n{{}}", document, markup, refusal);
-    Ok(())
-}}
-"""
 MEMBER = "x_i^2 \\in \\mathbb{R}"  # the formula of their examples, without macros
 
 MANIFEST = '[package]\nname = "site"\nversion = "0.1.0"\nedition = "2021"\n\n'
@@ -241,7 +233,7 @@ class OfTheCrateForRust(Readme):
         [patch] = re.findall(r"^    (\[patch\..*)$", readme, re.MULTILINE)
         [lines] = code_blocks(readme, "rust")
         printed = f"Let {answer_of('x<y')} be.\n{tex_answer_of(MEMBER)}\n" 'marked as an error: Undefined("Command(\\"le\\")")\n'
-        put(self.project, {"src/main.rs": MAIN.format(lines=lines)})
+        put(self.project, {"src/main.rs": (ROOT / "tests/rust/readme.rs").read_text().replace("LINES", lines)})
         for manifest in (f"[dependencies]\n{dependency}\n", f'[dependencies]\nlatex2mathml = "0.2"\n\n{patch}\n{replacement}\n'):
             with self.subTest(manifest):
                 (self.project / "Cargo.toml").write_text(MANIFEST + manifest)

@@ -98,7 +98,7 @@ class WrittenAnew(Case):
     def test_a_page_that_its_builder_writes_meanwhile(self):
         for words, more in (((), b""), (("--strict",), b"latex2mathml-site: nothing was changed\n")):
             with self.subTest(words), scratch() as folder:
-                (folder / "a.html").write_text("$x$")
+                put(folder, {"a.html": "$x$"})
                 keep_caches_here()
                 done = run_python(environment(), "-c", WRITTEN_ANEW, ".", *words, cwd=folder)
                 self.expect(done, 1, None, b"a.html: changed while it was converted: left as it is\n" + more)

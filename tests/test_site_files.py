@@ -232,10 +232,7 @@ class Hostile(Site):
 
     def wait_until(self, condition, running):
         """Waits until something is so, or a process has ended."""
-        end = time.monotonic() + 300
-        while not condition() and running.poll() is None:
-            self.assertLess(time.monotonic(), end)
-            time.sleep(0.002)
+        self.wait_for(lambda: condition() or running.poll() is not None, seconds=300, pause=0.002)
 
     def changed(self, names, text):
         """How many pages are not what they were."""

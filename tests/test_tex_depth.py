@@ -11,8 +11,7 @@ from tests.texts import math
 
 pytestmark = [pytest.mark.long, pytest.mark.timeout(1800)]
 
-# 8 bytes of stack for each
-LEVELS = 1_000_000
+LEVELS = 1_000_000  # 8 bytes of stack for each
 LIMIT = support.limit(STACK=8 << 20)
 MEGABYTE = 1_000_000
 

@@ -101,12 +101,10 @@ class Definitions(Case):
 
     def test_input_is_left_alone(self):
         """If there are no macros, nothing of the input is read."""
-        for definitions in (b"x", b"\xff", None):
-            with self.subTest(definitions), faulty.open_input(b"x") as given:
-                self.file.unlink(missing_ok=True)
-                if definitions is not None:
-                    self.file.write_bytes(definitions)
-                self.assertEqual(ask("--definitions", self.file, stdin=given).returncode, 1)
+        put(self.folder, {"letter.tex": b"x", "no text.tex": b"\xff"})
+        for name in ("letter.tex", "no text.tex", "none.tex"):
+            with self.subTest(name), faulty.open_input(b"x") as given:
+                self.assertEqual(ask("--definitions", self.folder / name, stdin=given).returncode, 1)
                 self.assertEqual(given.read(), b"x")
 
     def test_pipes(self):
@@ -130,8 +128,7 @@ class Calls(faulty.OneByteAtATime):
 
     def test_each_read_of_definitions_fails(self):
         """The file is read to its end before the input is."""
-        definitions, given = b"\\def\\a{x}", b"\\a"
-        file = self.folder / "a.tex"
+        definitions, given, file = b"\\def\\a{x}", b"\\a", self.folder / "a.tex"
         file.write_bytes(definitions)
         words = [tex_program(), "--definitions", file]
         in_file, in_input = (f"tex2mathml: {named}{UNREAD}\n".encode() for named in (f"{file}: ", ""))
@@ -140,13 +137,13 @@ class Calls(faulty.OneByteAtATime):
                 1, b"", in_file if call <= len(definitions) + 1 else in_input))
 
     def test_definitions_that_cannot_be_opened(self):
-        file = self.folder / "a.tex"
-        file.write_bytes(b"")
+        put(self.folder, {"a.tex": ""})
         for number in (13, 24):
             with self.subTest(number):
-                done, failed = faulty.run_with([tex_program(), "--definitions", file], fault=faulty.Fault("open", 1, 1, number))
+                fault = faulty.Fault("open", 1, 1, number)
+                done, failed = faulty.run_with([tex_program(), "--definitions", "a.tex"], fault=fault, cwd=self.folder)
                 self.assertTrue(failed)
-                self.expect(done, 1, b"", f"tex2mathml: {file}: The input could not be read.\n".encode())
+                self.expect(done, 1, b"", b"tex2mathml: a.tex: The input could not be read.\n")
 
     def test_definitions_are_closed(self):
         file = self.folder / "a.tex"
