@@ -249,7 +249,8 @@ class Case(unittest.TestCase):
     def expect(self, done, status=0, stdout=None, stderr=b""):
         """Checks the status and the streams of a finished command. A stream that is None may contain anything."""
         due = (("status", status, done.returncode), ("stdout", stdout, done.stdout), ("stderr", stderr, done.stderr))
-        if differs := [it for it in due if it[1] not in (None, it[2])]:
+        differs = [it for it in due if it[1] != it[2] and (it[1] is not None or it[0] == "status")]
+        if differs:
             lines = [f"{name} wanted: {show(wanted)}\n{name} came:   {show(came)}" for name, wanted, came in differs]
             self.fail("\n".join([f"ran: {' '.join(map(show, done.args))}", *lines]))
 

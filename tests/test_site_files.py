@@ -250,7 +250,8 @@ class Hostile(Site):
         for turn in range(30):
             self.put(*names, text=text)
             is_strict, moment = turn % 3 == 0, moments.randrange(len(names))
-            words, quiet = command(".", "--jobs", "2", *["--strict"] * is_strict), {"stdout": subprocess.DEVNULL, "stderr": subprocess.DEVNULL}
+            words = command(".", "--jobs", "2", *(["--strict"] if is_strict else []))
+            quiet = {"stdout": subprocess.DEVNULL, "stderr": subprocess.DEVNULL}
             with subprocess.Popen(words, cwd=self.folder, start_new_session=True, **quiet) as running:
                 self.wait_until(lambda: (self.waiting() if is_strict else self.changed(names, text)) >= moment, running)
                 time.sleep(moments.random() * 0.02)
