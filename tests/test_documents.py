@@ -6,7 +6,7 @@ import shutil
 from tests.integration import answer_of
 from tests.pages import CODE, column, read, rows, section, tables
 from tests.support import ROOT, Case, Has, each_row, program, put, requires, run, tex_program
-from tests.texts import USAGE
+from tests.texts import USAGE, math
 from tools import quotes, specs, token_commands
 
 # the most words that a sentence may have
@@ -186,7 +186,7 @@ class Readme(Case):
     def test_the_file_of_definitions_that_is_shown_is_read(self):
         shown = re.search(r"^    % macros\.tex\n((?:    .*\n)+)", read("docs/TEX.md"), re.M)[0]
         put(self.folder, {"macros.tex": shown})
-        self.expect(self.run_shown("printf '\\\\R' | ./tex2mathml --definitions macros.tex"), stdout=Has("<mi>ℝ</mi>".encode()))
+        self.expect(self.run_shown("printf '\\\\R' | ./tex2mathml --definitions macros.tex"), stdout=math("<mi>ℝ</mi>") + b"\n")
 
     def test_its_words_are_all_that_there_are(self):
         words = re.findall(r"^\| `latex2mathml (\w+)(?: PATH)?` \|", self.text, re.M)
