@@ -41,6 +41,9 @@ class Packages(Case):
         self.expect(run(["dpkg-deb", "--extract", self.package, self.folder / "root"]))
         return self.folder / "root"
 
+    def test_it_is_made(self):
+        self.assertTrue(self.package.exists())
+
     @requires("lintian")
     def test_lintian(self):
         done = run(["lintian", "--allow-root", "--fail-on", "error", self.package], timeout=600)
