@@ -49,10 +49,8 @@ class Total:
         return not failed
 
     def say(self):
-        for line in self.lines:
+        for line in (*self.lines, f"all: {self.watch}", f"{self.passed} passed, {self.failed} failed"):
             self.screen.say(line)
-        self.screen.say(f"all: {self.watch}")
-        self.screen.say(f"{self.passed} passed, {self.failed} failed")
 
 
 def spent():
@@ -78,17 +76,9 @@ def look_at_layout(screen):
     return int(not failed), failed
 
 
-def checks_at_once():
-    """How many checks `rt ci` is to run at once, each with one process. By itself it gives a check all processors that are idle. But each
-    process reads all libraries below the crate, so the gate then takes more processor time.
-    """
-    return max(min(processors(), free_memory() // MEMORY), 1)
-
-
 def prove(screen, begun):
     """Runs `rt ci` here. Each line that reports its progress stays, and everything that it prints is kept in a file."""
-    watch, log = Stopwatch(), OUT / "rt-ci.log"
-    last = None
+    watch, log, last = Stopwatch(), OUT / "rt-ci.log", None
     screen.say(f"    all that it prints is kept in {log}")
 
     def read(line):
@@ -97,7 +87,10 @@ def prove(screen, begun):
         if line.startswith("rt: ") or last:
             screen.say(f"    {line.removeprefix('rt: ')}")
 
-    how = {"cwd": ROOT, "env": {"RT_JOBS": str(checks_at_once()), **os.environ}}
+    # How many checks it is to run at once, each with one process. By itself it gives a check all processors that are idle. But each
+    # process reads all libraries below the crate, so the gate then takes more processor time.
+    at_once = max(min(processors(), free_memory() // MEMORY), 1)
+    how = {"cwd": ROOT, "env": {"RT_JOBS": str(at_once), **os.environ}}
     status = follow(["rt", "ci"], log, on_line=read, on_second=lambda: screen.renew(f"    {watch}"), **how)
     passed, failed = (int(last[1]), int(last[2])) if last else (0, 0)
     if status or failed or not last:
@@ -113,9 +106,8 @@ def prove(screen, begun):
 def build_c_library(screen, begun):
     """Builds the static library over the libraries that `rt ci` proved and left in `out/rlib`. `rt ci` keeps nothing of a static
     library, and `rt lib` would prove the libraries below it again."""
-    archive = ROOT / f"crates/{C_LIBRARY}/out/lib{C_LIBRARY}.a"
+    archive, log = ROOT / f"crates/{C_LIBRARY}/out/lib{C_LIBRARY}.a", OUT / "library-for-c.log"
     archive.parent.mkdir(exist_ok=True)
-    log = OUT / "library-for-c.log"
     if follow(rattle_words(archive), log, cwd=ROOT / "crates" / C_LIBRARY):
         screen.say(end_of(log))
         return 0, 1
@@ -161,7 +153,8 @@ def try_cases(words):
             at_once = 1 if any("::" in word for word in words) else processors()
             status = run_to_its_end([sys.executable, "-B", "-m", "pytest", "-n", str(at_once), *words])
             found = json.loads(counts.read_text()) if counts.exists() else {}
-        without = [] if words else modules_without(found.get("modules", []))
+        modules = {f"tests/{it.name}" for it in (ROOT / "tests").glob("test_*.py")}
+        without = [] if words else sorted(modules.difference(found.get("modules", [])))
         for module in without:
             screen.say(f"    FAILED: no case of {module} was tried")
         passed, failed, skipped = (found.get(name, 0) for name in ("passed", "failed", "skipped"))
@@ -172,18 +165,12 @@ def try_cases(words):
     return run
 
 
-def modules_without(tried):
-    return sorted({f"tests/{it.name}" for it in (ROOT / "tests").glob("test_*.py")}.difference(tried))
-
-
 def name_of(word):
     """The name that pytest has for a module, a class or a case, which may also be spelled as Python does, or for a file of cases
     or a line of one, as `cases/refusals.txt:12`."""
-    if word.startswith("-"):
-        return word
     if word.startswith("cases/"):
         word = cases.test_name(word)
-    if "/" in word or "::" in word:
+    if word.startswith("-") or "/" in word or "::" in word:
         return word
     module, *rest = word.removesuffix(".py").removeprefix("tests.").split(".")
     return "::".join([f"tests/{module}.py", *rest])
@@ -204,13 +191,12 @@ def main(words):
         if proves:
             begun = time.time()
             steps = {"layout": look_at_layout, "rt ci": lambda it: prove(it, begun), "the library for C": lambda it: build_c_library(it, begun)}
-            is_well = all(total.do(*step) for step in steps.items())
-            if is_well and not words:
+            if not all(total.do(*step) for step in steps.items()):
+                screen.say("    nothing else is tried")
+            elif not words:
                 # from here on, the tests use only what was proved and built
                 os.environ[BUILD_NOTHING] = "1"
                 total.do("pytest", try_cases([]))
-            elif not is_well:
-                screen.say("    nothing else is tried")
         else:
             total.do("pytest", try_cases([name_of(word) for word in words]))
     total.say()

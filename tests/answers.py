@@ -80,13 +80,10 @@ def difference(wanted, came):
     if len(wanted) + len(came) > 10 * SHOWN:
         start = max(len(os.path.commonprefix([wanted, came])) - 40, 0)
         return f"from byte {start} on\n- {wanted[start:start + SHOWN]}\n+ {came[start:start + SHOWN]}"
-    lines = difflib.unified_diff(pieces(wanted), pieces(came), "wanted", "came", n=2, lineterm="")
-    return "\n".join(lines)
+    return "\n".join(difflib.unified_diff(pieces(wanted), pieces(came), "wanted", "came", n=2, lineterm=""))
 
 
 class AnswerCase(Case):
-    """A case: an input and the expected result."""
-
     def comes_to(self, place, word, given, code, wanted):
         """Checks that the result for the input is this, with the program's word, in each way."""
         for name, way in WAYS:

@@ -12,48 +12,16 @@ from tests.texts import ERROR, math
 
 CASES = ROOT / "cases"
 
-ESCAPE = re.compile(r'\[(?:U\+(?P<code>[0-9A-F]{4,6})|byte (?P<byte>[0-9A-F]{2})|(?P<feed>LF)|(?P<empty>empty)'
-                    r'|(?P<count>\d+|N) times "(?P<text>.*?)")\]')
+ESCAPE = re.compile(rb'\[(?:U\+(?P<code>[0-9A-F]{4,6})|byte (?P<byte>[0-9A-F]{2})|(?P<feed>LF)|(?P<empty>empty)'
+                    rb'|(?P<count>\d+|N) times "(?P<text>.*?)")\]')
 PLACE = "[place]"
 COLUMNS = re.compile(r" {2,}")
 
 # The files that are tables, and how many columns each has.
-TABLES = {"commands.txt": 3, "growth.txt": 4, "one_at_a_time.txt": 3, "requests.txt": 4, "requests_for_each.txt": 4}
+TABLES = {"commands.txt": 3, "growth.txt": 4, "one_at_a_time.txt": 3, "requests.txt": 4, "requests_for_each.txt": 4, "site_slow.txt": 2}
 
-# The files that other modules read: the class of tests, which has a test for each heading, or for each line of a table.
-ELSEWHERE = {
-    "calls.txt": "test_memory.Library",
-    "commands.txt": "test_commands.Entries",
-    "growth.txt": "test_growth.Instructions",
-    "macros.txt": "test_python_package.Macros",
-    "markdown.txt": "test_markdown.Formulas",
-    "markdown_slow.txt": "test_markdown.Formulas",
-    "nested.txt": "test_depth.Printed",
-    **{f"program/{word}.txt": "test_program.Answers" for word in ("block", "document", "inline")},
-    "one_at_a_time.txt": "test_growth.Memory",
-    "python.txt": "test_python_package.Calls",
-    "requests.txt": "test_growth.Requests",
-    "requests_for_each.txt": "test_growth.Requests",
-    "runs/c.txt": "test_c.Examples",
-    "runs/dist.txt": "test_dist.Dist",
-    "runs/latex2mathml.txt": "test_program.Folders",
-    "runs/markdown.txt": "test_markdown.Pages",
-    "runs/mkdocs.txt": "test_mkdocs.Sites",
-    "runs/pandoc.txt": "test_pandoc.Pages",
-    "runs/python.txt": "test_python_package.Wheel",
-    "runs/site.txt": "test_site.Sites",
-    "runs/sphinx.txt": "test_sphinx.Pages",
-    "runs/tex_deep.txt": "test_tex_depth.Wide",
-    "runs/tex2mathml.txt": "test_tex_program.Answers",
-    "site/elements.txt": "test_site.Elements",
-    "site/formulas.txt": "test_site.Formulas",
-    "site_scripts.txt": "test_site.Sites",
-    "sphinx_rows.txt": "test_sphinx.Markup",
-    "tex_definition_refusals.txt": "test_tex_program.Definitions",
-    "tex_growth.txt": "test_tex_growth.Instructions",
-    "tex_limits.txt": "test_tex_limits.Limits",
-    "tex_nested.txt": "test_tex_depth.Deep",
-}
+# What a file says that another module reads: the class of tests, which has a test for each heading, or for each line of a table.
+READER = re.compile(r"^#.* Tried by `(test_\w+\.\w+)`\.$", re.M)
 
 TAGS = {f"<{display}>".encode(): math("", display).removesuffix(b"</math>") for display in ("inline", "block")}
 
@@ -129,7 +97,6 @@ class Command:
 
     @property
     def formula(self):
-        """The command alone, as bytes."""
         return f"\\{self.name}".encode()
 
 
@@ -141,23 +108,16 @@ def expand(text, n=None):
     >>> expand('[empty]')
     b''
     """
-    parts, done = [], 0
-    for escape in ESCAPE.finditer(text):
-        parts += [text[done:escape.start()].encode(), bytes_of(escape, n)]
-        done = escape.end()
-    return b"".join(parts) + text[done:].encode()
+    return ESCAPE.sub(lambda escape: bytes_of(escape, n), text.encode())
 
 
 def bytes_of(escape, n):
-    if escape["code"]:
-        return chr(int(escape["code"], 16)).encode()
-    if escape["byte"]:
-        return bytes.fromhex(escape["byte"])
-    if escape["feed"]:
-        return b"\n"
-    if escape["empty"]:
-        return b""
-    return (n if escape["count"] == "N" else int(escape["count"])) * expand(escape["text"])
+    if escape["code"] or escape["byte"]:
+        number = int(escape["code"] or escape["byte"], 16)
+        return chr(number).encode() if escape["code"] else bytes([number])
+    if escape["feed"] or escape["empty"]:
+        return b"\n" if escape["feed"] else b""
+    return (n if escape["count"] == b"N" else int(escape["count"])) * expand(escape["text"].decode())
 
 
 def with_tags(text):
@@ -212,10 +172,9 @@ def read(name, counts=(2,)):
         if len(lines) not in counts:
             due = " or ".join(map(str, counts))
             raise WrongCase(f"{lines[0].place}: a case has {due} lines, and a blank line after it; this has {len(lines)}")
-        case = Case(heading, lines)
-        before = inputs.setdefault(case.first.text, case)
-        if before is not case:
-            raise WrongCase(f"{case.place}: the input stands in line {before.first.number} as well")
+        before = inputs.setdefault(lines[0].text, Case(heading, lines))
+        if before.lines is not lines:
+            raise WrongCase(f"{lines[0].place}: the input stands in line {before.first.number} as well")
     return list(inputs.values())
 
 
@@ -223,20 +182,22 @@ def key_of(heading):
     return heading[:1].lower() + heading[1:]
 
 
-def by_heading(name):
-    """The cases of a file as rows for `each_row`: for each heading a list of its cases."""
+def grouped(pairs):
+    """Headings, each with a case, as rows for `each_row`: for each heading its cases."""
     rows = collections.defaultdict(list)
-    for case in read(name, (1, 2) if name.startswith("site/") else (2,)):
-        rows[key_of(case.heading)].append(case)
-    return {heading: (cases,) for heading, cases in rows.items()}
+    for heading, case in pairs:
+        rows[key_of(heading)].append(case)
+    return rows
+
+
+def by_heading(name):
+    """The cases of a file as such rows."""
+    return grouped((case.heading, case) for case in read(name, (1, 2) if name.startswith("site/") else (2,)))
 
 
 def rows_of_lines(name):
-    """The cases of a file under each heading, as lines."""
-    found = collections.defaultdict(list)
-    for heading, lines in blocks(name):
-        found[key_of(heading)].append(lines)
-    return found
+    """The same of a file whose cases have other numbers of lines: the lines of each."""
+    return grouped(blocks(name))
 
 
 def listed(path):
@@ -270,10 +231,8 @@ def runs():
     for word in ("inline", "block", "document"):
         for case in read(f"program/{word}.txt"):
             answer = case.document_answer
-            if answer.startswith(ERROR):
-                due = (1, b"", answer + b"\n")
-            else:
-                due = (0, answer if word == "document" else answer + b"\n", b"")
+            line = answer if word == "document" else answer + b"\n"
+            due = (1, b"", answer + b"\n") if answer.startswith(ERROR) else (0, line, b"")
             rows[f"{word} {case.first.number}"] = (word, case.input, *due)
     return rows
 
@@ -281,6 +240,12 @@ def runs():
 def every_rule():
     """Each rule of the grammar once: pairs of a formula and the contents of its `math` element, as text."""
     return [(case.input.decode(), case.answer.decode()) for case in read("formulas/every_rule.txt")]
+
+
+def reader_of(name):
+    """The class of tests that a file names, or None if it is one of those of `test_cases`."""
+    named = READER.search((CASES / name).read_text(encoding="utf-8"))
+    return named and named[1]
 
 
 def test_name(word):
@@ -300,28 +265,24 @@ def test_name(word):
     name, _, line = word.removeprefix("cases/").partition(":")
     if name not in files("**/*.txt"):
         raise WrongCase(f"{word}: cases/ has no such file")
-    tests = ELSEWHERE.get(name, f"test_cases.{class_name(name)}")
+    tests = reader_of(name) or f"test_cases.{class_name(name)}"
     if not line:
         return f"tests.{tests}"
-    found = {str(number): key for number, key in tests_of_lines(name)}
-    if line not in found:
-        raise WrongCase(f"{word}: no case has this line")
-    return f"tests.{tests}.{case_name(found[line])}"
+    for number, key in tests_of_lines(name):
+        if line == str(number):
+            return f"tests.{tests}.{case_name(key)}"
+    raise WrongCase(f"{word}: no case has this line")
 
 
 def tests_of_lines(name):
-    """The number of each line of a file, and the key of the test that has it: the line in which its case begins, its heading, or the
-    name of a row."""
-    if name == "commands.txt":
-        yield from ((entry.line.number, str(entry.line.number)) for entry in commands())
-    elif name.startswith("program/"):
-        yield from ((line.number, f"{case.heading} {case.first.number}".lower()) for case in read(name) for line in case.lines)
-    elif name in TABLES:
-        yield from ((line.number, key) for line, key, *_ in rows(name))
-    elif name in ELSEWHERE:
+    """The number of each line of a file, and the key of the test that has it: where its case begins, its heading, or the name of a row."""
+    if name in TABLES:
+        yield from ((line.number, str(line.number) if name == "commands.txt" else key) for line, key, *_ in rows(name))
+    elif reader_of(name) and not name.startswith("program/"):
         yield from ((line.number, key_of(heading)) for heading, lines in blocks(name) for line in lines)
     else:
-        yield from ((line.number, str(case.first.number)) for case in read(name) for line in case.lines)
+        before = f"{pathlib.Path(name).stem} " if reader_of(name) else ""
+        yield from ((line.number, f"{before}{case.first.number}") for case in read(name) for line in case.lines)
 
 
 def class_name(name):

@@ -54,10 +54,9 @@ def environment(*modules):
     with once(name):
         if not (folder / "whole").exists():
             see_system = ["--system-site-packages"] if modules else []
-            python = interpreter("ensurepip", *modules)
-            subprocess.run([python, "-m", "venv", *see_system, folder], stdin=subprocess.DEVNULL, check=True, timeout=300)
-            subprocess.run([folder / "bin/pip", "--quiet", "--disable-pip-version-check", "install", "--no-index", package],
-                           stdin=subprocess.DEVNULL, check=True, timeout=300)
+            for words in ([interpreter("ensurepip", *modules), "-m", "venv", *see_system, folder],
+                          [folder / "bin/pip", "--quiet", "--disable-pip-version-check", "install", "--no-index", package]):
+                subprocess.run(words, stdin=subprocess.DEVNULL, check=True, timeout=300)
             (folder / "whole").touch()
     return folder / "bin/python"
 

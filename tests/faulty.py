@@ -2,7 +2,6 @@
 import dataclasses
 import functools
 import os
-import pathlib
 import shutil
 
 from tests import support
@@ -23,9 +22,7 @@ def public_folder():
 def library(name):
     """The path of `tests/NAME.c` as a library, which is built once per process."""
     built = public_folder() / f"{name}.so"
-    done = support.run(["cc", "-O2", "-Wall", "-shared", "-fPIC", "-o", built, support.ROOT / f"tests/{name}.c", "-ldl"])
-    if done.returncode:
-        raise RuntimeError(done.stderr.decode(errors="replace"))
+    support.run(["cc", "-O2", "-Wall", "-shared", "-fPIC", "-o", built, support.ROOT / f"tests/{name}.c", "-ldl"], stderr=None, check=True)
     return built
 
 
@@ -40,17 +37,17 @@ def preload(*names):
 @functools.cache
 def program():
     """The path of a copy of the program that another user may run."""
-    copy = pathlib.Path(shutil.copy(support.program(), public_folder() / "latex2mathml"))
+    copy = shutil.copy(support.program(), public_folder() / "latex2mathml")
     copy.chmod(0o755)
     return copy
 
 
 def open_input(given):
     """A file with these bytes, whose position moves as a program reads it."""
-    file = os.memfd_create("input")
-    os.write(file, given)
-    os.lseek(file, 0, os.SEEK_SET)
-    return open(file, "rb", buffering=0)
+    file = open(os.memfd_create("input"), "r+b", buffering=0)
+    file.write(given)
+    file.seek(0)
+    return file
 
 
 @dataclasses.dataclass(frozen=True)

@@ -40,5 +40,4 @@ def command(*words):
 
 
 def site(*words, cwd, **more):
-    """Runs the command in a folder."""
     return run_python(*command(*words), cwd=cwd, **{"timeout": 300, **more})

@@ -14,6 +14,11 @@ def section(text, heading):
     return text.partition(f"\n## {heading}\n")[2].partition("\n## ")[0]
 
 
+def code_blocks(text, language):
+    """The blocks of code in a language."""
+    return re.findall(rf"^```{language}\n(.*?)^```$", text, re.DOTALL | re.MULTILINE)
+
+
 def tables(text):
     """The tables of a text: for each the cells of its head, and those of its other rows."""
     for found in re.findall(r"(?:^\|.*\n?)+", text, re.M):

@@ -1,27 +1,27 @@
 """Runs of the programs, and of the tools that use them: `cases/README.md` says how the files of `cases/runs` are written."""
-import collections
 import dataclasses
 import functools
 import itertools
 import os
 import re
 import shlex
+import shutil
 
-from tests.cases import Line, WrongCase, blocks, key_of
+from tests.cases import Line, WrongCase, blocks, grouped
 from tests.environments import environment, run_python
 from tests.integration import site, tex_answer_of
-from tests.support import ROOT, Case, put, run, scratch, show, tex_program
+from tests.support import ROOT, Case, each_row, put, run, scratch, show, tex_program
 from tests.texts import math
 
 FORMULA = re.compile(r"<(inline|block)>(.*?)</\1>", re.DOTALL)
 
 # What a line does, or of what it says something: a stream, the status, all files, those that the run kept, or one of them.
-LINE = re.compile(r"(?P<action>file|folder|link|in|run)(?: (?P<name>.+?))?(?::(?: |$)|$)|(?P<of>.+?)(?P<verb> has| counts| asks as|):(?: |$)")
+LINE = re.compile(r"(?P<action>file|copy|folder|link|in|run)(?: (?P<name>.+?))?(?::(?: |$)|$)|(?P<of>.+?)(?P<verb> has| counts| asks as|):(?: |$)")
 
 
-def pandoc(words, **more):
+def pandoc(words, converter=None, **more):
     """With the filter, and without wrapping lines, so that texts are found in the output."""
-    filtered = ["--lua-filter", ROOT / "integrations/pandoc/latex2mathml.lua", "-M", f"latex2mathml-program={tex_program()}"]
+    filtered = ["--lua-filter", ROOT / "integrations/pandoc/latex2mathml.lua", "-M", f"latex2mathml-program={converter or tex_program()}"]
     return run(["pandoc", *filtered, "--wrap=preserve", *words], **more)
 
 
@@ -67,6 +67,11 @@ def markup(display, given):
     return converted
 
 
+def with_markup(text):
+    """A text with the element in place of each formula between `<inline>` or `<block>`."""
+    return FORMULA.sub(lambda it: markup(*it.groups()), text)
+
+
 @dataclasses.dataclass
 class Step:
     """A line of a case, with the texts of those that continue it."""
@@ -97,14 +102,12 @@ def steps_of(lines):
 
 
 def runs_of(name):
-    """The cases of a file as rows for `each_row`: for each heading a list of its cases."""
-    rows = collections.defaultdict(list)
-    for heading, lines in blocks(f"runs/{name}"):
-        steps = steps_of(lines)
+    """The cases of a file as rows for `each_row`: for each heading its cases."""
+    cases = [(heading, steps_of(lines)) for heading, lines in blocks(f"runs/{name}")]
+    for _, steps in cases:
         if all(step.form["action"] != "run" for step in steps):
-            raise WrongCase(f"{lines[0].place}: a case runs something")
-        rows[key_of(heading)].append(steps)
-    return {heading: (cases,) for heading, cases in rows.items()}
+            raise WrongCase(f"{steps[0].line.place}: a case runs something")
+    return grouped(cases)
 
 
 def files_of(folder):
@@ -114,12 +117,17 @@ def files_of(folder):
 
 
 class Runs(Case):
-    """Cases of a file, each in a folder of its own."""
+    """The cases of a file of `cases/runs`, each in a folder of its own."""
+
+    def __init_subclass__(cls, file=None):
+        if file:
+            cls.do_each = each_row(runs_of(file))(lambda self, *cases: self.do_all(cases))
+        super().__init_subclass__()
 
     def run_as(self, tool, words, **more):
         return TOOLS[tool](words, **more)
 
-    def do_each(self, cases):
+    def do_all(self, cases):
         for steps in cases:
             with self.subTest(steps[0].line.place), scratch() as folder:
                 self.do(folder, steps)
@@ -130,6 +138,8 @@ class Runs(Case):
             action, name = step.form["action"], step.form["name"]
             if action == "file":
                 put(folder, {name: step.text})
+            elif action == "copy":
+                shutil.copytree(ROOT / step.text.decode(), folder / name)
             elif action == "folder":
                 (folder / name).mkdir(parents=True)
             elif action == "link":
@@ -138,7 +148,7 @@ class Runs(Case):
                 given = step.text
             elif action == "run":
                 due = itertools.takewhile(lambda it: it.form["of"], steps[at + 1:])
-                done = self.run_tool(folder, step.text.decode(), given, {it.form["of"]: it.text for it in due})
+                done = self.run_tool(folder, os.fsdecode(step.text), given, {it.form["of"]: it.text for it in due})
             else:
                 self.check(step, folder, done)
 
@@ -162,7 +172,7 @@ class Runs(Case):
         return (streams[name] if name in streams else (folder / name).read_bytes()).decode(errors="backslashreplace")
 
     def check(self, step, folder, done):
-        wanted = FORMULA.sub(lambda it: markup(*it.groups()), step.text.decode(errors="backslashreplace"))
+        wanted = with_markup(step.text.decode(errors="backslashreplace"))
         found, verb, place = self.found(step.form["of"], folder, done), step.form["verb"], step.line.place
         if verb == " has":
             self.assertIn(wanted, found, place)

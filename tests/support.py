@@ -18,17 +18,12 @@ import unittest
 
 ROOT = pathlib.Path(__file__).resolve().parent.parent
 
-# Names a folder that all processes of a run share.
-RUN = "LATEX2MATHML_RUN"
+# variables that name a folder that all processes of a run share, the file on which a build shows its progress, and a file for the
+# counts of passed, failed and skipped cases
+RUN, SCREEN, COUNTS = "LATEX2MATHML_RUN", "LATEX2MATHML_SCREEN", "LATEX2MATHML_COUNTS"
 
 # If it is 1, `tools/built` builds nothing: after the proofs of `./test`, only what they built may be used.
 BUILD_NOTHING = "LATEX2MATHML_BUILD_NOTHING"
-
-# The file on which a build shows its progress.
-SCREEN = "LATEX2MATHML_SCREEN"
-
-# Names a file for the counts of passed, failed and skipped cases.
-COUNTS = "LATEX2MATHML_COUNTS"
 
 # If it is 1, `./test` counts a case that is skipped as one that failed.
 SKIP_NOTHING = "LATEX2MATHML_SKIP_NOTHING"
@@ -36,20 +31,15 @@ SKIP_NOTHING = "LATEX2MATHML_SKIP_NOTHING"
 # Says how much of the processors a container may use: microseconds in a period, or `max`, and the period.
 QUOTA = pathlib.Path("/sys/fs/cgroup/cpu.max")
 
-# The most bytes of a stream that a failure shows.
-SHOWN = 2000
-
-# The user that no file belongs to.
-NOBODY = 65534
+SHOWN = 2000  # the most bytes of a stream that a failure shows
+NOBODY = 65534  # the user that no file belongs to
 
 
-@functools.cache
 def program():
     """The path of the built program, which is built first if it is missing or older than its sources."""
     return build("latex2mathml_app")
 
 
-@functools.cache
 def tex_program():
     """The path of the program `tex2mathml`, which is built first in the same way."""
     return build("latex2mathml_tex_app")
@@ -115,8 +105,7 @@ def once(name):
 @functools.cache
 def kit():
     """The folder of the Rattle toolchain."""
-    done = subprocess.run(["rt", "doc"], stdin=subprocess.DEVNULL, stdout=subprocess.PIPE, check=True, timeout=60)
-    return pathlib.Path(os.fsdecode(done.stdout).strip()).parent
+    return pathlib.Path(os.fsdecode(run(["rt", "doc"], stderr=None, check=True).stdout).strip()).parent
 
 
 def newest_version():
@@ -140,10 +129,8 @@ def run(words, *, stdin=b"", timeout=60, **more):
     `words` is the whole command line. `stdin` is what it reads: bytes, or anything that `subprocess` takes. All other
     arguments go to `subprocess.run`. A command that takes longer than `timeout` seconds is ended, and the case fails.
     """
-    given = {"input": stdin} if isinstance(stdin, bytes) else {"stdin": stdin}
-    for stream in ("stdout", "stderr"):
-        more.setdefault(stream, subprocess.PIPE)
-    return subprocess.run([os.fspath(word) for word in words], timeout=timeout, **given, **more)
+    given = {"input" if isinstance(stdin, bytes) else "stdin": stdin, "stdout": subprocess.PIPE, "stderr": subprocess.PIPE, **more}
+    return subprocess.run([os.fspath(word) for word in words], timeout=timeout, **given)
 
 
 def limit(**most):
@@ -188,6 +175,14 @@ def put(folder, texts):
             path.chmod(0o755)
 
 
+def link_tools(folder, *names):
+    """A folder with these programs of the system, for a path with no others."""
+    folder.mkdir(exist_ok=True)
+    for name in names:
+        (folder / name).symlink_to(shutil.which(name))
+    return folder
+
+
 @contextlib.contextmanager
 def scratch():
     """A folder for the duration of a `with`, as a `pathlib.Path`; removed afterwards, whatever permissions are left in it."""
@@ -197,17 +192,12 @@ def scratch():
 
 
 def is_there(tool):
-    kind, _, module = tool.rpartition(":")
-    if kind == "python":
-        return importlib.util.find_spec(module.partition(".")[0]) is not None
-    return shutil.which(tool) is not None
+    kind, _, name = tool.rpartition(":")
+    return bool(importlib.util.find_spec(name) if kind == "python" else shutil.which(tool))
 
 
 def requires(*tools):
-    """Skips a case or a class of them if one of these tools or Python modules (`python:NAME`) is missing.
-
-    If LATEX2MATHML_SKIP_NOTHING is 1, `./test` counts every case that is skipped as one that failed.
-    """
+    """Skips a case or a class of them if one of these tools or Python modules (`python:NAME`) is missing."""
     lacking = [tool for tool in tools if not is_there(tool)]
     return unittest.skipIf(lacking, f"{', '.join(lacking)} not found")
 
@@ -250,22 +240,19 @@ class Case(unittest.TestCase):
         """A folder that lasts as long as the case."""
         return self.enterContext(scratch())
 
-    def wait_for(self, is_so):
-        for _ in range(600):
-            if is_so():
-                return
-            time.sleep(0.05)
-        self.fail("it did not come to that within half a minute")
+    def wait_for(self, is_so, seconds=30, pause=0.05):
+        end = time.monotonic() + seconds
+        while not is_so():
+            self.assertLess(time.monotonic(), end, f"it did not come to that within {seconds} seconds")
+            time.sleep(pause)
 
     def expect(self, done, status=0, stdout=None, stderr=b""):
         """Checks the status and the streams of a finished command. A stream that is None may contain anything."""
-        if done.returncode == status and stdout in (None, done.stdout) and stderr in (None, done.stderr):
-            return
-        lines = [f"ran: {' '.join(map(show, done.args))}"]
-        for name, wanted, came in (("status", status, done.returncode), ("stdout", stdout, done.stdout), ("stderr", stderr, done.stderr)):
-            if wanted is not None and wanted != came:
-                lines += [f"{name} wanted: {show(wanted)}", f"{name} came:   {show(came)}"]
-        self.fail("\n".join(lines))
+        due = (("status", status, done.returncode), ("stdout", stdout, done.stdout), ("stderr", stderr, done.stderr))
+        differs = [it for it in due if it[1] != it[2] and (it[1] is not None or it[0] == "status")]
+        if differs:
+            lines = [f"{name} wanted: {show(wanted)}\n{name} came:   {show(came)}" for name, wanted, came in differs]
+            self.fail("\n".join([f"ran: {' '.join(map(show, done.args))}", *lines]))
 
 
 def show(value):

@@ -5,14 +5,13 @@
 import os
 import pathlib
 import pty
-import shutil
 import signal
 import subprocess
 import sys
 import time
 import unittest
 
-from tests.support import BUILD_NOTHING, Case, Has, ROOT, hear_signals, put, read_terminal, run
+from tests.support import BUILD_NOTHING, Case, Has, ROOT, hear_signals, link_tools, put, read_terminal, run
 
 FAKES = ROOT / "tests/fakes/building"
 CRATES = ("low", "middle", "high", "tool", "other", "left", "right", "both")
@@ -25,7 +24,6 @@ class House(Case):
         self.house = self.folder / "a house"  # a path may have spaces
         tools = {f"tools/{name}": (ROOT / "tools" / name).read_text() for name in ("built", "build", "memory.py", "progress.py")}
         self.memory = self.folder / "meminfo"
-        self.memory.write_text("MemTotal: 64000000 kB\nMemAvailable: 32000000 kB\n")
         self.assertIn('"/proc/meminfo"', tools["tools/memory.py"])
         tools["tools/memory.py"] = tools["tools/memory.py"].replace("/proc/meminfo", str(self.memory))
         put(self.house, {**tools, "crates.txt": (FAKES / "crates").read_text()})
@@ -34,7 +32,8 @@ class House(Case):
             put(self.house / "crates" / crate, {**dict.fromkeys(sources, ""), "args": "inline\n"})
         self.in_the_past(3600)
         self.calls, self.process = self.folder / "calls", self.folder / "process"
-        put(self.folder, {"calls": "", "met": "", "bin/rt": (FAKES / "rt").read_text()})
+        put(self.folder, {"calls": "", "met": "", "bin/rt": (FAKES / "rt").read_text(),
+                          "meminfo": "MemTotal: 64000000 kB\nMemAvailable: 32000000 kB\n"})
 
     def in_the_past(self, seconds):
         """Makes everything there older by this much."""
@@ -92,18 +91,13 @@ class Building(House):
         self.assertEqual(self.made("both"), ["both", "kept", "rlib"])
 
     def test_it_is_built_again_where_a_source_changed(self):
-        for name, change in [
-            ("crates.txt", lambda path: path.touch()),
-            ("crates/high/src/lib.rt", lambda path: path.touch()),
-            ("crates/high/src/inner/part.rt", lambda path: path.touch()),
-            ("crates/low/src/lib.rt", lambda path: path.touch()),
-            ("crates/middle/specs/Lib.antt", lambda path: path.touch()),
-            ("crates/low/proofs/f/Answers.antt", lambda path: path.touch()),
-            ("crates/low/proofs/g/Answers.antt", lambda path: path.unlink()),
-            ("crates/middle/src/inner/part.rt", lambda path: path.rename(path.with_name("renamed.rt"))),
-            ("crates/high/proofs/Lib.antt", lambda path: path.write_text("")),
-            ("crates/high/out/high", lambda path: path.unlink()),
-        ]:
+        # the last is new
+        touched = ("crates.txt", "crates/high/src/lib.rt", "crates/high/src/inner/part.rt", "crates/low/src/lib.rt",
+                   "crates/middle/specs/Lib.antt", "crates/low/proofs/f/Answers.antt", "crates/high/proofs/Lib.antt")
+        changes = {**dict.fromkeys(touched, pathlib.Path.touch), "crates/low/proofs/g/Answers.antt": pathlib.Path.unlink,
+                   "crates/middle/src/inner/part.rt": lambda path: path.rename(path.with_name("renamed.rt")),
+                   "crates/high/out/high": pathlib.Path.unlink}
+        for name, change in changes.items():
             with self.subTest(name):
                 self.build()
                 self.in_the_past(1800)
@@ -135,14 +129,15 @@ class Building(House):
         self.builds(1, 0)
 
     def test_nothing_is_built_behind_the_proofs(self):
+        nothing = {BUILD_NOTHING: "1"}
         with self.subTest("nothing is there"):
-            self.expect(self.build(**{BUILD_NOTHING: "1"}), 1, b"", None)
+            self.expect(self.build(**nothing), 1, b"", None)
         self.build()
         with self.subTest("it is new"):
-            self.builds(0, **{BUILD_NOTHING: "1"})
+            self.builds(0, **nothing)
         (self.house / "crates/low/specs/Lib.antt").touch()
         with self.subTest("it is stale"):
-            self.expect(self.build(**{BUILD_NOTHING: "1"}), 1, b"", None)
+            self.expect(self.build(**nothing), 1, b"", None)
         self.assertEqual(self.calls.read_text(), "")
 
     def test_another_search_for_folders(self):
@@ -151,8 +146,7 @@ class Building(House):
         (self.folder / "elsewhere/tools").mkdir(parents=True)
         for searched in (".", self.folder / "elsewhere"):
             with self.subTest(searched):
-                environment = {**os.environ, BUILD_NOTHING: "1", "CDPATH": str(searched)}
-                done = run(["tools/built", "high"], cwd=self.house, env=environment)
+                done = run(["tools/built", "high"], cwd=self.house, env={**os.environ, BUILD_NOTHING: "1", "CDPATH": str(searched)})
                 self.expect(done, stdout=f"{self.house}/crates/high/out/high\n".encode())
 
     def test_no_such_crate(self):
@@ -160,13 +154,9 @@ class Building(House):
             self.expect(self.build(crate), 1, b"", f"built: {said}\n".encode())
 
     def test_no_toolchain(self):
-        tools = self.folder / "tools"
-        tools.mkdir()
-        for name in ("sh", "env", "dirname", "awk", "find", "mktemp", "rm", "touch"):
-            (tools / name).symlink_to(shutil.which(name))
+        tools = link_tools(self.folder / "tools", "sh", "env", "dirname", "awk", "find", "mktemp", "rm", "touch")
         (tools / "python3").symlink_to(sys.executable)
-        said = Has(b"the command rt of the Rattle toolchain is not on the path")
-        self.expect(self.build(PATH=str(tools)), 1, b"", said)
+        self.expect(self.build(PATH=str(tools)), 1, b"", Has(b"the command rt of the Rattle toolchain is not on the path"))
 
     def test_lines(self):
         """One line per crate, if a line cannot be updated in place."""

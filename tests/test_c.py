@@ -7,7 +7,7 @@ import shutil
 
 from tests.cases import every_rule
 from tests.nesting import kinds_of
-from tests.runs import Runs, runs_of
+from tests.runs import Runs
 from tests.support import Case, Has, ROOT, c_library, each_row, requires, run, scratch
 from tests.texts import LESS, LESS_BLOCK, UNCLOSED
 
@@ -16,7 +16,6 @@ CXX = shlex.split(os.environ.get("CXX", "c++"))
 # an option of `personality`: the system places memory at the same addresses in each run
 ADDR_NO_RANDOMIZE = 0x0040000
 WRAP = ["-Wl,--wrap=malloc,--wrap=realloc,--wrap=free", "-pthread"]
-
 
 INLINE, BLOCK = LESS.decode(), LESS_BLOCK.decode()
 CALLS = {"latex2mathml_formula", "latex2mathml_document", "latex2mathml_tex"}
@@ -37,16 +36,14 @@ class Folder(Case):
         """A program can link only to the three calls."""
         for name, words in [("liblatex2mathml.a", ["nm", "-g"]), ("liblatex2mathml.so", ["nm", "-D"])]:
             with self.subTest(name):
-                done = run([*words, "--defined-only", "--format=posix", c_library() / name])
-                self.assertEqual(done.returncode, 0, done)
+                done = run([*words, "--defined-only", "--format=posix", c_library() / name], check=True)
                 self.assertEqual(set(re.findall(r"^(\w+) [A-Z] ", done.stdout.decode(), re.MULTILINE)), CALLS)
 
     def test_what_the_shared_library_needs(self):
         done = run(["ldd", c_library() / "liblatex2mathml.so"])
         self.expect(done, 0)
         needed = [line.split()[0] for line in done.stdout.decode().splitlines()]
-        others = [name for name in needed if not re.search(r"linux-vdso|linux-gate|ld-linux|libc\.so", name)]
-        self.assertEqual(others, [])
+        self.assertEqual([name for name in needed if not re.search(r"linux-vdso|linux-gate|ld-linux|libc\.so", name)], [])
 
     @requires("readelf")
     def test_how_the_shared_library_is_linked(self):
@@ -82,7 +79,7 @@ class Folder(Case):
 class Built(Case):
     """Cases in C, `c_cases.c`, which are built once with these options of the compiler."""
 
-    options = []
+    options = ["-O2"]
     preparation = None
 
     @classmethod
@@ -91,9 +88,8 @@ class Built(Case):
         [promised] = re.findall(r"\* +- (\d+) KiB of the stack are free\.", (c_library() / "latex2mathml.h").read_text())
         words = [*CC, "-std=gnu11", "-Wall", "-Wextra", f"-DSTACK=({promised} << 10)", *cls.options, "-I", c_library(), ROOT / "tests/c_cases.c",
                  c_library() / "liblatex2mathml.a", *WRAP, "-o", cls.program]
-        done = run(words)
-        if done.returncode:
-            raise RuntimeError(done.stderr.decode(errors="replace"))
+        # what the compiler says is shown
+        run(words, stderr=None, check=True)
 
     def judge(self, word, stdin=b""):
         done = run([self.program, word], stdin=stdin, timeout=300, preexec_fn=self.preparation)
@@ -105,8 +101,7 @@ class Built(Case):
                 continue
             verdicts.add(verdict)
             with self.subTest(name):
-                if verdict == "FAILED":
-                    self.fail("\n".join([f"ran: {self.program} {word}", *notes]))
+                self.assertEqual(verdict, "passed", "\n".join([f"ran: {self.program} {word}", *notes]))
             notes = []
         if lines[-1:] != ["all were judged"] or done.stderr or done.returncode != ("FAILED" in verdicts):
             self.fail(f"{word} did not end: status {done.returncode}\n{done.stderr.decode(errors='replace')}")
@@ -115,8 +110,6 @@ class Built(Case):
 
 @requires(CC[0])
 class Calls(Built):
-    options = ["-O2"]
-
     @each_row({
         "answers": ("answers",),
         "memory": ("memory",),
@@ -133,8 +126,6 @@ class Calls(Built):
 
 @requires(CC[0])
 class Deep(Built):
-    options = ["-O2"]
-
     def test_deep(self):
         """On the stack that the header says is enough: formulas, and documents with one formula or with many."""
         self.judge("deep")
@@ -157,7 +148,7 @@ class Sanitized(Built):
 
 
 @requires(CC[0], "python3")
-class Examples(Runs):
+class Examples(Runs, file="c.txt"):
     @classmethod
     def setUpClass(cls):
         # a copy, because they are built next to their sources and find the library in the folder above; a path may have spaces
@@ -171,22 +162,16 @@ class Examples(Runs):
         environment = {**os.environ, "PYTHONPATH": str(examples), "PYTHONDONTWRITEBYTECODE": "1"}
         return run([tool if tool == "python3" else examples / tool, *words], env=environment, **more)
 
-    @each_row(runs_of("c.txt"))
-    def answer(self, runs):
-        self.do_each(runs)
-
     def test_they_are_built(self):
         self.expect(self.built)
 
     def test_python_with_a_library_elsewhere(self):
         """LATEX2MATHML names it. There is none in the folder above the copy."""
-        alone = self.folder / "alone"
-        alone.mkdir()
-        shutil.copy(self.library / "examples/latex2mathml.py", alone)
-        for library, status, answer in [(self.library / "liblatex2mathml.so", 0, LESS + b"\n"), (None, 1, b"")]:
-            with self.subTest(library=library):
-                environment = {**os.environ, **({"LATEX2MATHML": str(library)} if library else {})}
-                self.expect(run(["python3", alone / "latex2mathml.py", "x<y"], env=environment), status, answer, None)
+        (self.folder / "alone").mkdir()
+        alone = shutil.copy(self.library / "examples/latex2mathml.py", self.folder / "alone")
+        for told, due in (({"LATEX2MATHML": str(self.library / "liblatex2mathml.so")}, (0, LESS + b"\n")), ({}, (1, b""))):
+            with self.subTest(told):
+                self.expect(run(["python3", alone, "x<y"], env={**os.environ, **told}), *due, None)
 
     @requires("node")
     def test_node(self):

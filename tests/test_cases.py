@@ -17,17 +17,15 @@ class CaseOfFile(AnswerCase):
         for word in ("inline", "block"):
             self.comes_to(case.place, word, case.input, Code.DONE, math(case.answer, word))
 
-    def refused_formula(self, case):
-        for word in ("inline", "block"):
-            self.comes_to(case.place, word, case.input, code_of(case), case.answer)
+    def refusal(self, case, words=("inline", "block")):
+        code = Code.NOT_UTF8 if case.answer == NO_TEXT.encode() else Code.REFUSED
+        for word in words:
+            self.comes_to(case.place, word, case.input, code, case.answer)
 
     def document(self, case):
         """An answer is its own answer."""
         for given in (case.input, case.document_answer):
             self.comes_to(case.place, "document", given, Code.DONE, case.document_answer)
-
-    def refused_document(self, case):
-        self.comes_to(case.place, "document", case.input, code_of(case), case.answer)
 
     def white_space(self, case):
         """White space at one place changes nothing, and a character that is not white space changes the result."""
@@ -57,31 +55,22 @@ class CaseOfFile(AnswerCase):
     def tex_formula(self, case, displays=("inline", "block")):
         for display in displays:
             markup = math(case.answer, display)
-            self.expect(tex_run(case, display), stdout=markup + b"\n")
+            self.expect(run([tex_program(), "--display", display], stdin=case.input), stdout=markup + b"\n")
             self.assertEqual(tex_by_library(display, case.input), (Code.DONE, markup, 0), case.place)
 
     def tex_refusal(self, case):
         place = int(case.answer.rpartition(b" at ")[2])
         for display in ("inline", "block"):
-            self.expect(tex_run(case, display), 1, b"", b"tex2mathml: %s\n" % case.answer)
+            self.expect(run([tex_program(), "--display", display], stdin=case.input), 1, b"", b"tex2mathml: %s\n" % case.answer)
             self.assertEqual(tex_by_library(display, case.input), (Code.REFUSED, case.answer, place), case.place)
-
-
-def tex_run(case, display):
-    return run([tex_program(), "--display", display], stdin=case.input)
-
-
-def code_of(case):
-    """The code of the library for C for a refused text."""
-    return Code.NOT_UTF8 if case.answer == NO_TEXT.encode() else Code.REFUSED
 
 
 # The files by their kind. A class of tests is made for each file.
 KINDS = [
     ("formulas/*.txt", CaseOfFile.formula),
-    ("refusals.txt", CaseOfFile.refused_formula),
+    ("refusals.txt", CaseOfFile.refusal),
     ("documents/*.txt", CaseOfFile.document),
-    ("document_refusals.txt", CaseOfFile.refused_document),
+    ("document_refusals.txt", functools.partial(CaseOfFile.refusal, words=["document"])),
     ("white_space.txt", CaseOfFile.white_space),
     ("counts.txt", CaseOfFile.counts),
     ("tex/*.txt", CaseOfFile.tex_formula),
@@ -89,7 +78,6 @@ KINDS = [
     ("tex_block.txt", functools.partial(CaseOfFile.tex_formula, displays=["block"])),
     ("tex_refusals.txt", CaseOfFile.tex_refusal),
 ]
-
 
 for pattern, check in KINDS:
     for file in cases.files(pattern):
@@ -121,5 +109,6 @@ class Reader(Case):
             self.assertTrue(formula and contents.startswith("<"), formula)
 
     def test_all_files_are_read(self):
-        read = {file for pattern, _ in KINDS for file in cases.files(pattern)} | set(cases.ELSEWHERE)
-        self.assertEqual(sorted(read), cases.files("**/*.txt"))
+        """Here, or by the class that the file names."""
+        read = {file for pattern, _ in KINDS for file in cases.files(pattern)}
+        self.assertEqual([it for it in cases.files("**/*.txt") if (it in read) == bool(cases.reader_of(it))], [])

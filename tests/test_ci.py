@@ -1,23 +1,15 @@
 """What runs on a machine for checks: `.ci/run` installs what the tests use, and has `./test` skip nothing.
 
-`./test`, `apt-get` and what queries the system are replaced by other programs here.
+`./test`, `apt-get` and what queries the system are replaced by other programs here, those of `tests/fakes/ci`.
 """
 import shutil
 
-from tests.support import Case, Has, ROOT, each_row, put, run, scratch
+from tests.support import Case, Has, ROOT, each_row, link_tools, put, run, scratch
 
 PACKAGES = "# a remark\nhere\nmissing # behind a package too\n\nlost\n"
 INSTALL = "install --no-install-recommends"
 
-STUBS = {
-    "id": "echo ${USER_ID:-0}",
-    "dpkg-query": """case $4 in here) echo 'install ok installed' ;; lost) echo 'deinstall ok config-files' ;; *) exit 1 ;; esac""",
-    # what is requested follows the options
-    "apt-get": """
-        while [ "$1" != update ] && [ "$1" != install ]; do shift; done
-        echo "$*" >>"$CALLS"
-        case "$*" in *${NOT_THERE:-nothing}*) exit 100 ;; esac""",
-}
+FAKES = ROOT / "tests/fakes/ci"
 
 
 class Run(Case):
@@ -26,17 +18,15 @@ class Run(Case):
         shutil.copytree(ROOT / ".ci", self.house / ".ci")
         test = '#!/bin/sh\necho "skips nothing: $LATEX2MATHML_SKIP_NOTHING"; exit ${STATUS:-0}\n'
         put(self.house, {".ci/packages": PACKAGES, "test": test})
-        put(self.folder / "bin", {name: f"#!/bin/sh\n{text}\n" for name, text in STUBS.items()})
-        for name in ("sh", "dirname", "sed", "grep", "timeout", "date"):
-            (self.folder / "bin" / name).symlink_to(shutil.which(name))
+        put(self.folder / "bin", {name: (FAKES / name).read_text() for name in ("id", "dpkg-query", "apt-get")})
+        link_tools(self.folder / "bin", "sh", "dirname", "sed", "grep", "timeout", "date")
 
     def run_ci(self, stdout, stderr=None, status=0, **environment):
         """What `.ci/run` calls apt-get for, where its status and its streams are these."""
-        calls = self.folder / "calls"
-        calls.write_text("")
-        done = run([self.house / ".ci/run"], env={"PATH": str(self.folder / "bin"), "CALLS": str(calls), **environment})
-        self.expect(done, status, stdout, stderr)
-        return calls.read_text().splitlines()
+        put(self.folder, {"calls": ""})
+        told = {"PATH": str(self.folder / "bin"), "CALLS": str(self.folder / "calls"), **environment}
+        self.expect(run([self.house / ".ci/run"], env=told), status, stdout, stderr)
+        return (self.folder / "calls").read_text().splitlines()
 
     @each_row({
         "what is missing": (PACKAGES, {}, b"1", None, ["update", f"{INSTALL} missing lost"]),
@@ -62,10 +52,7 @@ class Run(Case):
     def test_a_network_that_never_answers(self):
         """Once a quarter of an hour is over, no other package is tried alone."""
         (self.folder / "bin/date").unlink()
-        put(self.folder, {"bin/date": """#!/bin/sh
-            echo >>"$CALLS.dates"
-            while read -r _; do now=$((now + 600)); done <"$CALLS.dates"
-            echo $now\n"""})
+        put(self.folder, {"bin/date": (FAKES / "slow-date").read_text()})
         calls = self.run_ci(b"skips nothing: \n", Has(b"lost could not be installed"), NOT_THERE="install")
         self.assertEqual(calls[2:], [f"{INSTALL} missing"])
 

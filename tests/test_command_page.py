@@ -11,17 +11,13 @@ from tools import tables, tex_commands, token_commands
 PAGE = ROOT / "docs/COMMANDS.md"
 
 # the formula that draws what each of these sections lists, and what is drawn
-LETTERS = ("{0}", "{1}")
 DRAWN = {
-    "Letters": LETTERS, "Signs": LETTERS, "Big operators": LETTERS, "Functions": LETTERS, "Characters": LETTERS,
+    **dict.fromkeys(("Letters", "Signs", "Big operators", "Functions", "Characters"), ("{0}", "{1}")),
     "Marks, braces and stacks": ("{0}{{x}}", "x{1}"), "Delimiters": (r"\left{0} x\right{0}", "{1}x{1}"), "Strokes": (r"\not{0}", "{1}"),
     "Words": (r"\text{{{0}}}", "{1}"), "Tables": (r"\begin{{matrix}}{0} a\end{{matrix}}", "a"),
 }
-# what the page says to follow the name of an environment
-BEHIND = re.compile(r"`(\[.\]|\{\w+\})`")
-# an arrow is before what is above it
-BELOW = "{1}x"
-
+BEHIND = re.compile(r"`(\[.\]|\{\w+\})`")  # what the page says to follow the name of an environment
+BELOW = "{1}x"  # an arrow is before what is above it
 # the arguments of macros that do not take every formula
 FIRST_ARGUMENTS = {"\\colorbox": "red", "\\raisebox": "1em"}
 
@@ -86,13 +82,12 @@ class Read(Case):
 
     @each_row({section: (section, *forms) for section, forms in DRAWN.items()})
     def draws(self, section, formula, due):
-        listed = [it for it in tex_commands.listed() if it.place.section == section and not it.place.example]
         self.draw({formula.format(it.name): (BELOW if it.place.what.startswith("Arrows as long") else due).format(it.name, it.draws)
-                   for it in listed})
+                   for it in listed_in(section) if not it.place.example})
 
     def test_other_delimiters(self):
         """Those with a size, and none."""
-        self.draw({it.example: "(" for it in tex_commands.listed() if it.place.section == "Sizes"} | {r"\left. x\right.": "x"})
+        self.draw({it.example: "(" for it in listed_in("Sizes")} | {r"\left. x\right.": "x"})
 
     def test_examples(self):
         self.are_read([it.example for it in tex_commands.listed() if it.place.example])
@@ -104,13 +99,12 @@ class Read(Case):
 
     def test_environments(self):
         """With what is said to follow the name."""
-        listed = [it for it in tex_commands.listed() if it.place.section == "Environments"]
         due = {"": "a", "{": "{a", "}": "a}"}
         self.draw({f"\\begin{{{it.name}}}{''.join(BEHIND.findall(it.place.what))} a\\end{{{it.name}}}": due.get(it.draws, "a".join(it.draws))
-                   for it in listed})
+                   for it in listed_in("Environments")})
 
     def test_macros(self):
-        names = [it.name for it in tex_commands.listed() if it.place.section == "Usual macros"]
+        names = [it.name for it in listed_in("Usual macros")]
         self.are_read([re.sub("#[2-9]", "a", it.replace("#1", FIRST_ARGUMENTS.get(it.partition("{")[0], "a"))) for it in names])
 
     def test_environments_of_the_other_call(self):
@@ -118,6 +112,10 @@ class Read(Case):
             with self.subTest(name):
                 done = run([program(), "inline"], stdin=f"\\begin{{{name}}}a\\end{{{name}}}".encode())
                 self.expect(done, stdout=Has(b"<mtable"))
+
+
+def listed_in(section):
+    return [it for it in tex_commands.listed() if it.place.section == section]
 
 
 def text_in(reply):

@@ -38,7 +38,6 @@ def term(literal):
 
 
 class Table(unittest.TestCase):
-    """The table as a whole."""
     maxDiff = None
 
     def test_names_ascend(self):
@@ -57,9 +56,8 @@ class Entries(AnswerCase):
     @each_row({str(entry.line.number): (entry,) for entry in ENTRIES})
     def is_right(self, entry):
         for word in ("inline", "block"):
-            is_answer = entry.alone.startswith("<")
-            code, due = (Code.DONE, math(entry.alone, word)) if is_answer else (Code.REFUSED, entry.alone.encode())
-            self.comes_to(entry.line.place, word, entry.formula, code, due)
+            due = (Code.DONE, math(entry.alone, word)) if entry.alone.startswith("<") else (Code.REFUSED, entry.alone.encode())
+            self.comes_to(entry.line.place, word, entry.formula, *due)
         shows = SHOWS_PARENTHESIS if entry.token.startswith("Paren(") else SHOWS_TOKEN
         given = shows.format(entry.formula.decode()).encode()
         for name, way in WAYS:

@@ -22,7 +22,6 @@ OWN_BYTES = 64 << 10
 # what `\middle` refuses, whatever follows
 NO_STRETCH = 'There must be a parenthesis after "Middle", but not found. Insted, "Middle" is found.'
 
-
 # the end of a text, if it is read as an error
 MISSING = '<mtext>[PARSE ERROR: Undefined("EOF")]</mtext>'
 
@@ -63,8 +62,7 @@ class Depth(support.Case):
     def wants_memory(self, formula, request):
         """Checks the result if this allocation fails, and no other."""
         fault = faulty.Fault("memory", request, request, 12)
-        words = [support.program(), "inline"]
-        done, failed = faulty.run_with(words, stdin=formula.encode(), fault=fault, **self.limited)
+        done, failed = faulty.run_with([support.program(), "inline"], stdin=formula.encode(), fault=fault, **self.limited)
         self.assertEqual(failed, ["memory"])
         self.expect(done, 1, b"", error(NO_MEMORY))
 

@@ -3,8 +3,8 @@ import os
 import re
 import shutil
 
-from tests.runs import Runs, runs_of
-from tests.support import ROOT, dist, each_row, newest_version, program, put, requires, run, run_folder, tex_program
+from tests.runs import Runs
+from tests.support import ROOT, dist, newest_version, program, put, requires, run, run_folder, tex_program
 
 CRATE = "crates/latex2mathml_c"
 
@@ -13,7 +13,7 @@ FAKES = ROOT / "tests/fakes/making"
 
 
 @requires("cc", "objdump", "ldd")
-class Dist(Runs):
+class Dist(Runs, file="dist.txt"):
     @classmethod
     def setUpClass(cls):
         cls.dist = dist()
@@ -78,11 +78,10 @@ class Dist(Runs):
         self.assertEqual([file for file in built if (house / "dist/integrations" / file).exists()], [])
 
     def test_files(self):
-        for file, source in [
-            ("LICENSE", "LICENSE"), ("integrations/node/LICENSE", "LICENSE"), ("integrations/rust/LICENSE", "LICENSE"), ("page/latex2mathml.css", "page/latex2mathml.css"), ("page/latex2mathml.js", "page/latex2mathml.js"),
-            ("c/latex2mathml.h", f"{CRATE}/include/latex2mathml.h"),
-            *((f"c/examples/{name}", f"{CRATE}/examples/{name}") for name in ("formula.c", "latex2mathml.py", "addon.c")),
-        ]:
+        sources = {**dict.fromkeys(("LICENSE", "integrations/node/LICENSE", "integrations/rust/LICENSE"), "LICENSE"),
+                   **{it: it for it in ("page/latex2mathml.css", "page/latex2mathml.js")}, "c/latex2mathml.h": f"{CRATE}/include/latex2mathml.h",
+                   **{f"c/examples/{it}": f"{CRATE}/examples/{it}" for it in ("formula.c", "latex2mathml.py", "addon.c")}}
+        for file, source in sources.items():
             with self.subTest(file):
                 self.assertEqual((self.dist / file).read_bytes(), (ROOT / source).read_bytes())
 
@@ -91,23 +90,16 @@ class Dist(Runs):
         text = (self.dist / "README.md").read_text(encoding="utf-8")
         self.assertIn("libc.so", text)
         symbols = run(["objdump", "-T", program(), tex_program()]).stdout.decode()
-        versions = {tuple(map(int, found.split("."))) for found in re.findall(r"GLIBC_(\d+(?:\.\d+)*)", symbols)}
-        newest = ".".join(map(str, max(versions)))
+        newest = max(re.findall(r"GLIBC_(\d+(?:\.\d+)*)", symbols), key=lambda it: tuple(map(int, it.split("."))))
         self.assertIn(f"the C library of GNU, version {newest} or later;", text)
 
     def run_as(self, tool, words, **more):
         """Runs a program of the folder, without an environment."""
         return run([self.dist / tool, *words], env={}, **more)
 
-    @each_row(runs_of("dist.txt"))
-    def are_converted(self, runs):
-        self.do_each(runs)
-
     def test_links(self):
         """Each link of a document leads to a file that the folder has."""
-        broken = []
-        for document in self.dist.rglob("*.md"):
-            for target in re.findall(r"\]\(([^)\s#]+)", document.read_text(encoding="utf-8")):
-                if not re.match(r"[a-z]+:", target) and not (document.parent / target).exists():
-                    broken.append(f"{document.relative_to(self.dist)}: {target}")
-        self.assertEqual(broken, [])
+        links = [(document, target) for document in self.dist.rglob("*.md")
+                 for target in re.findall(r"\]\(([^)\s#]+)", document.read_text(encoding="utf-8"))]
+        self.assertTrue(links)
+        self.assertEqual([it for it in links if not re.match(r"[a-z]+:", it[1]) and not (it[0].parent / it[1]).exists()], [])

@@ -6,6 +6,7 @@ import shutil
 from tests.integration import answer_of
 from tests.pages import CODE, column, read, rows, section, tables
 from tests.support import ROOT, Case, Has, each_row, program, put, requires, run, tex_program
+from tests.texts import USAGE, math
 from tools import quotes, specs, token_commands
 
 # the most words that a sentence may have
@@ -43,8 +44,7 @@ class Links(Case):
     def test_each_leads_somewhere(self):
         links = [(document, target) for document in documents() for target in re.findall(r"\]\(([^)\s]+)\)", without_code(document.read_text()))]
         self.assertTrue(links)
-        self.assertEqual([f"{document.relative_to(ROOT)}: {target}" for document, target in links
-                          if not re.match(r"[a-z]+:", target) and not leads_somewhere(document, target)], [])
+        self.assertEqual([it for it in links if not re.match(r"[a-z]+:", it[1]) and not leads_somewhere(*it)], [])
 
 
 class Quotes(Case):
@@ -52,11 +52,10 @@ class Quotes(Case):
         self.expect(run([ROOT / "tools/renew-documents", "--check"]), stdout=b"")
 
     def test_a_line_that_moved_is_renewed(self):
-        folder = self.folder
         for part in ("docs", "tools", "tests", "cases", "crates"):
-            shutil.copytree(ROOT / part, folder / part, ignore=shutil.ignore_patterns("out", "must-fail", "proofs"))
-        source, document = folder / "crates/latex2mathml/specs/Documents.antt", folder / "docs/PROMISES.md"
-        old, renew = document.read_text(), folder / "tools/renew-documents"
+            shutil.copytree(ROOT / part, self.folder / part, ignore=shutil.ignore_patterns("out", "must-fail", "proofs", "__pycache__"))
+        source, document = self.folder / "crates/latex2mathml/specs/Documents.antt", self.folder / "docs/PROMISES.md"
+        old, renew = document.read_text(), self.folder / "tools/renew-documents"
         line = source.read_text().split("\n").index("pub data Piece : Type 0 where") + 1
         link, moved = (f"[`Piece`](../crates/latex2mathml/specs/Documents.antt#L{it})" for it in (line, line + 1))
         self.assertIn(link, old)
@@ -145,7 +144,7 @@ class Sentences(Case):
     def test_none_is_long(self):
         found = [(document, sentence) for document in documents() for sentence in sentences(without_code(document.read_text()))]
         self.assertTrue(found)
-        self.assertEqual([f"{document.relative_to(ROOT)}: {sentence}" for document, sentence in found if len(sentence.split()) > LONGEST], [])
+        self.assertEqual([(document, sentence) for document, sentence in found if len(sentence.split()) > LONGEST], [])
 
 
 def sentences(text):
@@ -187,21 +186,18 @@ class Readme(Case):
     def test_the_file_of_definitions_that_is_shown_is_read(self):
         shown = re.search(r"^    % macros\.tex\n((?:    .*\n)+)", read("docs/TEX.md"), re.M)[0]
         put(self.folder, {"macros.tex": shown})
-        done = self.run_shown("printf '\\\\R' | ./tex2mathml --definitions macros.tex")
-        self.assertEqual((done.returncode, done.stdout.count("<mi>ℝ</mi>".encode())), (0, 1), done)
+        self.expect(self.run_shown("printf '\\\\R' | ./tex2mathml --definitions macros.tex"), stdout=math("<mi>ℝ</mi>") + b"\n")
 
     def test_its_words_are_all_that_there_are(self):
         words = re.findall(r"^\| `latex2mathml (\w+)(?: PATH)?` \|", self.text, re.M)
-        usage = run([program()])
-        self.expect(usage, status=2, stdout=b"", stderr=None)
-        self.assertEqual(sorted(words), sorted(re.findall(r"\b(inline|block|document|html)\b", usage.stderr.decode())))
+        self.expect(run([program()]), status=2, stdout=b"", stderr=USAGE)
+        self.assertEqual(sorted(words), sorted(re.findall(r"\b(inline|block|document|html)\b", USAGE.decode())))
 
     def test_its_statuses(self):
-        self.assertIn("the status is 1", self.text)
-        self.assertIn("0 on success and 2 where the arguments are wrong", self.text)
-        self.expect(run([program(), "inline"], stdin=b"x"), stdout=None)
-        self.expect(run([program(), "inline"], stdin=b"{"), status=1, stdout=b"", stderr=None)
-        self.expect(run([program(), "wrong"]), status=2, stdout=b"", stderr=None)
+        for said in ("the status is 1", "0 on success and 2 where the arguments are wrong"):
+            self.assertIn(said, self.text)
+        for word, given, status, stdout in (("inline", b"x", 0, None), ("inline", b"{", 1, b""), ("wrong", b"", 2, b"")):
+            self.expect(run([program(), word], stdin=given), status, stdout, None if status else b"")
 
     def test_its_status_of_files(self):
         self.assertIn("converts the others, and then has status 1", " ".join(self.text.split()))
@@ -239,9 +235,8 @@ class Language(Case):
         """The definition of a fault's text is in quotation marks, with the number of bytes between two of them."""
         texts = {"List" if name == "Unlisted" else name: "N".join(re.findall(r'codes "([^"]*)"', text)) for name, text
                  in re.findall(r"^fault_text \(?(\w+).*? = (.*)", read("crates/latex2mathml/specs/Faults.antt"), re.M)}
-        texts["Refused"] = "the text of the refusal"
         said = rows(read("docs/LANGUAGE.md"), "Fault", "When", "Text")
-        self.assertEqual({fault.strip("`"): text.strip("`") for fault, _, text in said}, texts)
+        self.assertEqual({fault.strip("`"): text.strip("`") for fault, _, text in said}, texts | {"Refused": "the text of the refusal"})
 
 
 class Sources(Case):
@@ -317,8 +312,7 @@ class Integrations(Case):
 
     def test_licences(self):
         """Each package that people take out of the repository has its licence."""
-        for folder in ("integrations/node", "integrations/rust"):
-            self.assertEqual(read(f"{folder}/LICENSE"), read("LICENSE"), folder)
+        self.assertEqual({read(f"integrations/{it}/LICENSE") for it in ("node", "rust")}, {read("LICENSE")})
 
 
 class Figures(Case):
@@ -328,8 +322,7 @@ class Figures(Case):
         self.text = read("README.md")
         self.counted = {name.strip(): int(count.replace(",", "")) for count, name in self.lines("bench/instructions.txt")}
 
-    @staticmethod
-    def lines(name):
+    def lines(self, name):
         """The lines of a file of counts: a count, and what it is of."""
         return [line.split("  ", 1) for line in read(name).splitlines()]
 

@@ -30,13 +30,11 @@ RUNS = {
         (b"x\0{\0y", b"mathml\n%s\0error\n{ is not closed at 0\0mathml\n%s\0" % (X, math("<mi>y</mi>")))]),
 }
 
-# an error of the device, an interruption, and a call that would have to wait
+# error numbers: of the device, of an interruption, and of a call that would have to wait; 0 takes nothing
 READ_ERRORS = {"an error": 5, "an interruption": 4, "a wait": 11}
-# a full device, an interruption, a closed pipe, an error of the device, and nothing taken
 WRITE_ERRORS = {"a full device": 28, "an interruption": 4, "a closed pipe": 32, "an error": 5, "nothing": 0}
 
-# the bytes that the program requests at a time
-ROOM = 4096
+ROOM = 4096  # the bytes that the program requests at a time
 
 WORDS = ("inline", "block", "document")
 NO_INPUT = error(UNREAD)
@@ -46,15 +44,14 @@ def stop_message(count):
     return error(STOPPED.format(count))
 
 
+@support.requires("cc")
 class Streams(faulty.OneByteAtATime):
     def run_with(self, word, stdin, **told):
         return faulty.run_with([faulty.program(), word], stdin=stdin, **told)[0]
 
 
-@support.requires("cc")
 class Inputs(Streams):
-    @support.each_row({f"{word} {name} at each read": (word, number)
-                       for word in RUNS for name, number in READ_ERRORS.items()})
+    @support.each_row({f"{word} {name} at each read": (word, number) for word in RUNS for name, number in READ_ERRORS.items()})
     def fails_at_each_read(self, word, number):
         """One byte per call, and each call in turn fails, including the one that would report the end. Nothing after it is read."""
         (program, told), words, pairs = RUNS[word]
@@ -68,7 +65,6 @@ NO_TEXTS = {"a beginning": b"$\xc3", "a surrogate": b"\xed\xa0\x80", "no byte of
             "before a formula": b"\xc3$x$"}
 
 
-@support.requires("cc")
 class NoText(Streams):
     """Each reports that the bytes are not UTF-8, however they arrive."""
 
@@ -81,10 +77,9 @@ class NoText(Streams):
 AROUND = range(ROOM - 4, ROOM + 1)
 
 
-class AroundTheRoom(Streams):
+class AroundTheRoom(support.Case):
     """A character of four bytes that begins before the end of what the first call gives, at that end, or after it; then the text
-    ends, or has ended within the character.
-    """
+    ends, or has ended within the character."""
 
     @support.each_row({f"document behind {before}": (before,) for before in AROUND})
     def document(self, before):
@@ -103,10 +98,8 @@ class AroundTheRoom(Streams):
         self.expect(support.run([faulty.program(), word], stdin=given), 1, b"", error(NO_TEXT))
 
 
-@support.requires("cc")
 class Outputs(Streams):
-    @support.each_row({f"{word} {name} at each write": (word, number)
-                       for word in RUNS for name, number in WRITE_ERRORS.items()})
+    @support.each_row({f"{word} {name} at each write": (word, number) for word in RUNS for name, number in WRITE_ERRORS.items()})
     def stops_at_each_write(self, word, number):
         """One byte per call, and each call in turn fails, or takes nothing if the error is 0. Nothing after it is written."""
         (program, told), words, pairs = RUNS[word]
@@ -120,7 +113,6 @@ def ends(due):
     return 0, 1, 9, len(due) // 2, len(due) - 1, len(due), len(due) + 41
 
 
-@support.requires("cc")
 class Errors(Streams):
     """Standard error takes one byte per call and stops after some bytes. It then has the first bytes of what is expected, and
     nothing else changes."""
@@ -165,7 +157,7 @@ class Errors(Streams):
                 self.assertEqual((self.folder / "a.html").read_bytes(), X)
 
 
-class Pipes(Streams):
+class Pipes(support.Case):
     @support.each_row({**{word: (word, False) for word in WORDS}, "signal": ("inline", True)})
     def nobody_reads(self, word, is_default):
         """The reader closes its end before anything is written. The program gets an error, and no signal ends it, even
@@ -178,10 +170,8 @@ class Pipes(Streams):
 
     def test_reader_goes(self):
         """The reader closes its end while there is more to write than a pipe holds."""
-        given = b"z" * 1_000_000
-        pipes = {"stdout": subprocess.PIPE, "stderr": subprocess.PIPE}
-        words = [faulty.program(), "document"]
-        with open_input(given) as source, subprocess.Popen(words, stdin=source, **pipes) as running:
+        given, pipes = b"z" * 1_000_000, {"stdout": subprocess.PIPE, "stderr": subprocess.PIPE}
+        with open_input(given) as source, subprocess.Popen([faulty.program(), "document"], stdin=source, **pipes) as running:
             first = running.stdout.read(1)
             running.stdout.close()
             errors = running.stderr.read()
@@ -196,7 +186,7 @@ FULL = pathlib.Path("/dev/full")
 
 
 @unittest.skipUnless(FULL.is_char_device(), f"{FULL} not found")
-class FullDevice(Streams):
+class FullDevice(support.Case):
     @support.each_row({"inline": ("inline",), "document": ("document",)})
     def is_full(self, word):
         with open(FULL, "wb") as output:
@@ -209,7 +199,6 @@ class FullDevice(Streams):
         self.expect(done, 1, b"", None)
 
 
-@support.requires("cc")
 class Readings(Streams):
     """How often a program reads: two calls for a short input, one of which reports the end, and one more for each full buffer. A
     result is written by one call, if the system takes it completely."""

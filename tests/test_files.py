@@ -18,40 +18,35 @@ class Walks(support.Case):
         self.folder.chmod(0o755)
         self.site = self.folder / "site"
 
-    def anew(self):
+    def anew(self, names=FILES, text=b"$x$"):
         shutil.rmtree(self.site, ignore_errors=True)
-        support.put(self.site, dict.fromkeys(FILES, b"$x$"))
+        support.put(self.site, dict.fromkeys(names, text))
 
     def html(self, **told):
         return faulty.run_with([faulty.program(), "html", self.site], **told)
 
     def holds(self, done, faults=(), held=()):
-        """Checks the status, the lines (each has a path below the site, and a fault), and the contents of the files.
-
-        Files that `held` does not name contain the answer for their place.
-        """
+        """Checks the status, the lines (each has a path below the site, and a fault), and the contents of the files. Those that `held`
+        does not name contain the answer for their place."""
         lines = b"".join(error(f"{self.site}{path}: {fault}") for path, fault in faults)
-        self.expect(done, 1 if faults else 0, b"", lines)
-        held = dict(held)
-        due = {file: held.get(file, X) for file in [*FILES, *held] if file in held or (self.site / file).is_file()}
+        self.expect(done, int(bool(faults)), b"", lines)
+        due = {file: X for file in FILES if (self.site / file).is_file()} | dict(held)
         self.assertEqual({file: (self.site / file).read_bytes() for file in due}, due)
+
+
+def opened(file):
+    return [(f"/{file}", fault, [file]) for fault in (UNREAD, NOT_CREATED)]
 
 
 # For each kind the calls that a walk makes, in order: the path and the fault that are reported if it fails, if any are, and the
 # files that then keep their contents.
 CALLS = {
-    "open": [
-        ("", UNLISTED, FILES),
-        ("/a.html", UNREAD, ["a.html"]), ("/a.html", NOT_CREATED, ["a.html"]),
-        ("/m", UNLISTED, ["m/b.html", "m/c.html"]),
-        ("/m/b.html", UNREAD, ["m/b.html"]), ("/m/b.html", NOT_CREATED, ["m/b.html"]),
-        ("/m/c.html", UNREAD, ["m/c.html"]), ("/m/c.html", NOT_CREATED, ["m/c.html"]),
-        ("/z.html", UNREAD, ["z.html"]), ("/z.html", NOT_CREATED, ["z.html"]),
-    ],
+    # a folder once, and a file twice
+    "open": [("", UNLISTED, FILES), *opened("a.html"), ("/m", UNLISTED, FILES[1:3]), *opened("m/b.html"), *opened("m/c.html"), *opened("z.html")],
     # the bytes, and the end
     "read": [(f"/{file}", UNREAD, [file]) for file in FILES for _ in range(2)],
     # if the list of entries breaks off, the entries before that point are converted
-    "list": [("", BAD_ENTRY, FILES), ("", BAD_ENTRY, []), ("/m", BAD_ENTRY, ["m/b.html", "m/c.html"]), ("/m", BAD_ENTRY, [])],
+    "list": [("", BAD_ENTRY, FILES), ("", BAD_ENTRY, []), ("/m", BAD_ENTRY, FILES[1:3]), ("/m", BAD_ENTRY, [])],
     # a path about which the system gives no information is left alone
     "look": [(None, None, kept) for kept in (FILES, ["a.html"], FILES[1:3], ["m/b.html"], ["m/c.html"], ["z.html"])],
 }
@@ -61,7 +56,11 @@ ERRORS = {"open": (13, 12, 24), "read": (5, 4), "list": (5,), "look": (13,)}
 
 
 @support.requires("cc")
-class EachCall(Walks):
+class Faulty(Walks):
+    """Walks whose calls fail or are counted."""
+
+
+class EachCall(Faulty):
     """One call fails, and all others are made."""
 
     def test_no_more_calls(self):
@@ -82,8 +81,7 @@ class EachCall(Walks):
         self.holds(done, [(path, fault)] if fault else [], dict.fromkeys(kept, b"$x$"))
 
 
-@support.requires("cc")
-class AllCalls(Walks):
+class AllCalls(Faulty):
     """Each call of a kind fails."""
 
     @support.each_row({
@@ -103,8 +101,7 @@ class AllCalls(Walks):
 STOPS = sorted({0, 1, 2, *range(3, len(X), 7), len(X) - 3, len(X) - 2, len(X) - 1})
 
 
-@support.requires("cc")
-class Writing(Walks):
+class Writing(Faulty):
     """The writing of a file stops: it contains the first bytes of its answer, and all others contain their answers."""
 
     @support.each_row({f"error {number} after {written}": (number, written)
@@ -116,8 +113,7 @@ class Writing(Walks):
         self.holds(done, [("/m/b.html", STOPPED.format(written))], {"m/b.html": X[:written]})
 
 
-@support.requires("cc")
-class Meanwhile(Walks):
+class Meanwhile(Faulty):
     """A command is run before the walk opens a path for the first or the second time."""
 
     @support.each_row({
@@ -173,8 +169,7 @@ class Rights(Walks):
             self.holds(done, [("/z.html", NOT_CREATED)], {"z.html": b"$x$", **dict.fromkeys(kept[:-1], X)})
 
 
-@support.requires("cc")
-class NoFiles(Walks):
+class NoFiles(Faulty):
     """What is neither a file nor a directory is left alone, whatever its name is, and not opened: opening it might never end."""
 
     @support.each_row({"pipe": (os.mkfifo,), "socket": (lambda path: os.mknod(path, stat.S_IFSOCK | 0o600),),
@@ -196,8 +191,7 @@ class NoFiles(Walks):
 
 class Full(Walks):
     """A device is full, or the limit of a file's size is reached, while a file is written: the file contains the first bytes of its
-    answer, as many as the line says, and the walk goes on.
-    """
+    answer, as many as the line says, and the walk goes on."""
     COUNT = 1000
 
     def is_cut(self, done, file):
@@ -246,20 +240,3 @@ class Full(Walks):
             held = file.read_bytes()
             self.expect(support.run([faulty.program(), "html", file]), stdout=b"")
             self.assertEqual(file.read_bytes(), held)
-
-
-class Large(Walks):
-    """Documents of many megabytes are converted like any other."""
-
-    @support.each_row({"2 megabytes": (2 << 20,), "64 megabytes": (64 << 20,)})
-    def is_converted(self, size):
-        prose = b"Let us see what there is. " * (size // 26)
-        support.put(self.site, {"a.html": prose + b"$x$", "b.html": b"$x$"})
-        self.expect(support.run([support.program(), "html", self.site]), 0, b"")
-        self.assertTrue((self.site / "a.html").read_bytes() == prose + X)
-        self.assertEqual((self.site / "b.html").read_bytes(), X)
-
-    def test_many_formulas(self):
-        support.put(self.site, {"a.html": b"$x$" * 700_000})
-        self.expect(support.run([support.program(), "html", self.site]), 0, b"")
-        self.assertTrue((self.site / "a.html").read_bytes() == X * 700_000)

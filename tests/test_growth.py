@@ -12,10 +12,8 @@ from tests.texts import math
 
 pytestmark = pytest.mark.long
 
-# Four times the text takes at most this many times as much.
-MOST_TIMES = 4.1
-# What every run takes, whatever its input.
-OWN_BYTES = 64 << 10
+MOST_TIMES = 4.1  # four times the text takes at most this many times as much
+OWN_BYTES = 64 << 10  # what every run takes, whatever its input
 # What a formula or a document of a few bytes takes: the greatest of them was counted with 2,600 bytes.
 FEW_BYTES = 4 << 10
 # This many requests more than were counted are allowed, because a list may begin with less room. One for each 4,096 bytes is not:
@@ -35,16 +33,11 @@ def rows(name):
     return {key: (int(key in REFUSED), word, of_size(text), int(number)) for _, key, word, text, number in cases.rows(name)}
 
 
-# The formulas of a document, and the result of each.
-FORMULAS = {
-    "$x$": "<mi>x</mi>",
-    "$x^2$": "<msup><mi>x</mi><mn>2</mn></msup>",
-    "$\\frac12$": "<mfrac><mn>1</mn><mn>2</mn></mfrac>",
-}
+# the formulas of a document, and the result of each
+FORMULAS = {"$x$": "<mi>x</mi>", "$x^2$": "<msup><mi>x</mi><mn>2</mn></msup>", "$\\frac12$": "<mfrac><mn>1</mn><mn>2</mn></mfrac>"}
 
 # Those of all these texts that are refused: groups that are still open, and an unknown environment.
 REFUSED = {"open braces", "white space behind open braces", "groups that are still open", "a long name of an environment"}
-
 
 TEXTS = rows("growth.txt") | {"different texts of a group": (0, "inline", different_texts, 20_000)}
 

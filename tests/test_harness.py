@@ -14,6 +14,7 @@ from tests.__main__ import NO_TOOLCHAIN, name_of
 from tests.support import ROOT, SKIP_NOTHING, Case, each_row, hear_signals, processors, put, run
 
 FAKES = ROOT / "tests/fakes/harness"
+TEST = [sys.executable, "-B", "-m", "tests"]
 
 SAMPLES = {
     "test_sample.py": '''
@@ -35,10 +36,10 @@ class Sample(unittest.TestCase):
         self.skipTest("a tool is missing")
 
     def test_skipped_part(self):
-        for number in range(2):
-            with self.subTest(number):
-                if number:
-                    self.skipTest("a tool is missing")
+        with self.subTest(0):
+            pass
+        with self.subTest(1):
+            self.skipTest("a tool is missing")
 
     def test_stops(self):
         with self.subTest("before"):
@@ -113,10 +114,8 @@ class Harness(Case):
         put(self.house / "tests", {self.sample: SAMPLES[self.sample]})
 
     def comes_to(self, passed, failed, *words, before=None, **more):
-        """The output of `./test` with these words. Its last line has these numbers; its status is 1 if something
-        failed."""
-        words = [sys.executable, "-B", "-m", "tests", *words]
-        done = run(words, cwd=self.house, env={**self.environment, **more}, timeout=120, preexec_fn=before)
+        """The output of `./test` with these words. Its last line has these numbers; its status is 1 if something failed."""
+        done = run([*TEST, *words], cwd=self.house, env={**self.environment, **more}, timeout=120, preexec_fn=before)
         shown = (done.stdout + done.stderr).decode()
         self.assertEqual(done.stdout.decode().splitlines()[-1], f"{passed} passed, {failed} failed", shown)
         self.assertEqual(done.returncode, int(failed > 0), shown)
@@ -143,8 +142,7 @@ class Counts(Harness):
                 self.comes_to(passed, 1, f"test_sample.Sample.{case}", **{SKIP_NOTHING: "1"})
 
     def test_a_process_that_ends_before_its_cases(self):
-        shown = self.comes_to(4, 1, "test_sample.Ends", "test_sample.Passes")
-        self.assertIn("FAILED tests/test_sample.py::Ends::test_then\n", shown)
+        self.assertIn("FAILED tests/test_sample.py::Ends::test_then\n", self.comes_to(4, 1, "test_sample.Ends", "test_sample.Passes"))
 
     def test_a_process_that_ends_after_its_cases(self):
         """The rest of its output is then lost."""
@@ -163,12 +161,10 @@ class Counts(Harness):
                 self.comes_to(0, 1, word)
 
     def test_an_interruption_ends_all(self):
-        words = [sys.executable, "-B", "-m", "tests", "test_sample.Hangs.test_it"]
         how = {"cwd": self.house, "env": self.environment, "stdout": subprocess.DEVNULL, "preexec_fn": hear_signals}
         for number in (signal.SIGINT, signal.SIGTERM):
-            with self.subTest(number), subprocess.Popen(words, **how) as running:
-                self.wait_for(self.process.exists)
-                self.wait_for(self.process.read_text)
+            with self.subTest(number), subprocess.Popen([*TEST, "test_sample.Hangs.test_it"], **how) as running:
+                self.wait_for(lambda: self.process.exists() and self.process.read_text())
                 running.send_signal(number)
                 self.assertEqual(running.wait(30), 128 + number)
                 self.wait_for(self.has_ended)
@@ -192,8 +188,7 @@ class Whole(Harness):
         self.assertFalse(self.order.exists())
 
     def test_a_mark_that_is_misspelled(self):
-        path = self.house / "tests/test_order.py"
-        path.write_text(path.read_text().replace("mark.long", "mark.lnog"))
+        put(self.house, {"tests/test_order.py": SAMPLES["test_order.py"].replace("mark.long", "mark.lnog")})
         self.assertIn("'lnog' not found", self.comes_to(0, 1, "test_order"))
 
     def test_nothing_is_tried_over_what_is_not_proved(self):
@@ -217,31 +212,28 @@ class Whole(Harness):
         """One line says what is missing and where to read on, under a heading that exists."""
         for words in ([], ["proofs"]):
             with self.subTest(words):
-                command = [sys.executable, "-B", "-m", "tests", *words]
-                done = run(command, cwd=self.house, env={**self.environment, "PATH": str(self.house)})
+                done = run([*TEST, *words], cwd=self.house, env={**self.environment, "PATH": str(self.house)})
                 self.expect(done, 1, b"", (NO_TOOLCHAIN + "\n").encode())
         self.assertIn("\n## Try it\n", (ROOT / "README.md").read_text(encoding="utf-8"))
 
     def test_a_module_without_a_case(self):
-        (self.house / "tests/test_empty.py").write_text("")
+        put(self.house, {"tests/test_empty.py": ""})
         self.assertIn("FAILED: no case of tests/test_empty.py was tried\n", self.comes_to(7, 1))
 
 
 class Names(Case):
     def test_names(self):
-        for word in ("tests.test_c", "test_c", "tests/test_c.py", "test_c.py"):
-            self.assertEqual(name_of(word), "tests/test_c.py")
-        for word in ("test_c.Deep.test_deep", "tests.test_c.Deep.test_deep", "tests/test_c.py::Deep::test_deep"):
-            self.assertEqual(name_of(word), "tests/test_c.py::Deep::test_deep")
+        self.assertEqual({name_of(it) for it in ("tests.test_c", "test_c", "tests/test_c.py", "test_c.py")}, {"tests/test_c.py"})
+        words = ("test_c.Deep.test_deep", "tests.test_c.Deep.test_deep", "tests/test_c.py::Deep::test_deep")
+        self.assertEqual({name_of(it) for it in words}, {"tests/test_c.py::Deep::test_deep"})
 
     def test_a_line_names_its_case(self):
         first = cases.read("refusals.txt")[0].first.number
         for line in (first, first + 1):
             self.assertEqual(name_of(f"cases/refusals.txt:{line}"), f"tests/test_cases.py::refusals::test_{first}")
-        with self.assertRaisesRegex(cases.WrongCase, f"refusals.txt:{first + 2}: no case has this line"):
-            name_of(f"cases/refusals.txt:{first + 2}")
-        with self.assertRaisesRegex(cases.WrongCase, "no such file"):
-            name_of("cases/none.txt:1")
+        for word, told in ((f"cases/refusals.txt:{first + 2}", "no case has this line"), ("cases/none.txt:1", "cases/ has no such file")):
+            with self.assertRaisesRegex(cases.WrongCase, f"^{word}: {told}$"):
+                name_of(word)
 
     def test_processors(self):
         """The quota of a container counts if it is smaller than what is visible."""
@@ -250,8 +242,7 @@ class Names(Case):
             with self.subTest(text), unittest.mock.patch("tests.support.QUOTA", quota), \
                     unittest.mock.patch("os.sched_getaffinity", return_value=set(range(8))):
                 quota.unlink(missing_ok=True)
-                if text is not None:
-                    quota.write_text(text)
+                put(self.folder, {"cpu.max": text} if text is not None else {})
                 self.assertEqual(processors(), count)
 
 

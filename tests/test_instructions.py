@@ -26,26 +26,24 @@ class Figures(support.Case):
 
 
 class Counted(support.Case):
-    def compare(self, counted, due, script, file):
+    def compare(self, counted, name, script, file):
+        due = script.figures()[name]
         change = f"{counted:,.0f} instructions, and {due:,} stand in bench/{file}: {counted / due:.3f} times as many"
-        self.assertLessEqual(abs(counted - due), MARGIN * due, f"{change}; bench/{script} --renew takes the new ones")
+        self.assertLessEqual(abs(counted - due), MARGIN * due, f"{change}; bench/{script.__name__}.py --renew takes the new ones")
 
 
 @support.requires("valgrind")
 class Instructions(Counted):
-    @support.each_row({str(number): (name,) for number, name in enumerate(LOADS)})
-    def judge(self, name):
-        word, text = LOADS[name]
-        counted = measure.count_instructions([support.program()], word, text)
-        self.compare(counted, measure.figures()[name], "measure.py", "instructions.txt")
+    @support.each_row({str(number): row for number, row in enumerate(LOADS.items())})
+    def judge(self, name, load):
+        self.compare(measure.count_instructions([support.program()], *load), name, measure, "instructions.txt")
 
 
 @support.requires("valgrind")
 class TexInstructions(Counted):
-    @support.each_row({str(number): (name,) for number, name in enumerate(TEX_LOADS)})
-    def judge(self, name):
-        counted = measure.count_tex(support.tex_program(), TEX_LOADS[name])
-        self.compare(counted, measure.figures()[name], "measure.py", "instructions.txt")
+    @support.each_row({str(number): row for number, row in enumerate(TEX_LOADS.items())})
+    def judge(self, name, text):
+        self.compare(measure.count_tex(support.tex_program(), text), name, measure, "instructions.txt")
 
 
 @support.requires("cc", "valgrind")
@@ -58,4 +56,4 @@ class Calls(Counted):
 
     @support.each_row({str(number): (latex,) for number, latex in enumerate(calls.FORMULAS)})
     def judge(self, latex):
-        self.compare(calls.a_call(self.caller, latex), calls.figures()[latex], "calls.py", "calls.txt")
+        self.compare(calls.a_call(self.caller, latex), latex, calls, "calls.txt")

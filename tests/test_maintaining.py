@@ -75,8 +75,8 @@ class Pages(unittest.TestCase):
         self.none_is_missing([(crate, name) for names, crate in found for name in CODE.findall(names)], lambda it: has(*it), least=20)
 
     def test_each_module_is_there(self):
-        self.none_is_missing(re.findall(r"`([a-z_]+(?:::[a-z_]+)+)`", ARCHITECTURE),
-                             lambda it: any(module(crate, it).exists() for crate in crates()))
+        named = re.findall(r"`([a-z_]+(?:::[a-z_]+)+)`", ARCHITECTURE)
+        self.none_is_missing(named, lambda it: any(module(crate, it).exists() for crate in crates()))
 
     def test_the_closed_definitions_are_closed(self):
         [rows] = [rows for head, rows in tables(section(ARCHITECTURE, "What is proved where")) if head[0] == "Closed definition"]
@@ -97,9 +97,8 @@ class Pages(unittest.TestCase):
 
 
 class Sources(unittest.TestCase):
-    """ARCHITECTURE names only some files. So each file of code, of definitions and of lemmas says at its head what it is."""
-
     def test_each_says_what_it_is(self):
+        """ARCHITECTURE names only some files. So each file of code, of definitions and of lemmas says at its head what it is."""
         for pattern, begins in (("src/**/*.rt", "//! "), ("specs/*.antt", "-- "), ("proofs/*.antt", "-- ")):
             files = [it for it in CRATES.glob(f"*/{pattern}") if it.name != "Lib.antt"]
             self.assertTrue(files)

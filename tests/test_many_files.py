@@ -1,6 +1,5 @@
 """Folders of many files: whether all are converted, and what a walk costs for each file and each name."""
 import os
-import shutil
 
 from tests import faulty, support
 from tests.instructions import instructions
@@ -12,9 +11,8 @@ class Folders(Walks):
     """Folders with a given number of files and folders."""
 
     def make(self, files, folders=0, text=b"$x$"):
-        shutil.rmtree(self.site, ignore_errors=True)
-        support.put(self.site, {f"{number}.html": text for number in range(files)})
-        support.put(self.site, {f"folder{number}/a.html": text for number in range(folders)})
+        names = [*(f"{number}.html" for number in range(files)), *(f"folder{number}/a.html" for number in range(folders))]
+        self.anew(names, text)
 
 
 class Many(Folders):
@@ -60,10 +58,8 @@ class Many(Folders):
 # The contents of a file, and how often a walk asks for memory for it. The formulas of a file share the room for their parts: so 20
 # of them need only 5 more requests than one, because the answer is longer.
 EACH_FILE = {b"$x$": 8, b"$x^2$": 11, b"$x^2$" * 20: 16, b"$\\frac12$" * 20: 16, b"no sign": 6, b"$$$": 10}
-# the names of a folder, and what was not converted: a list asks once more where it doubles
-MOST_DOUBLINGS = 6
-# a name of a folder: a block of memory for its text, and places in the list of names and in the room for sorting
-BYTES_OF_A_NAME = 128
+MOST_DOUBLINGS = 6  # the names of a folder, and what was not converted: a list asks once more where it doubles
+BYTES_OF_A_NAME = 128  # a block of memory for its text, and places in the list of names and in the room for sorting
 
 
 @support.requires("cc")
@@ -120,9 +116,8 @@ class Instructions(Folders):
 
     @support.each_row({"converted": (b"$x$",), "unchanged": (b"no sign",), "refused": (b"$$$", 1)})
     def judge(self, text, status=0):
-        counted = []
-        for files in (200, 1_000):
-            self.make(files, text=text)
-            counted.append(instructions([support.program(), "html", self.site], status=status))
-        few, many = counted
+        self.make(200, text=text)
+        few = instructions([support.program(), "html", self.site], status=status)
+        self.make(1_000, text=text)
+        many = instructions([support.program(), "html", self.site], status=status)
         self.assertLessEqual(many, 5.5 * few, f"{few:,} for 200 files, {many:,} for 1,000")

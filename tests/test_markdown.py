@@ -12,7 +12,7 @@ import pytest
 
 from tests.cases import by_heading
 from tests.environments import environment, proved, requires_python, run_python
-from tests.runs import Runs, runs_of
+from tests.runs import Runs
 from tests.support import ROOT, Case, each_row, limit, requires
 
 pytestmark = pytest.mark.long
@@ -20,12 +20,8 @@ pytestmark = pytest.mark.long
 OPEN = "{ is not closed at column 1"
 
 # with which other extensions the cases under a heading are read, if with any
-EXTENSIONS = {
-    "code": [["fenced_code"]],
-    "fences": [[], ["fenced_code"], ["extra", "codehilite"]],
-    "fences around fences": [["fenced_code"]],
-    "other extensions": [["extra", "toc"]],
-}
+EXTENSIONS = {"code": [["fenced_code"]], "fences": [[], ["fenced_code"], ["extra", "codehilite"]],
+              "fences around fences": [["fenced_code"]], "other extensions": [["extra", "toc"]]}
 
 
 def markdown():
@@ -82,26 +78,22 @@ def letters_of(page):
     # `codehilite` puts an element around code
     page = re.sub('<div class="codehilite">(.*?)</div>', r"\1", page.replace("<span></span>", ""), flags=re.DOTALL)
     page = re.sub(r'<(span|p) class="math">(.*?)</\1>', r"\2", page, flags=re.DOTALL)
-    page = re.sub(r'<math [^>]*display="inline">(.*?)</math>', lambda math: f"[{letters(math[1])}]", page)
-    return re.sub(r'<math [^>]*display="block">(.*?)</math>', lambda math: f"[[{letters(math[1])}]]", page)
-
-
-def letters(markup):
-    return re.sub(r"<[^>]*>", "", markup)
+    page = re.sub(r'<math [^>]*display="block">(.*?)</math>', r"[\g<0>]", page)
+    return re.sub(r"<math .*?</math>", lambda math: "[{}]".format(re.sub("<[^>]*>", "", math[0])), page)
 
 
 @requires_python()
 @requires("python:markdown")
 class Formulas(Case):
     @each_row({name: (name, *row) for name, row in by_heading("markdown.txt").items()})
-    def are_converted(self, name, cases):
+    def are_converted(self, name, *cases):
         for others in EXTENSIONS.get(name, [[]]):
             for case in cases:
                 with self.subTest(case.place, others=others):
                     self.assertEqual(letters_of(convert(case.input.decode(), others)[0]), case.answer.decode())
 
     @each_row(by_heading("markdown_slow.txt"))
-    def are_found(self, cases):
+    def are_found(self, *cases):
         """Before the process that looks for them is ended."""
         for case, (page, said) in zip(cases, convert_apart(*(it.input.decode() for it in cases)), strict=True):
             with self.subTest(case.place):
@@ -111,15 +103,13 @@ class Formulas(Case):
         """Four times the text takes four times as many, even if its formulas are refused, or follow backslashes."""
         for pieces in (["${x$\n\n"], ["\\\\ ", "$a$ "]):
             with self.subTest(pieces):
-                texts = ["".join(piece * count for piece in pieces) for count in (100, 400)]
                 # the first conversion also loads the extension
-                _, few, many = map(calls_of, ["${x$", *texts])
+                _, few, many = map(calls_of, ["${x$", *("".join(piece * count for piece in pieces) for count in (100, 400))])
                 self.assertLessEqual(many, 4.1 * few, f"{few:,} for 100 pieces")
 
     def test_lines_of_white_space(self):
         """The line of a formula with no-break spaces is found, and quickly if there are lines of spaces elsewhere."""
-        spaces, formula = "$$\n" + "    \n" * 30 + "x\n\n", "$$\n" + "\u00a0\n" * 30 + "{b\n$$"
-        [[_, [said]]] = convert_apart(spaces + formula)
+        [[_, [said]]] = convert_apart("$$\n" + "    \n" * 30 + "x\n\n$$\n" + "\u00a0\n" * 30 + "{b\n$$")
         self.assertEqual(said, f"latex2mathml: line 65: {{b: {OPEN}")
 
     def test_lines_of_formulas_that_are_written_alike(self):
@@ -130,8 +120,7 @@ class Formulas(Case):
         """Four times the text takes four times as long, whether or not its formulas are written alike."""
         for source in ("${{x$", "${{x{}$"):
             with self.subTest(source):
-                texts = [[source.format(number) for number in range(count)] for count in (500, 2000)]
-                few, many = map(seconds_for_lines, texts)
+                few, many = (seconds_for_lines([source.format(number) for number in range(count)]) for count in (500, 2000))
                 self.assertLess(many, 8 * few, f"{few} s for 500 formulas")
 
     def test_by_the_name_of_the_module(self):
@@ -163,11 +152,7 @@ class Formulas(Case):
 
 
 @requires_python("markdown")
-class Pages(Runs):
-    @each_row(runs_of("markdown.txt"))
-    def are_made(self, runs):
-        self.do_each(runs)
-
+class Pages(Runs, file="markdown.txt"):
     def test_example(self):
         """The example of the package is converted without a warning."""
         folder = self.folder / "out"

@@ -31,18 +31,15 @@ CONVERTED = {
     "a converter that has done little": ("x", TEX, b"answer: " + X, OF_TEX),
     "a converter that has done the same": (TEX, TEX, OF_TEX, OF_TEX),
     "a converter that has refused": (r"x_i \foo", TEX, b"refusal: unknown command \\foo at 4", OF_TEX),
-    "a converter that is to refuse": (
-        "x", r"\frac{x_i}{y \foo}", b"answer: " + X, b"refusal: unknown command \\foo at 13"),
+    "a converter that is to refuse": ("x", r"\frac{x_i}{y \foo}", b"answer: " + X, b"refusal: unknown command \\foo at 13"),
 }
 
 # How often a converter that has done the same before asks for memory: only for its answer, whose room grows.
 FOR_THE_ANSWER = 4
 
 # an argument of the program, its input, and its status and streams
-RUNS = cases.runs() | {
-    "each rule": ("block", RULES.encode(), 0, math(OF_RULES, "block") + b"\n", b""),
-    "a wrong word": ("inlines", b"x", 2, b"", USAGE),
-}
+RUNS = {**cases.runs(), "each rule": ("block", RULES.encode(), 0, math(OF_RULES, "block") + b"\n", b""),
+        "a wrong word": ("inlines", b"x", 2, b"", USAGE)}
 
 # the definitions of its own run
 MACROS = support.ROOT / "crates/latex2mathml_tex_app/data/macros.tex"
@@ -96,9 +93,8 @@ class Refused(support.Case):
         counts = self.folder / "counts"
         for number in itertools.count(1):
             before()
-            fault = way(number)
-            done, failed = faulty.run_with(words, fault=fault, marked=marked, stdin=stdin, counts=counts)
-            with self.subTest(refused=str(fault) if failed else "none"):
+            done, failed = faulty.run_with(words, fault=way(number), marked=marked, stdin=stdin, counts=counts)
+            with self.subTest(refused=str(way(number)) if failed else "none"):
                 judge(done, bool(failed))
                 self.assertEqual(faulty.counts_in(counts)["held"], 0, "blocks of memory that were not freed")
             if not failed:
@@ -141,8 +137,7 @@ class Library(Refused):
             self.expect(done, 0, None)
             is_wanting = done.stdout == f"refusal: {NOT_COPIED}\n".encode()
             folder.judge(self, b"" if is_wanting else done.stdout, is_refused, way is one, is_wanting)
-        words = [support.build("latex2mathml_single_calls"), "convert_html", folder.path]
-        self.in_turn(words, way, judge, marked=True, before=folder.fill)
+        self.in_turn([support.build("latex2mathml_single_calls"), "convert_html", folder.path], way, judge, marked=True, before=folder.fill)
 
 
 class Served(Refused):
@@ -199,7 +194,6 @@ class Program(Served):
 class TexProgram(Served):
     @support.each_row(in_each_way(TEX_RUNS))
     def run_in_turn(self, words, text, way):
-        given = text if isinstance(text, bytes) else text.encode()
-        command = [support.tex_program(), *words]
+        command, given = [support.tex_program(), *words], text if isinstance(text, bytes) else text.encode()
         due = support.run(command, stdin=given)
         self.serve(command, given, way, (due.returncode, due.stdout, due.stderr), TEX_LINES)

@@ -18,12 +18,9 @@ pytestmark = pytest.mark.long
 TESTS = ROOT / "tests/node"
 PACKAGES = pathlib.Path("/usr/share/nodejs")  # Debian's
 HEADERS = pathlib.Path("/usr/include/node" if pathlib.Path("/usr/include/node").exists() else "/usr/local/include/node")
-
-
-def node_gyp():
-    """The script of node-gyp, if there is one. npm has it even if it is not a command."""
-    places = ["/usr/lib/node_modules/npm/node_modules/node-gyp/bin/node-gyp.js", PACKAGES / "node-gyp/bin/node-gyp.js"]
-    return next((place for place in map(pathlib.Path, places) if place.exists()), None)
+# scripts of node-gyp: npm has it even if it is not a command
+NODE_GYP = [it for it in (pathlib.Path("/usr/lib/node_modules/npm/node_modules/node-gyp/bin/node-gyp.js"), PACKAGES / "node-gyp/bin/node-gyp.js")
+            if it.exists()]
 
 
 class Package(Case):
@@ -48,9 +45,8 @@ class Package(Case):
     def node(self, *words, package=None, **more):
         """Runs Node, which finds the package, and those of Debian, by their names."""
         modules = (package or self.package).parent / "node_modules"
-        environment = {**os.environ, "NODE_PATH": f"{modules}:{PACKAGES}", "LATEX2MATHML": str(program()),
-                       "TEX2MATHML": str(tex_program())}
-        return run(["node", *words], env=environment, **more)
+        told = {"NODE_PATH": f"{modules}:{PACKAGES}", "LATEX2MATHML": str(program()), "TEX2MATHML": str(tex_program())}
+        return run(["node", *words], env={**os.environ, **told}, **more)
 
     def run_tests(self, file):
         """Runs a file of tests by Node's own runner. Each of its tests counts as a case."""
@@ -121,24 +117,25 @@ class Calls(Package):
             (headers / "node_api.h").write_text(f'#pragma message "from elsewhere"\n#include "{HEADERS}/node_api.h"\n')
             self.expect(run([built / "make-addon"], env=environment), stderr=Has(b"from elsewhere"))
 
-    @unittest.skipUnless(node_gyp(), "node-gyp not found")
+    @unittest.skipUnless(NODE_GYP, "node-gyp not found")
     def test_node_gyp(self):
         built = self.copy("gyp")
-        done = run(["node", node_gyp(), "rebuild", f"--nodedir={HEADERS.parents[1]}"], cwd=built, timeout=300)
+        done = run(["node", NODE_GYP[0], "rebuild", f"--nodedir={HEADERS.parents[1]}"], cwd=built, timeout=300)
         self.assertEqual(done.returncode, 0, done.stderr.decode())
-        done = self.node("-p", "require('latex2mathml-proved').formula('x')", package=built)
-        self.expect(done, stdout=answer_of("x").encode() + b"\n")
+        self.expect(self.node("-p", "require('latex2mathml-proved').formula('x')", package=built), stdout=answer_of("x").encode() + b"\n")
 
     def test_files_that_the_package_names(self):
         said = json.loads((self.package / "package.json").read_text())
         files = [said["main"], said["types"], *(file for entry in said["exports"].values() for file in entry.values())]
         self.assertEqual([file for file in files if not (self.package / file).is_file()], [])
 
+    def npm(self, *words, cwd):
+        return run(["npm", *words], cwd=cwd, env={**os.environ, "npm_config_cache": str(self.folder / "npm-cache")}, timeout=300)
+
     def install(self, project, package):
         """Installs a folder or a file with npm into an empty project, without a network, and uses it there."""
         project.mkdir()
-        words = ["npm", "install", "--offline", "--no-audit", "--no-fund", package]
-        done = run(words, cwd=project, env={**os.environ, "npm_config_cache": str(self.folder / "npm-cache")}, timeout=300)
+        done = self.npm("install", "--offline", "--no-audit", "--no-fund", package, cwd=project)
         self.assertEqual(done.returncode, 0, done.stderr.decode())
         for call, answer in (("tex('x_i^2')", tex_answer_of("x_i^2")), ("formula('x')", answer_of("x"))):
             done = run(["node", "-p", f"require('latex2mathml-proved').{call}"], cwd=project)
@@ -156,10 +153,9 @@ class Calls(Package):
     def test_npm_from_a_file(self):
         """What `npm pack` makes has everything that the package needs, and its licence."""
         package = self.copy("packed")
-        packed = run(["npm", "pack", "--silent"], cwd=package, env={**os.environ, "npm_config_cache": str(self.folder / "npm-cache")})
+        packed = self.npm("pack", "--silent", cwd=package)
         self.expect(packed, stdout=None)
-        file = package / packed.stdout.decode().strip()
-        self.install(self.folder / "other-project", file)
+        self.install(self.folder / "other-project", package / packed.stdout.decode().strip())
         installed = self.folder / "other-project/node_modules/latex2mathml-proved"
         self.assertEqual((installed / "LICENSE").read_bytes(), (ROOT / "LICENSE").read_bytes())
         self.assertFalse(installed.is_symlink())
@@ -174,18 +170,11 @@ class MarkdownIt(Package):
     def test_the_plugin(self):
         self.run_tests("markdown-it.test.cjs")
 
-    def test_texts_that_are_slow_to_read(self):
-        def render(source):
-            self.expect(self.node(TESTS / "render.cjs", stdin=source.encode(), preexec_fn=limit(CPU=30), timeout=300))
-
-        for source in ("$a$ $$ $ [ ", "$a$\n", "$$\n", "$$\na\n", "$ ", "\\$", "`$", "- $$\n", "> $$ ", "\\(", "\\[ ", "\\[\n", "\\[\na\n",
-                       "- \\[\n", "> \\( ", "[\\( ", "\\(\\[", "\\`\\( ", "```math\n"):
-            with self.subTest(source):
-                render(source * 20_000)
-        render("$$\n" + "a\n" * 50_000)
-        render("$" + "a " * 50_000)
-        render("\\[\n" * 20_000 + "`\n\\]")
-        render("\\( " * 20_000 + "` \\)")
+    @each_row(rows_of_lines("markdown_it_slow.txt"))
+    def are_read(self, *texts):
+        for text, in texts:
+            with self.subTest(text.place):
+                self.expect(self.node(TESTS / "render.cjs", stdin=text.expand(), preexec_fn=limit(CPU=30), timeout=300))
 
     @requires("tsc")
     def test_declarations(self):

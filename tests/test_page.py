@@ -1,6 +1,8 @@
 """What a page contains, and what a browser draws, after the files of page/ have corrected it."""
+import functools
 import html
 import http.server
+import itertools
 import json
 import queue
 import re
@@ -15,10 +17,8 @@ PAGES = support.ROOT / "tests/page"
 
 # The width of the window of a page, if it is not 1,000 pixels.
 WIDTHS = {"narrow.html": 320}
-
 # The seconds that a browser may take to start and to check a page. They are many, since only a browser that hangs reaches them.
 LONGEST = 300
-
 TALL = r"\frac{\frac{a}{b}}{\frac{c}{d}}"
 
 
@@ -54,27 +54,19 @@ def judge(words_of, site, pages):
             verdicts = {}
             while len(verdicts) < len(pages):
                 try:
-                    page, verdict = server.sent.get(timeout=LONGEST)
+                    verdicts.update([server.sent.get(timeout=LONGEST)])
                 except queue.Empty:
                     said = (home / "said").read_text(errors="replace")[-1000:]
                     missing = ", ".join(sorted(set(pages) - set(verdicts)))
                     raise AssertionError(f"in {LONGEST} s nothing was judged of {missing}; the browser said: {said}") from None
-                verdicts[page] = verdict
         server.shutdown()
     return verdicts
 
 
-# The classes of TeX: a member of each, and a sign of it between two others, with all spaces written out.
-CLASSES = {
-    "ordinary": ("c", r"a {} \: - \: b"),
-    "operator": (r"\sum", r"a \, {} \, - b"),
-    "binary": ("+", r"a \: {} \: - b"),
-    "relation": ("=", r"a \; {} \; - b"),
-    "opening": ("(", r"a {} - b"),
-    "closing": (")", r"a {} \: - \: b"),
-    "punctuation": (",", r"a {{}} {} \, - b"),
-    "inner": (r"\ldots", r"a \, {} \: - \: b"),
-}
+# the classes of TeX, with a member of each
+CLASSES = {"ordinary": "c", "operator": r"\sum", "binary": "+", "relation": "=", "opening": "(", "closing": ")", "punctuation": ",",
+           "inner": r"\ldots"}
+COMMANDS = {"0": "", "1": r"\,", "2": r"\:", "3": r"\;"}
 
 
 def spaces():
@@ -84,40 +76,34 @@ def spaces():
 
 def classes():
     """The cases of classes.txt, each sign between two letters: as for `spaces`."""
-    lines = "\n".join(line for line in data("classes.txt") if line and not line.startswith("# ")).replace("\n ", " ").splitlines()
-    return [(f"{kind} {sign}", f"$a {sign} - b$", f"${CLASSES[kind][1].format(sign)}$")
-            for kind, *signs in map(str.split, lines) for sign in signs]
-
-
-COMMANDS = {"0": "", "1": r"\,", "2": r"\:", "3": r"\;"}
+    lines = "\n".join(lines_of("classes.txt")).replace("\n ", " ").splitlines()
+    for kind, sign in ((kind, sign) for kind, *signs in map(str.split, lines) for sign in signs):
+        first = "a {}" if kind == "punctuation" else "a"
+        yield f"{kind} {sign}", f"$a {sign} - b$", f"${write_out(('ordinary', kind, 'binary', 'ordinary'), (first, sign, '-', 'b'))}$"
 
 
 def cells():
     """A case for each cell of table.txt in a line and in a script: two neighbours between two letters. As for `spaces`."""
-    between, cases = spaces_between(), []
-    for left, right in between:
+    for left, right in spaces_between():
         row = ["ordinary", left, right, "ordinary"]
-        plain = " ".join(CLASSES[kind][0] for kind in row)
-        name = f"table.txt: {left} before {right}"
-        cases.append((name, f"${plain}$", f"${write_out(row, between, in_script=False)}$"))
-        cases.append((f"{name}, in a script", f"$x^{{{plain}}}$", f"$x^{{{write_out(row, between, in_script=True)}}}$"))
-    return cases
+        signs, name = [CLASSES[kind] for kind in row], f"table.txt: {left} before {right}"
+        yield name, f"${' '.join(signs)}$", f"${write_out(row, signs)}$"
+        yield f"{name}, in a script", f"$x^{{{' '.join(signs)}}}$", f"$x^{{{write_out(row, signs, in_script=True)}}}$"
 
 
+@functools.cache
 def spaces_between():
     """The cells of table.txt, by the classes of both neighbours."""
-    (*columns,), *rows = [line.split() for line in data("table.txt") if line and not line.startswith("# ")]
+    columns, *rows = map(str.split, lines_of("table.txt"))
     return {(left, right): cell for left, *row in rows for right, cell in zip(columns, row, strict=True)}
 
 
-def write_out(row, between, in_script):
-    """A formula of a member of each class, with TeX's spaces."""
-    classes = settle(row)
-    written = CLASSES[row[0]][0]
-    for kind, left, right in zip(row[1:], classes, classes[1:]):
-        cell = between[left, right]
-        space = "0" if in_script and cell.startswith("(") else cell.strip("()")
-        written += f" {COMMANDS[space]} {CLASSES[kind][0]}"
+def write_out(row, signs, in_script=False):
+    """A formula of signs of these classes, with TeX's spaces."""
+    classes, (written, *others) = settle(row), signs
+    for sign, neighbours in zip(others, itertools.pairwise(classes), strict=True):
+        cell = spaces_between()[neighbours]
+        written += f" {COMMANDS['0' if in_script and cell.startswith('(') else cell.strip('()')]} {sign}"
     return written
 
 
@@ -132,8 +118,9 @@ def settle(row):
     return classes
 
 
-def data(name):
-    return (PAGES / name).read_text().splitlines()
+def lines_of(name):
+    """The lines of a file, without comments."""
+    return [line for line in (PAGES / name).read_text().splitlines() if line and not line.startswith("# ")]
 
 
 def commands(*kinds):
@@ -175,10 +162,8 @@ class Gallery(support.Case):
         self.assertGreater(len(commands()), 400)
 
     def test_gallery_shows_each_command(self):
-        source = (support.ROOT / "docs/gallery.source.html").read_text()
-        shown = set()
-        for formula in re.findall("<code>(.*)</code>", source):
-            shown.update(re.findall(r"\\(?:[A-Za-z]+|.)", html.unescape(formula)))
+        formulas = re.findall("<code>(.*)</code>", (support.ROOT / "docs/gallery.source.html").read_text())
+        shown = {name for formula in formulas for name in re.findall(r"\\(?:[A-Za-z]+|.)", html.unescape(formula))}
         self.assertEqual([name for name in commands() if name not in shown], [])
 
 
@@ -190,9 +175,7 @@ class Links(support.Case):
         told = re.findall(r"^    (<(?:link|script) .*)$", readme, re.MULTILINE)
         self.assertEqual(len(told), 2)
         for page in ("cases.html", "spaces.html", "signs.html"):
-            lines = data(page)
-            for line in told:
-                self.assertIn(line, lines, page)
+            self.assertLessEqual(set(told), set(lines_of(page)), page)
 
 
 class Browser(support.Case):

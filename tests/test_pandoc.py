@@ -7,23 +7,18 @@ import posixpath
 import re
 import zipfile
 
+from tests.cases import rows_of_lines
 from tests.integration import tex_answer_of
-from tests.runs import Runs, runs_of
+from tests.runs import Runs, pandoc
 from tests.support import ROOT, Has, each_row, limit, put, requires, run, tex_program
 
 FOLDER = ROOT / "integrations/pandoc"
-FILTER = FOLDER / "latex2mathml.lua"
 
 # Runs the program, and writes a line for each run.
-COUNTER = """#!/bin/sh
-echo "$@" >>"$0.count"
-exec {program} "$@"
-"""
+COUNTER = '#!/bin/sh\necho "$@" >>"$0.count"\nexec {program} "$@"\n'
 
 UNCLOSED = "{ is not closed at 0"
-
-# What pandoc's status says if a filter ends the run.
-FILTER_ENDED = 83
+FILTER_ENDED = 83  # pandoc's status if a filter ends the run
 
 
 def refused(latex, reason):
@@ -54,10 +49,9 @@ def json_of(blocks, **options):
 
 @requires("pandoc")
 class Pandoc(Runs):
-    def pandoc(self, source, *words, converter=None, **more):
-        """Runs pandoc with the filter over a source. Lines are not wrapped, so that texts are found in the output."""
-        command = ["pandoc", "--lua-filter", FILTER, "-M", f"latex2mathml-program={converter or tex_program()}", "--wrap=preserve", *words]
-        return run(command, stdin=source.encode(), cwd=self.folder, **more)
+    def pandoc(self, source, *words, **more):
+        """Runs pandoc with the filter over a source."""
+        return pandoc(words, stdin=source.encode(), cwd=self.folder, **more)
 
     def page(self, source, *words, stderr=b"", **more):
         """The page of a source, by default of one that raises no warning."""
@@ -67,9 +61,8 @@ class Pandoc(Runs):
 
     def places(self, formulas, display="InlineMath", stderr=b"", **options):
         """The output for formulas that are given without any syntax of pandoc."""
-        blocks = [{"t": "Plain", "c": [{"t": "Math", "c": [{"t": display}, latex]}]} for latex in formulas]
-        # a rule between each two
-        blocks = [block for pair in zip(blocks, [{"t": "HorizontalRule"}] * len(blocks)) for block in pair]
+        # a rule behind each
+        blocks = [it for latex in formulas for it in ({"t": "Plain", "c": [{"t": "Math", "c": [{"t": display}, latex]}]}, {"t": "HorizontalRule"})]
         return self.page(json_of(blocks, **options), "-f", "json", "-t", "html", stderr=stderr).split("\n<hr />\n")[:-1]
 
     def ends(self, source, fault, *words, **more):
@@ -81,11 +74,7 @@ class Pandoc(Runs):
         return self.folder / "script"
 
 
-class Pages(Pandoc):
-    @each_row(runs_of("pandoc.txt"))
-    def are_made(self, runs):
-        self.do_each(runs)
-
+class Pages(Pandoc, file="pandoc.txt"):
     def test_images(self):
         """The alternative text of an image has formulas as pandoc itself has them there. Its caption has the markup."""
         source = "![The $x<y$](i.png)\n\na ![$x<y$](i.png) b ![$x<y$](i.png){alt=own} c ![d](i.png)"
@@ -129,13 +118,12 @@ class Pages(Pandoc):
 
     def test_a_copy_of_the_filter(self):
         """As the README says: the filter is anywhere, the program is on the path, and no option is given."""
-        copy = self.folder / "my filters" / FILTER.name
-        put(self.folder, {f"my filters/{FILTER.name}": FILTER.read_text()})
+        put(self.folder, {"my filters/latex2mathml.lua": (FOLDER / "latex2mathml.lua").read_text()})
         (self.folder / "tex2mathml").symlink_to(tex_program())
         environment = {**os.environ, "PATH": f"{self.folder}:{os.environ['PATH']}"}
-        done = run(["pandoc", "--lua-filter", copy, "--wrap=preserve"], stdin=b"$x \\le y$", cwd=self.folder, env=environment)
-        answer = tex_answer_of("x \\le y")
-        self.expect(done, stdout=f"<p>{answer}</p>\n".encode())
+        command = ["pandoc", "--lua-filter", "my filters/latex2mathml.lua", "--wrap=preserve"]
+        done = run(command, stdin=b"$x \\le y$", cwd=self.folder, env=environment)
+        self.expect(done, stdout="<p>{}</p>\n".format(tex_answer_of("x \\le y")).encode())
 
 
 class Formulas(Pandoc):
@@ -159,31 +147,15 @@ class Formulas(Pandoc):
     def test_the_place_is_that_in_the_formula(self):
         self.assertEqual(self.places(["é\\foo"], macros={"R": "x"}, stderr=None), [refused("é\\foo", "unknown command \\foo at 2")])
 
-    def test_macros(self):
-        for macros, latex, meaning in (
-            ({"\\RR": "\\mathbb{R}"}, "x\\in\\RR", "x\\in\\mathbb{R}"),
-            ({"RR": "\\mathbb{R}"}, "\\RR", "\\mathbb{R}"),
-            ({"norm": "\\lVert #1 \\rVert"}, "\\norm{x}^2", "\\lVert x\\rVert^2"),
-            ({"second": "#2"}, "\\second{a}{b}", "b"),
-            ({"none": ["x", "1"]}, "\\none{a}b", "xb"),
-            ({"\\+": "\\oplus"}, "a\\+b", "a\\oplus b"),
-            ({"a": "x % why"}, "\\a y", "xy"),
-            ({"a": "\\b", "b": "x"}, "\\a", "x"),
-            ({"le": "x"}, "\\le", "x"),
-            ({}, "x", "x"),
-        ):
-            with self.subTest(macros):
-                self.assertEqual(self.places([latex], macros=macros), [tex_answer_of(meaning)])
-
-    def test_refused_macros(self):
-        for macros, fault in (
-            ({"fine": "x", "broken": "{x"}, "macros: \\broken: { is not closed: {x"),
-            ({"R2": "x"}, "macros: \"R2\" is not the name of a command: letters, or one other character"),
-            ({"a": "x}{y"}, "macros: \\a: not a definition: x}{y"),
-            ({"a": ["#2", "1"]}, "macros: \\a: a body has no such argument: #2"),
-        ):
-            with self.subTest(macros):
-                self.ends(json_of([], macros=macros), fault, "-f", "json", "-t", "html")
+    @each_row(rows_of_lines("pandoc_macros.txt"))
+    def have_macros(self, *cases):
+        """What is refused ends a run even without a formula."""
+        for macros, formula, due in cases:
+            with self.subTest(macros.place):
+                if due.text.startswith("macros: "):
+                    self.ends(json_of([], macros=json.loads(macros.text)), due.text, "-f", "json", "-t", "html")
+                else:
+                    self.assertEqual(self.places([formula.text], macros=json.loads(macros.text)), [tex_answer_of(due.text)])
 
 
 class Programs(Pandoc):

@@ -23,7 +23,6 @@ PATH = "print.printer_Mozilla_Save_to_PDF.print_to_filename"
 
 # The seconds that Firefox may take. They are many, since only a Firefox that hangs reaches them.
 LONGEST = 120
-
 # The dots per inch, and the least number of dots of the formulas that are not white, or nearly so.
 DOTS, LIGHTEST, FEWEST = 100, 200, 1000
 

@@ -1,13 +1,7 @@
-"""Converts the files of a folder, each by its own path and all by the folder's, and checks their contents."""
+"""Converts files and folders of many names, by paths of many kinds, and checks their contents."""
 from tests.support import build, program, run
 from tests.test_program import Site
 from tests.texts import NO_TEXT, UNPAIRED, X
-
-FILES = {
-    ".html": b"$x$", "a.html": b"$x$", "b.html": b"$$$", "c.htm": b"$x$", "c.HTML": b"$x$", "d/e.html": b"no sign",
-    "d/html": b"$x$", "e.html": b"", "f.html": b"\xff", "g.html.txt": b"$x$",
-}
-CONVERTED = {**FILES, "a.html": X}
 
 # Each of these is the name of a folder, and, followed by `.html`, that of a file. The longest have 250 bytes: 255 is the most.
 NAMES = [
@@ -23,34 +17,15 @@ class Paths(Site):
     def setUp(self):
         super().setUp()
         self.command = program()
-        self.put(FILES)
-
-    def test_folder_again_and_again(self):
-        for slashes in ("", "", "/", "//"):
-            beginning = f"{self.site}{slashes or '/'}"
-            self.convert(f"{self.site}{slashes}", [(f"{beginning}b.html", UNPAIRED), (f"{beginning}f.html", NO_TEXT)])
-            self.expect_files(CONVERTED)
 
     def test_call_of_the_library(self):
         """The same list as that of the program, by the library's own call for files."""
+        files = {".html": b"$x$", "a.html": b"$x$", "b.html": b"$$$", "c.htm": b"$x$", "c.HTML": b"$x$", "d/e.html": b"no sign",
+                 "d/html": b"$x$", "e.html": b"", "f.html": b"\xff", "g.html.txt": b"$x$"}
+        self.put(files)
         done = run([build("latex2mathml_single_calls"), "convert_html", self.site])
         self.expect(done, stdout=f"{self.site}/b.html: {UNPAIRED}\n{self.site}/f.html: {NO_TEXT}\n".encode())
-        self.expect_files(CONVERTED)
-
-    def test_files_that_are_left_alone(self):
-        for name in (".html", "c.htm", "c.HTML", "d/e.html", "d/html", "e.html", "g.html.txt", "none.html", "none", "a.html/"):
-            with self.subTest(name):
-                self.convert(f"{self.site}/{name}")
-        self.expect_files(FILES)
-
-    def test_one_file(self):
-        self.convert(self.site / "a.html")
-        self.expect_files(CONVERTED)
-
-    def test_refused_files(self):
-        for name, fault in (("b.html", UNPAIRED), ("f.html", NO_TEXT)):
-            self.convert(self.site / name, [(self.site / name, fault)])
-        self.expect_files(FILES)
+        self.expect_files({**files, "a.html": X})
 
     def check_names(self, names, paths, **more):
         """Converts what is under these paths. All files of these names below the folder are converted, and nothing is reported."""
@@ -72,8 +47,6 @@ class Paths(Site):
         for name in ("d", "-s", ".a"):
             (here / name).mkdir(parents=True)
         names = [f"-a b/{name}" for name in ("a.html", ".a.html", "-.html", "d/a.html", "-s/a.html", ".a/a.html")]
-        for file in ("b.html", "f.html"):
-            (self.site / file).unlink()
         for way in WAYS:
             with self.subTest(way):
                 self.check_names(names, [way], cwd=here)
@@ -88,6 +61,3 @@ class Paths(Site):
         names = [longest, f"{folder}/y.html", f"{folder}/.html.html"]
         self.check_names(names, [self.site / ("x" * 200)])
         self.check_names(names, [self.site / name for name in names])
-
-    def test_empty_path(self):
-        self.convert("")

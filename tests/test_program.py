@@ -4,14 +4,11 @@ import shutil
 import subprocess
 
 from tests import cases
-from tests.runs import Runs, runs_of
+from tests.runs import Runs
 from tests.support import BUILD_NOTHING, Case, ROOT, each_row, limit, program, put, run
-from tests.texts import BAD_ENTRY, LESS, STOPPED, UNCLOSED, UNPAIRED, UNREAD, USAGE, X, error, math
+from tests.texts import BAD_ENTRY, LESS, STOPPED, UNCLOSED, UNPAIRED, UNREAD, USAGE, X, error
 
 LAUNCHER = ROOT / "latex2mathml"
-
-# how many bytes are read: around the number that the program requests at a time, and far above it
-SIZES = (1, 4095, 4096, 4097, 8 << 20)
 
 
 def closed_streams(*streams):
@@ -58,14 +55,6 @@ class Answers(Case):
     def are_written(self, word, given, *due):
         self.expect(run([LAUNCHER, word], stdin=given), *due)
 
-    def test_sizes(self):
-        """Sizes around that of one read, and far above it."""
-        for size in SIZES:
-            digits = b"7" * size
-            for word, answer in (("block", math(b"<mn>%s</mn>" % digits, "block") + b"\n"), ("document", digits)):
-                with self.subTest(word, size=size):
-                    self.expect(run([LAUNCHER, word], stdin=digits), stdout=answer)
-
     def test_a_million_braces(self):
         """They are read with a stack of 8 MiB, and one that is not closed is refused."""
         opened, closed = b"{" * 1_000_000, b"}" * 1_000_000
@@ -76,16 +65,6 @@ class Answers(Case):
 
 
 class Words(Case):
-    def test_wrong(self):
-        for words in (
-                [], [""], ["markup"], ["inline", "block"], ["document", "document"], ["document", "index.html"],
-                ["inline", ""], ["block", ""], ["inlines"], ["blocks"], ["bloc"], ["inlin"], ["documents"],
-                ["INLINE"], ["Inline"], ["Document"], ["inline "], [" inline"], [b"\xff"], ["inline", b"a\xc3"],
-                ["html", ".", "extra"], ["html", "none", ""], ["html"], ["HTML", "none"], ["htm", "none"],
-                ["none", "html"]):
-            with self.subTest(words):
-                self.expect(run([LAUNCHER, *words], stdin=b"x<y"), 2, b"", USAGE)
-
     def test_wrong_ones_leave_the_input_alone(self):
         """One line is printed although nothing is ever written to the input."""
         reading, writing = os.pipe()
@@ -151,10 +130,8 @@ class Site(Case):
         self.expect(run([self.command, "html", path], stdin=subprocess.DEVNULL, **more), 1 if faults else 0, b"", lines)
 
 
-class Folders(Runs):
-    @each_row(runs_of("latex2mathml.txt"))
-    def are_converted(self, runs):
-        self.do_each(runs)
+class Folders(Runs, file="latex2mathml.txt"):
+    """What `html` makes of folders and files; long inputs, and wrong words."""
 
 
 class Files(Site):

@@ -12,15 +12,13 @@ import zipfile
 from tests import texts
 from tests.cases import rows_of_lines, with_tags
 from tests.environments import ask, environment, proved, requires_python, run_python, wheel
-from tests.runs import Runs, runs_of
-from tests.support import ROOT, Case, c_library, each_row, requires, run
+from tests.runs import Runs
+from tests.support import ROOT, Case, c_library, each_row, put, requires, run
 from tests.texts import UNCLOSED
 
 PACKAGE = ROOT / "integrations/python"
 LESS = texts.LESS.decode()
-
-# The type of a fault of a formula.
-FAULT = "latex2mathml_proved.rendering.Fault"
+FAULT = "latex2mathml_proved.rendering.Fault"  # the type of a fault of a formula
 
 # Converts a text whose markup has no room in the memory that is left, and then one whose markup has.
 LITTLE_MEMORY = """
@@ -77,11 +75,7 @@ def call(name, *words, **named):
 
 
 @requires_python()
-class Wheel(Runs):
-    @each_row(runs_of("python.txt"))
-    def is_run(self, runs):
-        self.do_each(runs)
-
+class Wheel(Runs, file="python.txt"):
     def test_platform(self):
         """It requires the newest version of the C library that the shared library needs, and no newer one."""
         symbols = run(["objdump", "-T", c_library() / "liblatex2mathml.so"]).stdout.decode()
@@ -91,26 +85,20 @@ class Wheel(Runs):
     def test_files(self):
         with zipfile.ZipFile(wheel()) as packed:
             names = {name.partition("/")[2] for name in packed.namelist() if name.startswith("latex2mathml_proved/")}
-            [about] = [name for name in packed.namelist() if name.endswith("/METADATA")]
-            metadata = packed.read(about).decode()
-            # its terms require that it comes with the package
-            [licence] = [name for name in packed.namelist() if name.endswith("/LICENSE")]
-            self.assertEqual(packed.read(licence), (ROOT / "LICENSE").read_bytes())
+            [metadata], [licence] = ([packed.read(it) for it in packed.namelist() if it.endswith(end)] for end in ("/METADATA", "/LICENSE"))
         self.assertLessEqual({"py.typed", "liblatex2mathml.so", "page/latex2mathml.css", "page/latex2mathml.js"}, names)
-        self.assertNotIn("Requires-Dist", metadata)
+        self.assertNotIn(b"Requires-Dist", metadata)
+        # its terms require that it comes with the package
+        self.assertEqual(licence, (ROOT / "LICENSE").read_bytes())
 
     @requires("mypy")
     def test_types(self):
         """A type checker takes them from the installed package."""
-        program = self.folder / "typed.py"
-        program.write_text(
-            "import latex2mathml_proved\n"
-            "from latex2mathml_proved.rendering import Renderer\n"
-            "reveal_type(latex2mathml_proved.formula('x', block=True))\n"
-            "reveal_type(Renderer(definitions='').render('x').fault)\n"
-            "latex2mathml_proved.document(b'x')\n")
-        done = run(["mypy", "--strict", "--no-error-summary", "--python-executable", environment(), "--cache-dir", program.parent / "cache",
-                    program], timeout=300)
+        program = ("import latex2mathml_proved\nfrom latex2mathml_proved.rendering import Renderer\n"
+                   "reveal_type(latex2mathml_proved.formula('x', block=True))\nreveal_type(Renderer(definitions='').render('x').fault)\n"
+                   "latex2mathml_proved.document(b'x')\n")
+        done = run(["mypy", "--strict", "--no-error-summary", "--python-executable", environment(), "--cache-dir", self.folder, "-c", program],
+                   timeout=300)
         # older checkers write the second type like this
         said = [line.partition(": ")[2].replace(f"Union[{FAULT}, None]", f"{FAULT} | None") for line in done.stdout.decode().splitlines()]
         self.assertEqual(said, [
@@ -120,8 +108,8 @@ class Wheel(Runs):
     @requires("mypy")
     def test_oldest_python(self):
         """The files of the package ask for no newer Python than its metadata and its README say."""
-        about = tomllib.loads((PACKAGE / "pyproject.toml").read_text(encoding="utf-8"))
-        oldest = about["project"]["requires-python"].removeprefix(">=")
+        project = tomllib.loads((PACKAGE / "pyproject.toml").read_text(encoding="utf-8"))["project"]
+        oldest = project["requires-python"].removeprefix(">=")
         self.assertIn(f"Python {oldest} or later", (PACKAGE / "README.md").read_text(encoding="utf-8"))
         done = run(["mypy", "--python-version", oldest, "--no-site-packages", "--ignore-missing-imports", "--check-untyped-defs",
                     "--no-error-summary", "--cache-dir", self.folder, PACKAGE / "src/latex2mathml_proved", PACKAGE / "setup.py"], timeout=300)
@@ -163,7 +151,7 @@ class Calls(Case):
 
     def test_what_the_texts_show(self):
         """The examples of the README and of the package give the results that they show."""
-        self.expect(run_python(environment(), "-m", "doctest", ROOT / "integrations/python/README.md"), 0, b"", b"")
+        self.expect(run_python(environment(), "-m", "doctest", PACKAGE / "README.md"), 0, b"", b"")
         own = "import doctest, latex2mathml_proved; print(doctest.testmod(latex2mathml_proved))"
         self.expect(run_python(environment(), "-c", own), 0, b"TestResults(failed=0, attempted=3)\n", b"")
 
@@ -218,12 +206,11 @@ class Macros(Case):
 
     def test_a_file(self):
         file = self.folder / "macros.tex"
-        file.write_text("% é\n\\newcommand{\\xx}{x}\n\\DeclareMathOperator{\\rank}{rank}\n", encoding="utf-8")
-        self.check(str(file), "\\xx", "<mi>x</mi>")
-        file.write_text("% é\n\\def\\a{é} \\usepackage{bm}", encoding="utf-8")
-        self.check(str(file), "x", f"{file}:2:11: not a definition")
-        file.write_bytes(b"\xff")
-        self.check(str(file), "x", f"{file}: not UTF-8")
+        for text, formula, wanted in (("% é\n\\newcommand{\\xx}{x}\n\\DeclareMathOperator{\\rank}{rank}\n", "\\xx", "<mi>x</mi>"),
+                                      ("% é\n\\def\\a{é} \\usepackage{bm}", "x", f"{file}:2:11: not a definition"),
+                                      (b"\xff", "x", f"{file}: not UTF-8")):
+            put(self.folder, {"macros.tex": text})
+            self.check(str(file), formula, wanted)
 
     def test_no_file(self):
         with self.assertRaisesRegex(FileNotFoundError, "none.tex"):

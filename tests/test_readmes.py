@@ -7,26 +7,15 @@ import shutil
 
 from tests.environments import interpreter, requires_python
 from tests.integration import answer_of, tex_answer_of
-from tests.support import Case, dist, put, requires, run, scratch
+from tests.pages import code_blocks
+from tests.support import ROOT, Case, dist, put, requires, run, scratch
 
 PACKAGES = pathlib.Path("/usr/share/nodejs")  # Debian's
 
 # Replaces the toolchain, at the front of the path.
-TOOLCHAIN = """#!/bin/sh
-echo "$0 is called" >&2
-exit 127
-"""
+TOOLCHAIN = '#!/bin/sh\necho "$0 is called" >&2\nexit 127\n'
 
-# A program with the lines of the README for Rust. It shows the last of its markups, and other results of these lines.
-MAIN = """#![allow(unused_variables)]
-fn main() -> Result<(), Box<dyn std::error::Error>> {{
-{lines}
-    println!("{{}}\\n{{}}\\n{{}}", document, markup, refusal);
-    Ok(())
-}}
-"""
-# The formula of their examples, without macros.
-MEMBER = "x_i^2 \\in \\mathbb{R}"
+MEMBER = "x_i^2 \\in \\mathbb{R}"  # the formula of their examples, without macros
 
 MANIFEST = '[package]\nname = "site"\nversion = "0.1.0"\nedition = "2021"\n\n'
 
@@ -49,11 +38,6 @@ def commands(readme):
     """The commands of a README: the lines of its blocks of code that are not files, with those that a backslash continues."""
     blocks = re.findall(r"(?:^    .*\n)+", readme, re.MULTILINE)
     return [" ".join(line.split()) for block in blocks for line in block.replace("\\\n", " ").splitlines()]
-
-
-def code(readme, language):
-    """The blocks of code in a language."""
-    return re.findall(rf"^```{language}\n(.*?)^```$", readme, re.DOTALL | re.MULTILINE)
 
 
 class Readme(Case):
@@ -98,8 +82,8 @@ class OfTheFolder(Readme):
         self.expect(run([interpreter("ensurepip"), "-m", "venv", self.folder / "environment"], timeout=300))
         for command, answer in zip(said, wanted, strict=True):
             with self.subTest(command):
-                stdout = answer and f"{answer}\n".encode() if answer is None or answer else b""
-                self.do(command, self.dist, self.folder / "environment/bin", stdout, None if answer is None else b"")
+                due = (None, None) if answer is None else (f"{answer}\n".encode() if answer else b"", b"")
+                self.do(command, self.dist, self.folder / "environment/bin", *due)
         self.assertEqual((self.dist / "a.html").read_text(), f"Let {line} be.")
         self.assertEqual((self.dist / "site/b.html").read_text(), f"Let {block} be.")
 
@@ -109,13 +93,13 @@ class OfThePackageForPython(Readme):
     def test_its_commands(self):
         """From the folder of the wheel on, they install it and build the examples, with the tools that the system has."""
         readme = self.readme("integrations/python")
-        folder = self.house / readme.partition("    cd ")[2].partition("\n")[0]
-        said = re.findall(r"^    ((?:python3|venv/bin/\w+) .*)$", readme.partition("    cd ")[2], re.MULTILINE)
+        folder, _, behind = readme.partition("    cd ")[2].partition("\n")
+        folder = self.house / folder
+        first, *said = re.findall(r"^    ((?:python3|venv/bin/\w+) .*)$", behind, re.MULTILINE)
+        self.assertEqual(first, "python3 -m venv venv")
         # as it says about tools that Debian has as packages
         python = interpreter("ensurepip", "sphinx", "markdown", "mkdocs")
-        self.assertEqual(said[0], "python3 -m venv venv")
-        said[0] = f"{python} -m venv --system-site-packages venv"
-        for command in said:
+        for command in (f"{python} -m venv --system-site-packages venv", *said):
             if not re.fullmatch(r"venv/bin/pip install \w+", command):
                 self.do(command, folder)
         for page, count in ("out-sphinx/index.html", 6), ("out-markdown/page.html", 7), ("out-mkdocs/index.html", 5):
@@ -126,7 +110,7 @@ class OfThePackageForPython(Readme):
 
     def check_code(self, readme, folder):
         """The blocks of Python that no tool reads from a file of its own."""
-        mapping, _, page, renderer = code(readme, "python")
+        mapping, _, page, renderer = code_blocks(readme, "python")
         script = PYTHON.format(mapping=mapping, page=page, renderer=renderer)
         done = self.follow("venv/bin/python -", folder, stdin=script.encode())
         self.expect(done)
@@ -180,7 +164,7 @@ class OfTheFilterForPandoc(Readme):
 
 @requires("npm", "node")
 class OfThePackageForNode(Readme):
-    def install(self, *said):
+    def install(self, said):
         for command in said:
             self.do(command, self.project)
 
@@ -198,7 +182,7 @@ class OfThePackageForNode(Readme):
         """They install the package, as a folder and as a file that needs no folder."""
         for words in self.installs():
             with self.subTest(words):
-                self.install(*words)
+                self.install(words)
                 if len(words) > 1:
                     shutil.rmtree(self.dist)
                 done = self.run_script("console.log(require('latex2mathml-proved').tex('x_i^2'))", "a.cjs")
@@ -207,26 +191,26 @@ class OfThePackageForNode(Readme):
                 self.project.mkdir()
 
     def test_its_code(self):
-        self.install(*self.installs()[0])
-        calls, plugin = code(self.readme("integrations/node"), "js")
+        self.install(self.installs()[0])
+        calls, plugin = code_blocks(self.readme("integrations/node"), "js")
         [imports] = re.findall(r"(?:^    import .*\n)+", self.readme("integrations/node"), re.MULTILINE)
         document = f"Let {answer_of('x<y')} be."
         with self.subTest("calls"):
-            self.expect(self.run_script(re.sub(r"^document\((.*?)\);", r"console.log(document(\1));", calls, flags=re.MULTILINE), "a.cjs"),
-                        stdout=f"{document}\n".encode())
+            calls = re.sub(r"^document\((.*?)\);", r"console.log(document(\1));", calls, flags=re.MULTILINE)
+            self.expect(self.run_script(calls, "a.cjs"), stdout=f"{document}\n".encode())
         with self.subTest("imports"):
             shows = "console.log(typeof remarkLatex2mathml, typeof rehypeLatex2mathml);\n"
             self.expect(self.run_script(f"{imports}\n{shows}", "a.mjs"), stdout=b"function function\n")
         with self.subTest("markdown-it"):
             if not (PACKAGES / "markdown-it").exists():
                 self.skipTest("markdown-it not found")
-            done = self.run_script(re.sub(r"^md\.render\((.*)\);", r"console.log(md.render(\1));", plugin, flags=re.MULTILINE), "a.cjs")
-            self.expect(done, stdout=f"<p>Let {tex_answer_of(MEMBER)} be.</p>\n\n".encode())
+            plugin = re.sub(r"^md\.render\((.*)\);", r"console.log(md.render(\1));", plugin, flags=re.MULTILINE)
+            self.expect(self.run_script(plugin, "a.cjs"), stdout=f"<p>Let {tex_answer_of(MEMBER)} be.</p>\n\n".encode())
 
     def test_its_example(self):
         if not (PACKAGES / "markdown-it").exists():
             self.skipTest("markdown-it not found")
-        self.install(*self.installs()[0])
+        self.install(self.installs()[0])
         [command] = [it for it in commands(self.readme("integrations/node")) if it.startswith("NODE_PATH=")]
         package = self.dist / "integrations/node"
         self.do(command, package)
@@ -247,10 +231,9 @@ class OfTheCrateForRust(Readme):
         readme = self.readme("integrations/rust")
         dependency, replacement = re.findall(r"^    (latex2mathml = .*)$", readme, re.MULTILINE)
         [patch] = re.findall(r"^    (\[patch\..*)$", readme, re.MULTILINE)
-        [lines] = code(readme, "rust")
-        printed = (f"Let {answer_of('x<y')} be.\n{tex_answer_of(MEMBER)}\n"
-                   'marked as an error: Undefined("Command(\\"le\\")")\n')
-        put(self.project, {"src/main.rs": MAIN.format(lines=lines)})
+        [lines] = code_blocks(readme, "rust")
+        printed = f"Let {answer_of('x<y')} be.\n{tex_answer_of(MEMBER)}\n" 'marked as an error: Undefined("Command(\\"le\\")")\n'
+        put(self.project, {"src/main.rs": (ROOT / "tests/rust/readme.rs").read_text().replace("LINES", lines)})
         for manifest in (f"[dependencies]\n{dependency}\n", f'[dependencies]\nlatex2mathml = "0.2"\n\n{patch}\n{replacement}\n'):
             with self.subTest(manifest):
                 (self.project / "Cargo.toml").write_text(MANIFEST + manifest)

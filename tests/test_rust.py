@@ -8,8 +8,6 @@ from tests.texts import UNCLOSED, UNPAIRED, math
 CRATE = ROOT / "integrations/rust"
 MEGABYTE = 1 << 20
 
-SENTENCE = "Let $x$ be. "
-
 
 @requires("cargo", "cc")
 class Crate(Case):
@@ -26,10 +24,14 @@ class Crate(Case):
 
     def cargo(self, *words, folder=None, **environment):
         # what cargo keeps for itself is there too, since a user may have no home to write to
-        environment = {"CARGO_TARGET_DIR": str(self.folder / "target"), "CARGO_HOME": str(self.folder / "cargo"), **environment}
+        told = {"CARGO_TARGET_DIR": str(self.folder / "target"), "CARGO_HOME": str(self.folder / "cargo"), **environment}
         inherited = {name: value for name, value in os.environ.items() if name != "LATEX2MATHML_LIB"}
         command = ["cargo", words[0], "--quiet", "--offline", *words[1:]]
-        return run(command, cwd=folder or self.crate, env={**inherited, **environment}, timeout=600)
+        return run(command, cwd=folder or self.crate, env={**inherited, **told}, timeout=600)
+
+    def lacks(self, library, done):
+        self.assertNotEqual(done.returncode, 0)
+        self.assertIn(f"There is no {library}.", done.stderr.decode())
 
     def example(self):
         self.expect(self.cargo("build", "--example", "page"))
@@ -51,12 +53,9 @@ class Crate(Case):
                 self.expect(self.cargo("run", folder=caller), stdout=printed)
 
     def test_where_the_library_is_found(self):
-        elsewhere = self.copy("elsewhere")
-        target = {"CARGO_TARGET_DIR": str(self.folder / "target-elsewhere")}
-        done = self.cargo("build", folder=elsewhere, **target)
-        self.assertNotEqual(done.returncode, 0)
-        self.assertIn(f"There is no {elsewhere}/lib/liblatex2mathml.a.", done.stderr.decode())
-        self.expect(self.cargo("build", folder=elsewhere, LATEX2MATHML_LIB=str(self.crate / "lib"), **target))
+        how = {"folder": self.copy("elsewhere"), "CARGO_TARGET_DIR": str(self.folder / "target-elsewhere")}
+        self.lacks(how["folder"] / "lib/liblatex2mathml.a", self.cargo("build", **how))
+        self.expect(self.cargo("build", LATEX2MATHML_LIB=str(self.crate / "lib"), **how))
 
     @requires("ar")
     def test_a_library_that_is_replaced(self):
@@ -79,9 +78,7 @@ class Crate(Case):
             self.assertIn(b"<body>\n!\n</body>", run([page], stdin=b"Let $x$ be.").stdout)
         with self.subTest("by none"):
             library.unlink()
-            done = build()
-            self.assertNotEqual(done.returncode, 0)
-            self.assertIn(f"There is no {library}.", done.stderr.decode())
+            self.lacks(library, build())
 
     def test_the_example(self):
         page = self.example()
@@ -90,9 +87,8 @@ class Crate(Case):
 
     def test_little_memory(self):
         page = self.example()
-        prose = "No formula. ".encode() * (8 * MEGABYTE // 12)
+        prose = b"No formula. " * (8 * MEGABYTE // 12)
         # the first guess of the buffer would be half a gigabyte
         self.expect(run([page], stdin=prose, preexec_fn=limit(AS=200 * MEGABYTE)), stdout=Has(prose))
-        sentences = (SENTENCE * (4 * MEGABYTE // len(SENTENCE))).encode()
-        done = run([page], stdin=sentences, preexec_fn=limit(AS=30 * MEGABYTE))
-        self.expect(done, status=1, stdout=b"", stderr=b"Error: OutOfMemory\n")
+        sentences = b"Let $x$ be. " * (4 * MEGABYTE // 12)
+        self.expect(run([page], stdin=sentences, preexec_fn=limit(AS=30 * MEGABYTE)), 1, b"", b"Error: OutOfMemory\n")

@@ -1,17 +1,13 @@
 """The command `latex2mathml-site`: which parts of a page are formulas, what replaces them, and what is reported about them."""
 import os
 import pathlib
-import re
 import subprocess
 
 from tests.cases import by_heading
 from tests.environments import environment, proved, requires_python, run_python
 from tests.integration import keep_caches_here, site, tex
-from tests.runs import Runs, runs_of
+from tests.runs import Runs, with_markup
 from tests.support import Case, each_row, put, scratch
-
-# a formula in a case, and how it is displayed
-FORMULA = re.compile(r"<(inline|block)>(.*?)</\1>", re.DOTALL)
 
 
 def convert(text):
@@ -21,40 +17,31 @@ def convert(text):
     return page.content.decode(), list(page.faults)
 
 
-def due(case):
-    """The page that is the result of a case: each formula between `<inline>` or `<block>` is replaced by its markup."""
-    return FORMULA.sub(lambda found: tex([found[2], found[1] == "block"])[0], case.answer.decode())
-
-
 class Pages(Case):
-    def check(self, cases):
+    def check(self, *cases):
         for case in cases:
             with self.subTest(case.place):
-                self.assertEqual(convert(case.input.decode())[0], due(case))
+                self.assertEqual(convert(case.input.decode())[0], with_markup(case.answer.decode()))
 
 
 @requires_python()
 class Formulas(Pages):
     @each_row(by_heading("site/formulas.txt"))
-    def are_converted(self, cases):
-        self.check(cases)
+    def are_converted(self, *cases):
+        self.check(*cases)
 
 
 @requires_python()
 class Elements(Pages):
     @each_row(by_heading("site/elements.txt"))
-    def are_converted(self, cases):
-        self.check(cases)
+    def are_converted(self, *cases):
+        self.check(*cases)
 
 
 @requires_python()
-class Sites(Runs):
-    @each_row(runs_of("site.txt"))
-    def are_converted(self, runs):
-        self.do_each(runs)
-
+class Sites(Runs, file="site.txt"):
     @each_row(by_heading("site_scripts.txt"))
-    def scripts_are_read(self, cases):
+    def scripts_are_read(self, *cases):
         """The macros in the settings of MathJax and KaTeX."""
         for case in cases:
             with self.subTest(case.place):
@@ -111,7 +98,7 @@ class WrittenAnew(Case):
     def test_a_page_that_its_builder_writes_meanwhile(self):
         for words, more in (((), b""), (("--strict",), b"latex2mathml-site: nothing was changed\n")):
             with self.subTest(words), scratch() as folder:
-                (folder / "a.html").write_text("$x$")
+                put(folder, {"a.html": "$x$"})
                 keep_caches_here()
                 done = run_python(environment(), "-c", WRITTEN_ANEW, ".", *words, cwd=folder)
                 self.expect(done, 1, None, b"a.html: changed while it was converted: left as it is\n" + more)

@@ -11,10 +11,11 @@ import stat
 import subprocess
 import time
 
+from tests.cases import of_size, rows
 from tests.environments import environment, requires_python
 from tests.integration import command, site, tex
 from tests.runs import files_of
-from tests.support import NOBODY, Case, as_nobody, hear_signals, limit, put, read_terminal, requires, run, scratch
+from tests.support import NOBODY, Case, as_nobody, each_row, hear_signals, limit, put, read_terminal, requires, run, scratch
 
 PAGE = "<p>$x$ and \\(y\\)</p>\n"
 
@@ -113,8 +114,8 @@ class Files(Site):
         self.put(*(f"{number}.html" for number in range(3)))
         reader, writer = pty.openpty()
         impatient = "from latex2mathml_proved.site import command; command.PATIENCE = command.PERIOD = 0; command.script()"
-        with subprocess.Popen([environment(), "-c", impatient, ".", "--jobs", "1"], cwd=self.folder, stdout=subprocess.DEVNULL,
-                              stderr=writer) as running:
+        words = [environment(), "-c", impatient, ".", "--jobs", "1"]
+        with subprocess.Popen(words, cwd=self.folder, stdout=subprocess.DEVNULL, stderr=writer) as running:
             os.close(writer)
             shown = read_terminal(reader)
         self.assertEqual(running.returncode, 0)
@@ -131,18 +132,16 @@ class Names(Site):
         self.holds(self.made, "a.html", "b.html")
 
     def test_names_that_are_no_text(self):
-        names = [b"\xff.html", b"a\nb.html", b"-x.html", "é ü.html".encode(), b"\x1b[31m.html", b"x" * 250 + b".html"]
-        folder = os.fsencode(self.folder)
-        for name in names:
-            with open(os.path.join(folder, name), "w") as file:
-                file.write("$x$ $\\foo$")
+        # each, and how it is reported
+        names = {b"\xff.html": b"\\xff.html", b"a\nb.html": b"a\\nb.html", b"\x1b[31m.html": b"\\x1b[31m.html",
+                 **{it: it for it in (b"-x.html", "é ü.html".encode(), b"x" * 250 + b".html")}}
+        self.put(*names, text="$x$ $\\foo$")
         done = self.run_site(".", says=summary(len(names), len(names), len(names), len(names)), stderr=None)
-        for name in (b"\\xff.html", b"a\\nb.html", b"-x.html", "é ü.html".encode(), b"\\x1b[31m.html", names[-1]):
-            self.assertIn(name + b":1:6: \\foo: unknown command \\foo\n", done.stderr)
-        self.assertEqual(sorted(os.listdir(folder)), sorted(names))
-        for name in names:
-            with open(os.path.join(folder, name)) as file:
-                self.assertTrue(file.read().startswith(tex("x")[0]))
+        for told in names.values():
+            self.assertIn(told + b":1:6: \\foo: unknown command \\foo\n", done.stderr)
+        self.assertEqual({os.fsencode(it.name) for it in self.folder.iterdir()}, set(names))
+        for file in self.folder.iterdir():
+            self.assertTrue(file.read_text().startswith(tex("x")[0]))
         self.run_site(".", says=summary(len(names), 0, 0, len(names)), stderr=None)
 
     def test_what_is_no_file(self):
@@ -154,36 +153,29 @@ class Names(Site):
 
 class Hostile(Site):
     def test_binary_files(self):
-        contents = {"a.html": bytes(range(256)) * 40, "b.html": b"\0" * 5000 + b"$x$", "c.html": random.Random(1).randbytes(100_000),
-                    "d.html": "$x$".encode("utf-16")}
-        for name, content in contents.items():
-            (self.folder / name).write_bytes(content)
+        binary = {"a.html": bytes(range(256)) * 40, "c.html": random.Random(1).randbytes(100_000), "d.html": "$x$".encode("utf-16")}
+        put(self.folder, {**binary, "b.html": b"\0" * 5000 + b"$x$"})
         done = self.run_site(".", stderr=None)
-        for name in ("a.html", "c.html", "d.html"):
+        for name, content in binary.items():
             self.assertIn(f"{name}: not UTF-8: left as it is\n".encode(), done.stderr)
-            self.assertEqual((self.folder / name).read_bytes(), contents[name])
-        self.assertEqual((self.folder / "b.html").read_bytes(), contents["b.html"].replace(b"$x$", tex("x")[0].encode()))
+            self.assertEqual((self.folder / name).read_bytes(), content)
+        self.assertEqual((self.folder / "b.html").read_bytes(), b"\0" * 5000 + tex("x")[0].encode())
 
     def test_50_megabytes(self):
-        part = "<p>a $x$ b &amp; <code>$x$</code> é</p>\n" + "<p>" + "prose and &lt; prose again " * 40 + "</p>\n"
+        part = f"<p>a $x$ b &amp; <code>$x$</code> é</p>\n<p>{'prose and &lt; prose again ' * 40}</p>\n"
         count = 50_000_000 // len(part)
         self.put("a.html", text=part * count)
         self.run_site(".", says=summary(1, 1, count), timeout=600)
         self.assertEqual((self.folder / "a.html").read_text(), part.replace("$x$", tex("x")[0], 1) * count)
 
-    def test_pages_that_take_long(self):
+    @each_row({f"pages with many {key}": (of_size(text),) for _, key, text in rows("site_slow.txt")})
+    def is_read(self, text):
         """Time grows with the length of a page, whatever it contains."""
-        for name, text in {
-                "comments": "<!-- $x$ ", "tags": '<a b=" $x$', "open": "<b>", "ends": "<b></i>", "dollars": "$x ", "brackets": "\\( ",
-                "signs": "<", "references": "&", "declarations": "<!", "instructions": "<?", "classes": "class=math", "attributes": "<a b=c ",
-                "quotes": "<a b='", "sections": "<![CDATA[", "other sections": "<![a", "scripts": "<script>", "macros": "<script>macros: {a:[[",
-                "paragraphs": "<p>", "refused": "\\(\\foo\\)\n"}.items():
-            with self.subTest(name):
-                self.put("a.html", text=text * (300_000 // len(text)) + "$x$")
-                before = resource.getrusage(resource.RUSAGE_CHILDREN)
-                self.run_site("a.html", "b.html", stderr=None)
-                after = resource.getrusage(resource.RUSAGE_CHILDREN)
-                self.assertLess(after.ru_utime - before.ru_utime, 15)
+        self.put("a.html", text=text(300_000))
+        before = resource.getrusage(resource.RUSAGE_CHILDREN)
+        self.run_site("a.html", "b.html", stderr=None)
+        after = resource.getrusage(resource.RUSAGE_CHILDREN)
+        self.assertLess(after.ru_utime - before.ru_utime, 15)
 
     def test_what_may_only_be_read(self):
         """It is reported, stays as it is, and everything else is converted."""
@@ -193,8 +185,7 @@ class Hostile(Site):
         (self.folder / "e").chmod(0o000)
         other = as_nobody(self.folder)
         # a Python that everyone may run
-        package = environment().parent.parent / "lib"
-        [packages] = package.glob("python*/site-packages")
+        [packages] = environment().parent.parent.glob("lib/python*/site-packages")
         copy = self.enterContext(scratch())
         copy.chmod(0o755)
         shutil.copytree(packages / "latex2mathml_proved", copy / "latex2mathml_proved")
@@ -241,10 +232,7 @@ class Hostile(Site):
 
     def wait_until(self, condition, running):
         """Waits until something is so, or a process has ended."""
-        end = time.monotonic() + 300
-        while not condition() and running.poll() is None:
-            self.assertLess(time.monotonic(), end)
-            time.sleep(0.002)
+        self.wait_for(lambda: condition() or running.poll() is not None, seconds=300, pause=0.002)
 
     def changed(self, names, text):
         """How many pages are not what they were."""
@@ -252,7 +240,7 @@ class Hostile(Site):
 
     def waiting(self):
         """How many new pages wait to be moved into place."""
-        return sum(1 for _ in self.folder.rglob(".latex2mathml-*"))
+        return len(list(self.folder.rglob(".latex2mathml-*")))
 
     def test_killed_at_30_moments(self):
         """Pages are whole, and the next run removes what was being written, and converts the rest."""
@@ -262,9 +250,9 @@ class Hostile(Site):
         for turn in range(30):
             self.put(*names, text=text)
             is_strict, moment = turn % 3 == 0, moments.randrange(len(names))
-            words = ["--jobs", "2"] + (["--strict"] if is_strict else [])
-            with subprocess.Popen(command(".", *words), cwd=self.folder, stdout=subprocess.DEVNULL, stderr=subprocess.DEVNULL,
-                                  start_new_session=True) as running:
+            words = command(".", "--jobs", "2", *(["--strict"] if is_strict else []))
+            quiet = {"stdout": subprocess.DEVNULL, "stderr": subprocess.DEVNULL}
+            with subprocess.Popen(words, cwd=self.folder, start_new_session=True, **quiet) as running:
                 self.wait_until(lambda: (self.waiting() if is_strict else self.changed(names, text)) >= moment, running)
                 time.sleep(moments.random() * 0.02)
                 running.kill()
@@ -334,5 +322,4 @@ class Hostile(Site):
             finally:
                 running.send_signal(signal.SIGINT)
                 said = running.communicate(timeout=300)[1]
-        self.assertEqual(running.returncode, 130)
-        self.assertEqual(said, b"latex2mathml-site: interrupted\n")
+        self.assertEqual((running.returncode, said), (130, b"latex2mathml-site: interrupted\n"))

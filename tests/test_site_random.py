@@ -9,38 +9,28 @@ import unittest
 import hypothesis
 from hypothesis import strategies as st
 
+from tests.cases import listed
 from tests.environments import requires_python
 from tests.integration import tex
-from tests.support import requires
+from tests.support import ROOT, requires
 from tests.test_site import convert
 
 COUNT = int(os.environ.get("LATEX2MATHML_RANDOM", "1200"))
 
 RUN = hypothesis.settings(max_examples=COUNT, deadline=None, database=None, suppress_health_check=list(hypothesis.HealthCheck))
 
-FORMULAS = ("x", "a+b", "x_1", "a &lt; b", "\\frac{1}{2}", "\\text{a b}", "a &amp;= b \\\\ c &amp;= d", "é", "\\{ x \\}")
-
-# What comes between formulas, and contains none.
-OTHERS = (
-    "&amp;", "&lt;", "&#36;", "&copy", "<b>", "</b>", "<p class='a'>", "</p>", '<img alt="$x$ \\(y\\)">', "<br/>", "<!-- $x$ \\(y\\) -->",
-    "<code>$x$</code>", "<script>if (a < b) '$x$ \\(y\\)'</script>", "<pre>\\(x\\) <b>$y$</b></pre>", "<textarea>$x$</textarea>",
-    "<style>a > b { content: '$x$' }</style>", "<svg><text>$x$</text></svg>", "<a href='?a=$x$&b=\\(y\\)'>", "</a>", "<div>\n</div>",
-    "<!DOCTYPE html>", "\\$5 ", " $5 and $6 <br>", " < ", "\\\\(x\\\\) ")
+# formulas, what comes between them and contains none, and pieces of both
+FORMULAS, OTHERS, PIECES = (sorted(listed(ROOT / f"tests/site/{name}.txt")) for name in ("formulas", "others", "pieces"))
 
 PROSE = st.text("ab é\n>\"'=-/;5.\t", max_size=8)
 
 # A part of a page, with the formula that it is, if it is one: its LaTeX, and whether it is in a block.
 PARTS = st.one_of(
     st.tuples(st.one_of(PROSE, st.sampled_from(OTHERS)), st.none()),
-    st.builds(lambda latex: (f"\\({latex}\\)", (latex, False)), st.sampled_from(FORMULAS)),
-    st.builds(lambda latex: (f"\\[{latex}\\]", (latex, True)), st.sampled_from(FORMULAS)),
-    st.builds(lambda latex: (f"${latex}$", (latex, False)), st.sampled_from(FORMULAS)),
-    st.builds(lambda latex: (f"$${latex}$$", (latex, True)), st.sampled_from(FORMULAS)))
+    *(st.builds(lambda latex, form=form, block=block: (form.format(latex), (latex, block)), st.sampled_from(FORMULAS))
+      for form, block in ((r"\({}\)", False), (r"\[{}\]", True), ("${}$", False), ("$${}$$", True))))
 
-SOUP = st.lists(st.sampled_from(
-    ["<", ">", "/", "!", "--", "=", '"', "'", " ", "$", "\\(", "\\)", "\\[", "\\]", "$$", "\\", "a", "x", "&", ";", "#", "<b", "</b>", "<!--",
-     "-->", "<code", "<p ", "</", "<?", "<![", "]]>", "script", "<script>", "</script>", "\n", "5", "<svg>", "</svg>", "<textarea>", "<title>",
-     "&lt;", "&#x3c;", "<td>", "<math>", "</math>", "<style", "/>"]), max_size=40).map("".join)
+SOUP = st.lists(st.sampled_from(PIECES), max_size=40).map("".join)
 
 MARKUP = re.compile(r"<math xmlns=.*?</math>|<code class=\"latex2mathml-refused\".*?</code>", re.DOTALL)
 FORMULA = r"(\\\(.+?\\\)|\\\[.+?\\\]|\$.+?\$\$?)"

@@ -9,15 +9,13 @@ import pytest
 from tests.cases import by_heading
 from tests.environments import proved, requires_python
 from tests.integration import math_in
-from tests.runs import Runs, runs_of
+from tests.pages import read
+from tests.runs import Runs
 from tests.support import ROOT, each_row, put, requires
 
 pytestmark = pytest.mark.long
 
-CONF = """
-extensions = ["latex2mathml_proved.sphinx"]
-html_math_renderer = "latex2mathml"
-"""
+CONF = 'extensions = ["latex2mathml_proved.sphinx"]\nhtml_math_renderer = "latex2mathml"\n'
 
 
 @requires_python("sphinx")
@@ -36,21 +34,18 @@ class Project(Runs):
 
 
 @requires_python("sphinx", "myst_parser")
-class Pages(Runs):
-    @each_row(runs_of("sphinx.txt"))
-    def are_built(self, runs):
-        self.do_each(runs)
+class Pages(Runs, file="sphinx.txt"):
+    """Projects, and the pages that are due."""
 
 
 class Markup(Project):
     @each_row(by_heading("sphinx_rows.txt"))
-    def are_made(self, cases):
+    def are_made(self, *cases):
         for case in cases:
             with self.subTest(case.place):
                 text = f"Title\n=====\n\n.. math::\n\n{textwrap.indent(case.input.decode(), '   ')}\n"
                 self.assertEqual(self.build(CONF, index=text), "")
-                page = self.page()
-                self.assertEqual(f"{page.count('<mtr>')} rows, {page.count('<mtd')} cells", case.answer.decode())
+                self.assertEqual("{} rows, {} cells".format(*map(self.page().count, ("<mtr>", "<mtd"))), case.answer.decode())
 
     @requires("python:sphinx")
     def test_texts_that_are_slow_to_read(self):
@@ -74,16 +69,9 @@ class Markup(Project):
 
     def test_readme(self):
         """The README's lines of conf.py are enough."""
-        text = (ROOT / "integrations/python/README.md").read_text(encoding="utf-8")
-        [conf] = re.findall(r"In `conf.py`:\n\n```python\n(.*?)```", text, re.DOTALL)
+        [conf] = re.findall(r"In `conf.py`:\n\n```python\n(.*?)```", read("integrations/python/README.md"), re.DOTALL)
         self.assertEqual(self.build(conf, index="Title\n=====\n\n:math:`\\norm{x} \\in \\R`\n"), "")
         self.assertEqual(re.sub("<[^>]*>", "", math_in(self.page())[0]), "∥x∥∈ℝ")
-
-    def test_example(self):
-        """The example of the package is built without a warning, and all its formulas are drawn."""
-        source = ROOT / "integrations/python/examples/sphinx"
-        self.expect(self.run_as("sphinx", ["-W", source, self.folder / "out"], timeout=300))
-        self.assertEqual(len(math_in(self.page())), 6)
 
 
 class Numbers(Project):

@@ -6,13 +6,12 @@ import pytest
 
 from tests import support
 from tests.nesting import kinds_of
-from tests.runs import Runs, runs_of
+from tests.runs import Runs
 from tests.texts import math
 
 pytestmark = [pytest.mark.long, pytest.mark.timeout(1800)]
 
-# 8 bytes of stack for each
-LEVELS = 1_000_000
+LEVELS = 1_000_000  # 8 bytes of stack for each
 LIMIT = support.limit(STACK=8 << 20)
 MEGABYTE = 1_000_000
 
@@ -47,15 +46,11 @@ class Deep(support.Case):
         self.expect(ask(kind.cut(LEVELS)), 1, b"", f"tex2mathml: {reason} at {outer + int(place)}\n".encode())
 
 
-class Wide(Runs):
+class Wide(Runs, file="tex_deep.txt"):
     """Tables of a million cells, and groups a million levels deep in macros."""
 
     def run_as(self, tool, words, **more):
         return super().run_as(tool, words, preexec_fn=LIMIT, **more)
-
-    @support.each_row(runs_of("tex_deep.txt"))
-    def are_answered(self, runs):
-        self.do_each(runs)
 
 
 class Long(support.Case):

@@ -2,8 +2,6 @@
 
 Each count is that of a run whose answer is whole: a program that answers nothing would count as cheap.
 """
-import collections
-
 import pytest
 
 from tests import cases, faulty, support
@@ -12,25 +10,19 @@ from tests.nesting import kinds_of
 
 pytestmark = [pytest.mark.long, pytest.mark.timeout(1800)]
 
-# Four times the text takes at most this many times as much.
-MOST_TIMES = 4.1
-# what every run takes, whatever its input
-OWN_BYTES = 64 << 10
+MOST_TIMES = 4.1  # four times the text takes at most this many times as much
+OWN_BYTES = 64 << 10  # what every run takes, whatever its input
 # The text, its units, the answer, the elements and what is in them, the frames, and what is still to be written: each of these lists
 # asks again when it doubles, which it does at most 17 times. So 100 kB of one text were counted with at most 131 requests.
 MOST_REQUESTS = 150
-# how often a list doubles, up to this many members
-MOST_DOUBLINGS = 17
+MOST_DOUBLINGS = 17  # of one list
 # For a second formula that is the same as the first, only the input and the answers need more room, each once.
 MOST_FOR_ANOTHER = 3
 
 # texts under each heading: the place of each, and a function that makes it with this many pieces
-TEXTS = collections.defaultdict(list)
-for heading, line in cases.lines_of(cases.CASES / "tex_growth.txt"):
-    if line.text:
-        TEXTS[cases.key_of(heading)].append((line.place, lambda count, text=line.text: cases.expand(text, count).decode()))
-for name, kind in kinds_of("tex_nested.txt").items():
-    TEXTS["in itself"].append((name, lambda count, kind=kind: kind.nest(count, "x")))
+TEXTS = cases.grouped((heading, (line.place, lambda count, text=line.text: cases.expand(text, count).decode()))
+                      for heading, line in cases.lines_of(cases.CASES / "tex_growth.txt") if line.text)
+TEXTS["in itself"] = [(name, lambda count, kind=kind: kind.nest(count, "x")) for name, kind in kinds_of("tex_nested.txt").items()]
 
 
 def asked_for(text):
@@ -64,17 +56,14 @@ class Growth(support.Case):
         self.assertEqual((done.returncode, done.stderr), (0, b""))
         self.assertEqual([done.stdout.count(it) for it in (b"<math ", b"</math>")], [formulas] * 2, support.show(done.stdout))
 
-    def count(self, text):
-        """The counts of a run on one formula."""
-        done, counts = faulty.counts_of([support.tex_program()], stdin=text.encode())
-        self.is_answered(done)
+    def count(self, texts, *words):
+        """What a run on these formulas asks for."""
+        done, counts = faulty.counts_of([support.tex_program(), *words], stdin="\0".join(texts).encode())
+        self.is_answered(done, len(texts))
         return counts
 
     def count_many(self, texts):
-        """The counts of a run on many formulas."""
-        done, counts = faulty.counts_of([support.tex_program(), "--null"], stdin="\0".join(texts).encode())
-        self.is_answered(done, len(texts))
-        return counts
+        return self.count(texts, "--null")["requests"]
 
 
 @support.requires("valgrind")
@@ -93,9 +82,8 @@ class Instructions(Growth):
         for text in ("x+" * 8_000 + "&", "x&" + "x&x\\\\" * 4_000, "\\frac12" * 4_000 + "\\\\x"):
             given = [text.encode(), b"\\begin{aligned}" + text.encode() + b"\\end{aligned}"]
             answers = [support.run([support.tex_program()], stdin=it) for it in given]
-            for answer in answers:
-                self.is_answered(answer)
-            self.assertEqual(answers[0].stdout, answers[1].stdout)
+            self.is_answered(answers[0])
+            self.expect(answers[1], stdout=answers[0].stdout)
             alone, in_aligned = (instructions([support.tex_program()], stdin=it) for it in given)
             self.assertLessEqual(alone, 2 * in_aligned)
 
@@ -104,8 +92,7 @@ class Instructions(Growth):
         counted = []
         for formulas in (500, 2_000):
             given = b"x_1^2\0{\0" * formulas
-            done = support.run([support.tex_program(), "--null"], stdin=given)
-            self.is_answered(done, formulas)
+            self.is_answered(support.run([support.tex_program(), "--null"], stdin=given), formulas)
             counted.append(instructions([support.tex_program(), "--null"], stdin=given))
         self.assertLessEqual(counted[1], MOST_TIMES * counted[0])
 
@@ -118,7 +105,7 @@ class Memory(Growth):
 
     def judge(self, text_of):
         pieces = pieces_in(text_of, 25_000)
-        few, many = (self.count(text_of(count))["peak"] for count in (pieces, 4 * pieces))
+        few, many = (self.count([text_of(count)])["peak"] for count in (pieces, 4 * pieces))
         self.assertLessEqual(many, MOST_TIMES * few + OWN_BYTES)
 
 
@@ -130,7 +117,7 @@ class Requests(Growth):
 
     def judge(self, text_of):
         text = text_of(pieces_in(text_of, 100_000))
-        self.assertLessEqual(self.count(text)["requests"], MOST_REQUESTS + asked_for(text))
+        self.assertLessEqual(self.count([text])["requests"], MOST_REQUESTS + asked_for(text))
 
 
 @support.requires("cc")
@@ -141,7 +128,7 @@ class Another(Growth):
 
     def judge(self, text_of):
         text = text_of(pieces_in(text_of, 20_000))
-        one, two, three = (self.count_many([text] * formulas)["requests"] for formulas in (1, 2, 3))
+        one, two, three = (self.count_many([text] * formulas) for formulas in (1, 2, 3))
         self.assertLessEqual(two - one, MOST_FOR_ANOTHER + asked_anew(text))
         self.assertLessEqual(three - two, MOST_FOR_ANOTHER + asked_anew(text))
 
@@ -149,15 +136,15 @@ class Another(Growth):
         """A thousand formulas need room for the input and the answers."""
         for text in ("x", "x_1^2", "\\frac12", "\\text{ab}", "\\left(x\\right)"):
             with self.subTest(text):
-                few, many = (self.count_many([text] * formulas)["requests"] for formulas in (1_000, 2_000))
+                few, many = (self.count_many([text] * formulas) for formulas in (1_000, 2_000))
                 self.assertLessEqual(many - few, MOST_FOR_ANOTHER)
 
     def test_behind_a_refused_one(self):
         """A formula that is refused leaves its memory too."""
-        text = "{" * 10_000
-        few, many = (faulty.counts_of([support.tex_program(), "--null"], stdin="\0".join([text] * formulas + ["x"]).encode())
-                     for formulas in (1, 20))
-        for (done, _), formulas in ((few, 1), (many, 20)):
+        asked = []
+        for formulas in (1, 20):
+            done, counts = faulty.counts_of([support.tex_program(), "--null"], stdin=(b"{" * 10_000 + b"\0") * formulas + b"x")
             self.is_answered(done)
             self.assertEqual(done.stdout.count(b"error\n{ is not closed at "), formulas)
-        self.assertLessEqual(many[1]["requests"] - few[1]["requests"], 3 * MOST_FOR_ANOTHER)
+            asked.append(counts["requests"])
+        self.assertLessEqual(asked[1] - asked[0], 3 * MOST_FOR_ANOTHER)

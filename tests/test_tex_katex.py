@@ -15,16 +15,11 @@ import structure  # noqa: E402
 
 KATEX = Path("/usr/share/nodejs/katex")
 
-
 # the formulas that KaTeX reads differently, those that it refuses, and those that it reads in `aligned`
 OTHERWISE, REFUSED, IN_ALIGNED = (cases.listed(ROOT / f"tests/katex/{name}.txt") for name in ("otherwise", "refused", "in_aligned"))
 
 # and those that it reads only in a block
 BLOCK_ALONE = {"\\begin{alignat*}{2}a&b\\end{alignat*}"}
-
-
-def as_asked(formula):
-    return f"\\begin{{aligned}}{formula}\\end{{aligned}}" if formula in IN_ALIGNED else formula
 
 
 @unittest.skipUnless(KATEX.is_dir(), "KaTeX is not installed")
@@ -33,7 +28,8 @@ class AsKatexReads(Case):
     def structures(self, display, names):
         """For each formula of these files: the expected structure, and that of KaTeX, or None if KaTeX refuses it."""
         pairs = [(case.input.decode(), case.answer) for name in names for case in cases.read(name)]
-        theirs = self.structures_of_katex([as_asked(formula) for formula, _ in pairs], display)
+        asked = [f"\\begin{{aligned}}{formula}\\end{{aligned}}" if formula in IN_ALIGNED else formula for formula, _ in pairs]
+        theirs = self.structures_of_katex(asked, display)
         for (formula, contents), its in zip(pairs, theirs):
             yield formula, structure.structure(math(contents, display).decode()), its
 

@@ -52,17 +52,16 @@ class Definitions(support.Case):
         return {"in a file": (["--definitions", file], formula.encode()), "in a formula": ([], (defined + formula).encode())}
 
     def judge(self, texts, of):
-        counts = []
-        for count in (FEW, MANY):
-            counts.append({})
-            for where, (words, given) in self.runs(*texts(count)).items():
-                command = [support.tex_program(), *words]
-                self.expect(support.run(command, stdin=given), stdout=element("<mi>x</mi>" * 2) + b"\n")
-                counts[-1][where] = of(command, given)
-        few, many = counts
+        few, many = ({where: self.count(of, *run) for where, run in self.runs(*texts(count)).items()} for count in (FEW, MANY))
         for where in few:
             with self.subTest(where):
                 self.assertLessEqual(many[where], MOST_TIMES * few[where])
+
+    def count(self, of, words, given):
+        """What a run takes whose answer is the expected one."""
+        command = [support.tex_program(), *words]
+        self.expect(support.run(command, stdin=given), stdout=element("<mi>x</mi>" * 2) + b"\n")
+        return of(command, given)
 
     @support.requires("valgrind")
     def test_instructions(self):

@@ -6,7 +6,7 @@ import threading
 import xml.etree.ElementTree as ElementTree
 
 from tests import cases, faulty
-from tests.runs import Runs, runs_of
+from tests.runs import Runs
 from tests.support import ROOT, Case, each_row, newest_version, put, requires, run, tex_program
 from tests.texts import UNREAD, X, math
 
@@ -17,11 +17,7 @@ def ask(*words, stdin=b"", **more):
     return run([tex_program(), *words], stdin=stdin, **more)
 
 
-class Answers(Runs):
-    @each_row(runs_of("tex2mathml.txt"))
-    def are_written(self, runs):
-        self.do_each(runs)
-
+class Answers(Runs, file="tex2mathml.txt"):
     def test_input_that_cannot_be_read(self):
         folder = os.open("/", os.O_RDONLY)
         self.addCleanup(os.close, folder)
@@ -35,17 +31,6 @@ class Answers(Runs):
         self.expect(run([ROOT / "tex2mathml"], stdin=b"x"), stdout=X_LINE)
         put(self.folder, {"a b.tex": "\\def\\a{x}"})
         self.expect(run([ROOT / "tex2mathml", "--definitions", "a b.tex"], stdin=b"\\a", cwd=self.folder), stdout=X_LINE)
-
-    def test_as_if_each_were_alone(self):
-        """What was read before leaves nothing behind."""
-        formulas = [b"\\left(x", b"y", b"{{{", b"\\text{a", b"z", b"x_i"]
-        self.expect(ask("--null", stdin=b"\0".join(formulas)), stdout=b"".join(map(self.alone, formulas)))
-
-    def alone(self, formula):
-        done = ask(stdin=formula)
-        if done.returncode == 0:
-            return b"mathml\n" + done.stdout.removesuffix(b"\n") + b"\0"
-        return b"error\n" + done.stderr.removeprefix(b"tex2mathml: ").removesuffix(b"\n") + b"\0"
 
     def test_annotation_of_each_case(self):
         """An XML parser finds the formula in the annotation, and next to it what the case shows."""
@@ -87,17 +72,8 @@ class Definitions(Case):
         words = ["--definitions", ROOT / "crates/latex2mathml_tex_app/data/macros.tex"]
         self.expect(ask(*words, stdin=b"\\half{\\R}"), stdout=math("<mfrac><mi>ℝ</mi><mn>2</mn></mfrac>".encode()) + b"\n")
 
-    def test_nothing_defined(self):
-        """The usual macros hold, as they do after any definitions."""
-        usual = ask(stdin=b"a\\pmod n\\dots")
-        self.assertEqual(usual.returncode, 0)
-        for definitions in ("", " \n", "% nothing", "\\def\\a{x}"):
-            with self.subTest(definitions):
-                self.expect(self.ask(definitions, b"x"), stdout=X_LINE)
-                self.expect(self.ask(definitions, b"a\\pmod n\\dots"), stdout=usual.stdout)
-
     @each_row(cases.by_heading("tex_definition_refusals.txt"))
-    def are_refused(self, refused):
+    def are_refused(self, *refused):
         for case in refused:
             definitions, told = case.input.decode(), case.answer.decode()
             with self.subTest(case.place):
@@ -125,12 +101,10 @@ class Definitions(Case):
 
     def test_input_is_left_alone(self):
         """If there are no macros, nothing of the input is read."""
-        for definitions in (b"x", b"\xff", None):
-            with self.subTest(definitions), faulty.open_input(b"x") as given:
-                self.file.unlink(missing_ok=True)
-                if definitions is not None:
-                    self.file.write_bytes(definitions)
-                self.assertEqual(ask("--definitions", self.file, stdin=given).returncode, 1)
+        put(self.folder, {"letter.tex": b"x", "no text.tex": b"\xff"})
+        for name in ("letter.tex", "no text.tex", "none.tex"):
+            with self.subTest(name), faulty.open_input(b"x") as given:
+                self.assertEqual(ask("--definitions", self.folder / name, stdin=given).returncode, 1)
                 self.assertEqual(given.read(), b"x")
 
     def test_pipes(self):
@@ -154,8 +128,7 @@ class Calls(faulty.OneByteAtATime):
 
     def test_each_read_of_definitions_fails(self):
         """The file is read to its end before the input is."""
-        definitions, given = b"\\def\\a{x}", b"\\a"
-        file = self.folder / "a.tex"
+        definitions, given, file = b"\\def\\a{x}", b"\\a", self.folder / "a.tex"
         file.write_bytes(definitions)
         words = [tex_program(), "--definitions", file]
         in_file, in_input = (f"tex2mathml: {named}{UNREAD}\n".encode() for named in (f"{file}: ", ""))
@@ -164,13 +137,13 @@ class Calls(faulty.OneByteAtATime):
                 1, b"", in_file if call <= len(definitions) + 1 else in_input))
 
     def test_definitions_that_cannot_be_opened(self):
-        file = self.folder / "a.tex"
-        file.write_bytes(b"")
+        put(self.folder, {"a.tex": ""})
         for number in (13, 24):
             with self.subTest(number):
-                done, failed = faulty.run_with([tex_program(), "--definitions", file], fault=faulty.Fault("open", 1, 1, number))
+                fault = faulty.Fault("open", 1, 1, number)
+                done, failed = faulty.run_with([tex_program(), "--definitions", "a.tex"], fault=fault, cwd=self.folder)
                 self.assertTrue(failed)
-                self.expect(done, 1, b"", f"tex2mathml: {file}: The input could not be read.\n".encode())
+                self.expect(done, 1, b"", b"tex2mathml: a.tex: The input could not be read.\n")
 
     def test_definitions_are_closed(self):
         file = self.folder / "a.tex"
@@ -183,23 +156,8 @@ class Calls(faulty.OneByteAtATime):
 
 
 class Words(Case):
-    def test_help(self):
-        done = ask("--help")
-        self.expect(done, stdout=None)
-        for word in (b"Usage: tex2mathml [OPTIONS]", b"--display", b"--null", b"--definitions <FILE>", b"--annotation", b"inline", b"block", b"each"):
-            self.assertIn(word, done.stdout)
-
     def test_version(self):
         self.expect(ask("--version"), stdout=f"tex2mathml {newest_version()}\n".encode())
-
-    def test_wrong_ones(self):
-        definitions = ["--definitions", "/dev/null"]
-        for words in (["--wrong"], ["--display"], ["--display", "wrong"], ["x"], ["--null", "--null"], ["--annotation", "--annotation"],
-                      ["--annotation=x"], ["--definitions"], [*definitions, *definitions], ["--definitions", "--null"], [b"\xff"]):
-            with self.subTest(words):
-                done = ask(*words, stdin=b"x")
-                self.expect(done, 2, b"", None)
-                self.assertTrue(done.stderr)
 
 
 class Page(Case):

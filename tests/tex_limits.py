@@ -30,5 +30,4 @@ def column(rows):
 
 
 def nested(levels):
-    """Nested tables."""
     return "\\begin{matrix}" * levels + "x" + "\\end{matrix}" * levels

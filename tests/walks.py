@@ -19,10 +19,8 @@ FILES = {
     "z.html": (b"$x$", X),
 }
 
-# the names below the folder in the order of the walk, with the folder itself
+# the names below the folder in the order of the walk, with the folder itself, and the lines of such a walk
 WALKED = sorted({"", "d", "g", *FILES})
-
-# the lines of such a walk
 DUE = [("b.html", UNPAIRED), ("f.html", NO_TEXT)]
 
 
@@ -41,11 +39,10 @@ class Folder:
 
     def faults_in(self, lines):
         """The names and the faults of a walk's lines."""
-        prefix = bytes(self.path)
-        for line in lines.splitlines():
-            path, _, fault = line.partition(b": ")
-            assert path.startswith(prefix), line
-            yield path[len(prefix):].lstrip(b"/").decode(), fault.decode()
+        for line in lines.decode().splitlines():
+            path, _, fault = line.partition(": ")
+            assert path.startswith(str(self.path)), line
+            yield path.removeprefix(str(self.path)).lstrip("/"), fault
 
     def judge(self, case, lines, is_refused, is_one, is_wanting):
         """Checks the lines and the files after a walk in which a request was refused, or one and all that follow it. A line is about

@@ -7,8 +7,7 @@ import sys
 import threading
 import time
 
-# How many lines of a command's output are shown if it fails.
-SHOWN = 40
+SHOWN = 40  # lines of a command's output if it fails
 
 
 def clock(seconds):
@@ -27,13 +26,11 @@ class Screen:
 
     def renew(self, text):
         """Replaces the last line by the text, on a terminal. Elsewhere it prints nothing."""
-        with self.lock:
-            if not self.is_terminal:
-                return
-            width = shutil.get_terminal_size().columns
-            self.renewed = text[: width - 1]
-            self.stream.write(f"\r\x1b[K{self.renewed}")
-            self.stream.flush()
+        if self.is_terminal:
+            with self.lock:
+                self.renewed = text[:shutil.get_terminal_size().columns - 1]
+                self.stream.write(f"\r\x1b[K{self.renewed}")
+                self.stream.flush()
 
     def say(self, text):
         """Prints lines that stay."""

@@ -62,7 +62,7 @@ def signature(source, name):
         raise LookupError(f"{source.name} has no function {name}")
     indent = len(lines[begin]) - len(lines[begin].lstrip())
     end = next(at for at in range(begin, len(lines)) if lines[at] in (" " * indent + "{", " " * indent + "{}") or lines[at].endswith(";"))
-    kept = lines[begin:end] if not lines[end].endswith(";") else lines[begin:end + 1]
+    kept = lines[begin:end + lines[end].endswith(";")]
     return "".join(f"{line[indent:]}\n" for line in kept if not line.strip().startswith("//"))
 
 
@@ -74,9 +74,7 @@ def public_calls():
 
 def sources():
     for crate in LIBRARY:
-        for source in sorted((ROOT / "crates" / crate / "src").rglob("*.rt")):
-            if f"{crate}/{source.name}" not in OWN_CALLS:
-                yield source
+        yield from (it for it in sorted((ROOT / "crates" / crate / "src").rglob("*.rt")) if f"{crate}/{it.name}" not in OWN_CALLS)
     for crate, files in CALLED_OF.items():
         yield from (ROOT / "crates" / crate / "src" / file for file in files)
 

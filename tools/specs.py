@@ -1,4 +1,5 @@
 """The definitions that the public contracts rest on: those that their clauses name, and all that these import."""
+import collections
 import functools
 import pathlib
 import re
@@ -38,17 +39,11 @@ def imports(found):
 @dataclass(frozen=True)
 class Spec:
     """A file of definitions: the paths that it imports, and the number of its lines without comments, imports and empty lines."""
+    crate: str
+    name: str
     path: pathlib.Path
     imported: list = field(compare=False)
     lines: int = field(compare=False)
-
-    @property
-    def name(self):
-        return self.path.stem
-
-    @property
-    def crate(self):
-        return self.path.parent.parent.name
 
 
 @functools.cache
@@ -58,8 +53,9 @@ def spec(crate, name):
     if not path.exists():
         return None
     code = code_of(path.read_text(encoding="utf-8"), "--")
+    imported = [it for found in USE.finditer(code) for _, it in imports(found)]
     body = re.sub(r"^pub mod .*$", "", USE.sub("", code), flags=re.M)
-    return Spec(path, [it for found in USE.finditer(code) for _, it in imports(found)], sum(bool(line.strip()) for line in body.split("\n")))
+    return Spec(crate, name, path, imported, sum(bool(line.strip()) for line in body.split("\n")))
 
 
 def resolve(path):
@@ -93,11 +89,11 @@ def in_order(paths):
 def library_words(specs, paths):
     """The words of the standard library, and of what that builds on, that these files import or that are among these paths, by
     module."""
-    found = {}
+    found = collections.defaultdict(list)
     for path in sorted({*paths, *(it for here in specs for it in here.imported)}):
         if not path.startswith("Rattle.latex2mathml"):
             module, _, word = path.removeprefix("Rattle.std.").rpartition(".")
-            found.setdefault(module, []).append(word)
+            found[module].append(word)
     return found
 
 

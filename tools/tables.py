@@ -37,7 +37,6 @@ def entries(pattern, table, *fields):
 
 
 def function(pattern, name):
-    """The text of a function."""
     return re.search(rf"^(?:pub(?:\(crate\))? )?fn {name}\(.*?^}}$", source(pattern), re.M | re.S)[0]
 
 

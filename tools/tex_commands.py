@@ -13,7 +13,6 @@ from tools.tables import LITERAL, WrongForm, answers, arms, entries, value
 COMMANDS, UNITS = "latex2mathml_tex_commands/src", "latex2mathml_tex_units/src"
 SECTIONS = tomllib.loads((pathlib.Path(__file__).parent / "tex_commands.toml").read_text(encoding="utf-8"))
 
-
 # where entries of a form are listed: the section, what they are, and an example in which @ is the command
 Place = collections.namedtuple("Place", "section what example", defaults=[""])
 
@@ -73,18 +72,13 @@ def listed():
 def entry_of(name, written):
     draws = "".join(map(value, re.findall(LITERAL, written)))
     form = re.sub(r"\w+::", "", re.sub(LITERAL, "_", written))
-    arrow = form.replace("_", "arrow")
-    if is_arrow(draws) and arrow in PLACES:
-        form = arrow
+    # what Unicode calls an arrow may have a place of its own
+    name_of_sign = unicodedata.name(draws, "") if len(draws) == 1 else ""
+    if re.search("ARROW|HARPOON", name_of_sign) and form.replace("_", "arrow") in PLACES:
+        form = form.replace("_", "arrow")
     if form not in PLACES:
         raise WrongForm(f"{name} is of a form that tools/tex_commands.toml does not list: {form}")
     return Entry(name, PLACES[form], draws)
-
-
-def is_arrow(text):
-    """Whether Unicode calls it an arrow."""
-    name = unicodedata.name(text, "") if len(text) == 1 else ""
-    return "ARROW" in name or "HARPOON" in name
 
 
 def lines():
