@@ -28,14 +28,6 @@ use Rattle.latex2mathml_tex.proofs.Leading.{delimited, given, undelimited}
 use Rattle.latex2mathml_tex_units.proofs.Nexts.{no_more_past_space, no_more_taken}
 use Rattle.latex2mathml_tex.proofs.Marks.{all_refuse, core_refuses}
 
--- the elements of the innermost row are among those of all frames
-row_counts : (style : Style) (fs others : List Frame) (e : Ending) (place : ℕ) (c : Context) (row : CodeRow) → IsInnermost style fs (frame.Row e place c row) others → row_count row ≤ sum_by element_count fs
-row_counts style fs others e place c row (none_begun h k g) = let same : row ≡ empty_row = cc g in rw same (omega arith)
-row_counts style fs others e place c row (on_top h) = let sum = ap (sum_by element_count) h ∙ sum_by_push element_count others (frame.Row e place c row) in omega (arith, sum)
-
-pub row_is_there : (p : Parser) (e : Ending) (place : ℕ) (row : CodeRow) → (c : Context) × InnermostIs (frame.Row e place c row) p → HasElements 0 p → row_count row ≤ length (elements_of p)
-row_is_there p e place row (c, (others, i)) h = let some = row_counts p.style p.frames.stack.items others e place c row i in omega (arith, some, h)
-
 -- The first elements changed
 
 pub first_mapped : (f : Element → Element) (n : ℕ) (xs : List Element) → take n (mapped_first f n xs) ≡ map f (take n xs)

@@ -24,10 +24,6 @@ module _ {A : Type 0} (part : (A → Rule) → Rule) (p q : Parser) where
       let frames : sum_by frame_weight q.frames.stack.items ≡ sum_by frame_weight p.frames.stack.items = ap (λ (x : Parser). sum_by frame_weight x.frames.stack.items) same in
       step_within p q new answer n m (omega (arith, frames, fewer, h)) step
 
-  pub handed_keeps : (x : A) → TookBy part p q (Some x) → CanBegin 0 p → CanBegin 0 q
-  handed_keeps x (same, (fewer, on)) can =
-      subst (CanBegin 0) (sym same) (record { elements = can.elements; awaits = record { accepted = can.awaits.accepted; nested = can.awaits.nested } })
-
   pub stopped : (s : Start) (more : A → Rule) → TookBy part p q None → Begins (part more) 0 s p → Holds s q state.Refused
   stopped s more (r, (same, (reported, (fewer, on)))) g =
       refused_at s p q 0 r (ap (λ (x : Parser). x.style) same) reported g.style (core_refuses r (level 0 s p) (g.leads.to _ (on more)))

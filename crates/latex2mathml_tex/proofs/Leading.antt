@@ -108,12 +108,6 @@ module _ {ending : Ending} {c : Context} {xs : Row} {K : Outcome Row → Type 0}
   atom_due p e k (Read x n) d = λ o ds. k o (atom_read p e d ds)
   atom_due p e k (Refused r) d = k _ (atom_refused p e d)
 
-  pub divider_due : {u : Unit} {m n : Units} {text : List ℕ} → past_space l ≡ Next u m → IsFalse (ends ending u.piece) → atom_start ending u.piece ≡ DividerStart → next_are (delimiter_of ∷ []) m ≡ Some (text, n) → Leads (row ending c xs K) l → AtomMade (row ending c xs K) (Read (divider text) n)
-  divider_due p e s d k = atom_due p e k _ (divider_read s (delimiter_taken d rule_gives))
-
-  pub divider_missing : {u : Unit} {m : Units} → past_space l ≡ Next u m → IsFalse (ends ending u.piece) → atom_start ending u.piece ≡ DividerStart → next_are (delimiter_of ∷ []) m ≡ None → Leads (row ending c xs K) l → K (Refused (refusal_here MissingDelimiter (past_space m)))
-  divider_missing p e s d k = atom_due p e k _ (divider_refused s (delimiter_missing d))
-
   pub scripts_due : {u : Unit} {m : Units} → past_space l ≡ Next u m → IsFalse (ends ending u.piece) → atom_start ending u.piece ≡ ScriptStart → Leads (row ending c xs K) l → ScriptsLead (row ending c xs K) empty_base (no_scripts empty_base.kind Beside) (Next u m)
   scripts_due p e s k = λ o d. atom_due p e k o (on_empty_row s d)
 

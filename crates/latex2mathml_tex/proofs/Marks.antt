@@ -113,9 +113,6 @@ no_limits_step scripts place None (Some y) e = rw e refl
 no_limits_step scripts place (Some x) None e = rw e refl
 no_limits_step scripts place (Some x) (Some y) e = rw e refl
 
-none_below : (above exchanged : Bool) (xs : List Element) → element_below false above exchanged xs ≡ None
-none_below above exchanged xs = refl
-
 none_above : (below exchanged : Bool) (xs : List Element) → element_above below false exchanged xs ≡ None
 none_above true exchanged xs = refl
 none_above false exchanged xs = refl

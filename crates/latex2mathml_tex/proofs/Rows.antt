@@ -108,15 +108,6 @@ others_counted style fs others e place context row longer xs ys (on_top h) enoug
     let brought : sum_by element_count fs ≡ sum_by element_count others + (row_count row + ending_count e) = ap (sum_by element_count) h ∙ sum_by_push element_count others (frame.Row e place context row) in
     omega (arith, left, brought, enough, rest, there)
 
-pub row_can_open : (p q : Parser) (f : Frame) (e : Ending) (place : ℕ) (context : Context) (row longer : CodeRow) → IsInnermost p.style p.frames.stack.items f q.frames.stack.items → f ≡ frame.Row e place context row → CanMake atom_made 1 p → drop longer.count (elements_of q) ≡ drop (row.count + 1) (elements_of p) → row_rest longer ≡ row_rest row → longer.count ≤ length (elements_of q) → CanMake (row_makes e) (row_count longer + ending_count e) q
-row_can_open p q f e place context row longer i is can below rest there =
-    let inner : IsInnermost p.style p.frames.stack.items (frame.Row e place context row) q.frames.stack.items = subst (λ f. IsInnermost p.style p.frames.stack.items f q.frames.stack.items) is i in
-    let awaits = both _ _ (others_await p.style p.frames.stack.items q.frames.stack.items e place context row inner can.awaits.nested) in
-    record {
-      elements = others_counted p.style p.frames.stack.items q.frames.stack.items e place context row longer (elements_of p) (elements_of q) inner can.elements below rest there;
-      awaits = record { accepted = awaits.0; nested = awaits.1 };
-    }
-
 frame_same : (e : Ending) (place : ℕ) (context : Context) (row longer : CodeRow) → frame_weight (frame.Row e place context longer) ≡ frame_weight (frame.Row e place context row)
 frame_same ending.Text place context row longer = refl
 frame_same e place context row longer = refl
