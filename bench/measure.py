@@ -51,9 +51,9 @@ def count_instructions(command, word, text):
     return instructions([*command, word], text(COUNTED).encode())
 
 
-def count_tex(command, text):
+def count_tex(command, words, text):
     """Returns the instructions of a run of `tex2mathml` over a workload."""
-    return instructions([command], text(COUNTED).encode())
+    return instructions([command, *words], text(COUNTED).encode())
 
 
 def figures():
@@ -65,7 +65,7 @@ def figures():
 def renew():
     """Counts the instructions of each workload of both programs, and writes the file."""
     counts = [(count_instructions([program.path()], word, text), name.strip()) for word, name, text in workloads.workloads()]
-    counts += [(count_tex(program.tex_path(), text), name.strip()) for name, text in workloads.tex_workloads()]
+    counts += [(count_tex(program.tex_path(), words, text), name.strip()) for words, name, text in workloads.tex_workloads()]
     FIGURES.write_text("".join(f"{count:,}  {name}\n" for count, name in counts), encoding="utf-8")
     print(FIGURES.read_text(encoding="utf-8"), end="")
 

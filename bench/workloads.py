@@ -72,6 +72,13 @@ def repeated():
     return [(formula, lambda size, formula=formula: repeat(formula, size)) for formula in REPEATED]
 
 
+def many_formulas(size):
+    """Returns the formulas that people write, as `tex2mathml --null` reads them: with a NUL after each."""
+    every = formulas()
+    return join(size, lambda place: f"{every[place % len(every)]}\0")
+
+
 def tex_workloads():
-    """Returns what is counted for `tex2mathml`: the same formulas."""
-    return [(f"tex2mathml {formula}", text) for formula, text in repeated()]
+    """Returns what is counted for `tex2mathml`: the program's words, a name, and a function from a size to the text."""
+    return [(["--null"], "tex2mathml real formulas", many_formulas),
+            *(([], f"tex2mathml {formula}", text) for formula, text in repeated())]

@@ -15,7 +15,7 @@ import workloads  # noqa: E402
 
 MARGIN = 0.05
 LOADS = {name.strip(): (word, text) for word, name, text in workloads.workloads()}
-TEX_LOADS = {name.strip(): text for name, text in workloads.tex_workloads()}
+TEX_LOADS = {name.strip(): (words, text) for words, name, text in workloads.tex_workloads()}
 
 
 class Figures(support.Case):
@@ -42,8 +42,8 @@ class Instructions(Counted):
 @support.requires("valgrind")
 class TexInstructions(Counted):
     @support.each_row({str(number): row for number, row in enumerate(TEX_LOADS.items())})
-    def judge(self, name, text):
-        self.compare(measure.count_tex(support.tex_program(), text), name, measure, "instructions.txt")
+    def judge(self, name, load):
+        self.compare(measure.count_tex(support.tex_program(), *load), name, measure, "instructions.txt")
 
 
 @support.requires("cc", "valgrind")
