@@ -73,9 +73,8 @@ def repeated():
 
 
 def many_formulas(size):
-    """Returns the formulas that people write, as `tex2mathml --null` reads them: with a NUL after each."""
-    every = formulas()
-    return join(size, lambda place: f"{every[place % len(every)]}\0")
+    """Returns the formulas of the document `real_formulas`, as `tex2mathml --null` reads them: with a NUL after each."""
+    return "".join(f"{formula}\0" for formula in real_formulas(size).split("$")[1::2])
 
 
 def tex_workloads():
