@@ -238,7 +238,7 @@ impl<'a> Parser<'a> {
     {
         let kind = TexErrorKind::MissingDelimiter;
         self.input.skip_space();
-        match self.input.next {
+        match self.input.peek() {
             Next::Unit(unit) => self.refuse(kind, unit.place),
             Next::End(place) => self.refuse(kind, place),
             Next::Fault(fault, place) => self.refuse_fault(fault, place),

@@ -23,13 +23,13 @@ abbrev pub units_end : End → Units
 units_end (end.Text place) = units.End place
 units_end (end.Fault fault place) = units.Stop (refusal_at (kind_of fault) place)
 
--- the units after the lookahead
-abbrev pub units_behind : Input → Units
-units_behind i = before (map unit_of (drop i.passed i.units.now)) (units_end i.end)
-
--- the lookahead and the units after it
+-- the units that an input has left
 abbrev pub units_at : Input → Units
-units_at i = put_back i.next (units_behind i)
+units_at i = before (map unit_of i.rest.now) (units_end i.end)
+
+-- the units that are left after the next one, if there is one
+abbrev pub units_behind : Input → Units
+units_behind i = before (map unit_of (drop 1 i.rest.now)) (units_end i.end)
 
 -- units that pass these tests came next and were taken: this is their text
 abbrev pub TakesNext : List (units.Piece → Option (List ℕ)) → List ℕ → Input → Input → Type 0

@@ -78,7 +78,7 @@ impl<'a> Input<'a> {
     {
         let mut ahead = *self;
         ahead.skip_space();
-        if let Next::Unit(unit) = ahead.next
+        if let Next::Unit(unit) = ahead.peek()
             && let Piece::Open = unit.piece
         {
             ahead.advance();
@@ -97,7 +97,7 @@ impl<'a> Input<'a> {
     {
         let mut ahead = *self;
         ahead.skip_space();
-        if let Next::Unit(unit) = ahead.next
+        if let Next::Unit(unit) = ahead.peek()
             && let Piece::Close = unit.piece
         {
             ahead.advance();

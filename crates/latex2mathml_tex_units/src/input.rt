@@ -1,9 +1,9 @@
-//! The units that are left, with a lookahead of one unit.
+//! The units that are left.
 ghost use Rattle.std.specs.Prelude.{◌≡◌, ◌∷◌, [], false, IsTrue, MatchBool, MatchOption, None, Some};
 ghost use Rattle.latex2mathml_tex_grammar.specs.Delimiters.{delimiter_of, negated_of};
 ghost use Rattle.latex2mathml_tex_grammar.specs.{Dots.centers_dots, Next.follows, Next.past_space};
 ghost use Rattle.latex2mathml_tex_grammar.specs.Rules.{a_character, a_digit, in_brackets};
-ghost use Rattle.latex2mathml_tex_units.specs.{Left.TakesNext, Left.TakesNone, Left.units_end, Left.put_back, Left.units_at, Left.units_behind, Whole.whole_units};
+ghost use Rattle.latex2mathml_tex_units.specs.{Left.TakesNext, Left.TakesNone, Left.put_back, Left.units_at, Left.units_behind, Left.units_end, Whole.whole_units};
 ghost use Rattle.latex2mathml_tex_grammar.specs.Units as units;
 ghost use Rattle.latex2mathml_tex_commands.specs.Delimiters.{delimiter_text};
 
@@ -12,15 +12,12 @@ use crate::dots::centers_dots;
 use crate::macros::whole::{End, Whole};
 use crate::unit::{Next, Piece, Unit};
 
+/// The units that are left.
 #[derive(Clone, Copy)]
 pub struct Input<'a> {
-    units: &'a [Unit<'a>],
-    /// How many units precede those after the lookahead.
-    passed: usize,
+    rest: &'a [Unit<'a>],
     /// How the units end.
     end: End,
-    /// The lookahead: what is next.
-    pub next: Next<'a>,
 }
 
 impl End {
@@ -40,33 +37,30 @@ impl<'a> Input<'a> {
     pub fn new(whole: &'a Whole<'a>) -> Input<'a>
         ensures { units_at result ≡ whole_units whole.now }
     {
-        let mut input = Input {
-            units: &whole.units,
-            passed: 0,
+        Input {
+            rest: &whole.units,
             end: whole.end,
-            next: whole.end.next(),
-        };
-        input.look_ahead();
-        input
+        }
+    }
+
+    /// Returns what is next.
+    #[inline(always)]
+    pub fn peek(&self) -> Next<'a>
+        ensures { units_at self.now ≡ put_back result (units_behind self.now) }
+    {
+        match self.rest {
+            [unit, ..] => Next::Unit(*unit),
+            [] => self.end.next(),
+        }
     }
 
     /// Skips the next unit, if there is one.
+    #[inline(always)]
     pub fn advance(&mut self)
-        ensures { units_at self.old ≡ put_back self.old.next (units_at self.new) }
-    {
-        self.look_ahead();
-    }
-
-    /// Reads ahead: the first of the units after the lookahead becomes the lookahead.
-    fn look_ahead(&mut self)
         ensures { units_at self.new ≡ units_behind self.old }
     {
-        match self.units.get(self.passed) {
-            Some(unit) => {
-                self.next = Next::Unit(*unit);
-                self.passed += 1;
-            }
-            None => self.next = self.end.next(),
+        if let [_, rest @ ..] = self.rest {
+            self.rest = rest;
         }
     }
 
@@ -79,7 +73,7 @@ impl<'a> Input<'a> {
                 piece: Piece::Space,
                 ..
             },
-        ) = self.next
+        ) = self.peek()
         {
             self.advance();
         }
@@ -91,7 +85,7 @@ impl<'a> Input<'a> {
     {
         let mut ahead = *self;
         ahead.skip_space();
-        match ahead.next {
+        match ahead.peek() {
             Next::Unit(unit) => centers_dots(unit.piece),
             Next::End(_) | Next::Fault(_, _) => false,
         }
@@ -105,7 +99,7 @@ impl<'a> Input<'a> {
     {
         let mut ahead = *self;
         ahead.skip_space();
-        if let Next::Unit(unit) = ahead.next
+        if let Next::Unit(unit) = ahead.peek()
             && let Some(delimiter) = delimiter_of(unit.piece)
         {
             ahead.advance();
@@ -123,7 +117,7 @@ impl<'a> Input<'a> {
     {
         let mut ahead = *self;
         ahead.skip_space();
-        if let Next::Unit(unit) = ahead.next
+        if let Next::Unit(unit) = ahead.peek()
             && let Some(sign) = negated_of(unit.piece)
         {
             ahead.advance();
@@ -139,7 +133,7 @@ impl<'a> Input<'a> {
             (TakesNext (a_character c ∷ []) (c ∷ []) self.old self.new)
             (TakesNone (a_character c ∷ []) self.old self.new) }
     {
-        if let Next::Unit(unit) = self.next
+        if let Next::Unit(unit) = self.peek()
             && let Piece::Character(d) = unit.piece
         {
             if c != d {
@@ -159,7 +153,7 @@ impl<'a> Input<'a> {
     {
         let mut ahead = *self;
         ahead.skip_space();
-        if let Next::Unit(unit) = ahead.next
+        if let Next::Unit(unit) = ahead.peek()
             && let Piece::Character(d) = unit.piece
             && c == d
         {
@@ -191,7 +185,7 @@ impl<'a> Input<'a> {
             (TakesNone (a_digit ∷ []) self.old self.new)
             (λ c. TakesNext (a_digit ∷ []) (c ∷ []) self.old self.new) }
     {
-        if let Next::Unit(unit) = self.next
+        if let Next::Unit(unit) = self.peek()
             && let Piece::Character(c) = unit.piece
         {
             if !c.is_ascii_digit() {
@@ -211,7 +205,7 @@ impl<'a> Input<'a> {
     {
         let mut ahead = *self;
         ahead.skip_space();
-        if let Next::Unit(unit) = ahead.next
+        if let Next::Unit(unit) = ahead.peek()
             && let Piece::Character(c) = unit.piece
             && c.is_ascii_digit()
         {
@@ -228,7 +222,7 @@ impl<'a> Input<'a> {
             (TakesNone (a_character 46 ∷ a_digit ∷ []) self.old self.new)
             (λ c. TakesNext (a_character 46 ∷ a_digit ∷ []) (46 ∷ c ∷ []) self.old self.new) }
     {
-        if let Next::Unit(unit) = self.next
+        if let Next::Unit(unit) = self.peek()
             && let Piece::Character(c) = unit.piece
             && c != '.'
         {

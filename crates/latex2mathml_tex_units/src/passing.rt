@@ -24,7 +24,7 @@ impl<'a> Input<'a> {
     {
         let mut spot = spot;
         'units: loop {
-            match self.next {
+            match self.peek() {
                 Next::Fault(fault, at) => return Ok(spot.fault(fault, at)),
                 Next::End(_) => return Ok(spot.end(place)),
                 Next::Unit(unit) => match spot.deed(unit.piece) {

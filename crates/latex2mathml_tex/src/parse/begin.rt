@@ -36,7 +36,7 @@ impl<'a> Parser<'a> {
         ensures step { Advances 1 self.old self.new result }
     {
         self.input.skip_space();
-        match self.input.next {
+        match self.input.peek() {
             Next::Fault(fault, at) => Ok(self.refuse_fault(fault, at)),
             Next::End(_) => Ok(self.refuse(TexErrorKind::MissingArgument, place)),
             Next::Unit(unit) => {
@@ -78,7 +78,7 @@ impl<'a> Parser<'a> {
         ensures step { Advances 1 self.old self.new result }
     {
         self.input.skip_space();
-        match self.input.next {
+        match self.input.peek() {
             Next::Fault(fault, at) => Ok(self.refuse_fault(fault, at)),
             Next::End(_) => Ok(self.refuse(TexErrorKind::MissingArgument, place)),
             Next::Unit(unit) => {

@@ -22,7 +22,7 @@ pub(crate) fn put_symbol_operand(
         (TookOperand context input.old input.new builder.old builder.new)
         ((input.new ≡ input.old) × (builder.new ≡ builder.old))) }
 {
-    let Next::Unit(unit) = input.next else {
+    let Next::Unit(unit) = input.peek() else {
         return Ok(false);
     };
     let Piece::Character(c) = unit.piece else {

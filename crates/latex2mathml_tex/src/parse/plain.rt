@@ -31,7 +31,7 @@ impl<'a> Parser<'a> {
         let Some(context) = self.frames.row_context(self.style) else {
             return Ok(None);
         };
-        let Next::Unit(unit) = self.input.next else {
+        let Next::Unit(unit) = self.input.peek() else {
             return Ok(None);
         };
         match unit.piece {
@@ -102,7 +102,7 @@ impl<'a> Parser<'a> {
         ensures step { Advances 1 self.old self.new result }
     {
         if let Some(context) = self.frames.row_context(self.style)
-            && let Next::Unit(unit) = self.input.next
+            && let Next::Unit(unit) = self.input.peek()
         {
             match unit.piece {
                 Piece::Character(c) if !ends_or_marks(c) => {
@@ -138,7 +138,7 @@ impl<'a> Parser<'a> {
         ensures step { Follows (to_do self.old + 3) self.new (added_state result core) }
     {
         self.input.skip_space();
-        match self.input.next {
+        match self.input.peek() {
             Next::Unit(unit) => {
                 if let Some(_) = mark_of(unit.piece) {
                     return false;

@@ -40,7 +40,7 @@ impl<'a> Parser<'a> {
         ensures step { Advances 1 self.old self.new result }
     {
         self.input.skip_space();
-        match self.input.next {
+        match self.input.peek() {
             Next::Fault(fault, at) => Ok(self.refuse_fault(fault, at)),
             Next::End(at) => {
                 let _ = self.frames.take(self.style);

@@ -59,7 +59,7 @@ impl<'a> Parser<'a> {
         ensures step { Advances 2 self.old self.new result }
     {
         self.input.skip_space();
-        match self.input.next {
+        match self.input.peek() {
             Next::Unit(unit) => {
                 if let Some(mark) = mark_of(unit.piece) {
                     self.input.advance();

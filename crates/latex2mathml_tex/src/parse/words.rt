@@ -42,7 +42,7 @@ impl<'a> Parser<'a> {
             self.old self.new result }
         ensures step { Advances 1 self.old self.new result }
     {
-        match self.input.next {
+        match self.input.peek() {
             Next::Fault(fault, at) => Ok(self.refuse_fault(fault, at)),
             Next::End(_) => Ok(self.refuse(TexErrorKind::MissingArgument, place)),
             Next::Unit(unit) => {
@@ -174,7 +174,7 @@ impl<'a> Parser<'a> {
                 let _ = self.frames.take(self.style);
                 self.end_text(words)
             }
-            Frame::Words(place, alphabet) => match self.input.next {
+            Frame::Words(place, alphabet) => match self.input.peek() {
                 Next::Unit(unit) => match unit.piece {
                     Piece::Close => {
                         self.input.advance();
