@@ -22,7 +22,6 @@ use latex2mathml_builder::works::Works;
 use latex2mathml_tex_atoms::shapes::put_row;
 use latex2mathml_tex_commands::meaning::Style;
 use latex2mathml_tex_units::error::{TexError, TexErrorKind};
-use latex2mathml_tex_units::macros::expander::Expander;
 use latex2mathml_tex_units::macros::table::Macros;
 use latex2mathml_tex_units::macros::whole::Whole;
 use latex2mathml_tex_units::unit::Unit;
@@ -191,7 +190,7 @@ impl<'a> Converter<'a> {
             IfRefused result (IsRefusal table tex.now (style_in display))) }
     {
         let room = mem::replace(&mut self.units, Vec::new(self.alloc));
-        let whole = Expander::new(self.alloc, macros, tex).take_all(room)?;
+        let whole = Whole::of_text(self.alloc, macros, tex, room)?;
         let result = self.read_units(&whole, style_for(display));
         self.units = whole.units;
         result

@@ -1,4 +1,5 @@
 pub mod Colored
+pub mod Keyed
 pub mod Lookups
 pub mod NamedEntries
 pub mod Parts

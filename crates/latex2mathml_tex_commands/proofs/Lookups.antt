@@ -32,7 +32,7 @@ less_apart a b h = texts_ties a b ∙ ap is_eq h
 greater_apart : (a b : List ℕ) → slice_cmp nat_cmp a b ≡ Less → bytes_eq b a ≡ false
 greater_apart a b h = texts_ties b a ∙ ap is_eq (nat_list_cmp_total.antisymm b a ∙ ap ordering_reverse h)
 
-equal_names : (a b : List ℕ) → slice_cmp nat_cmp a b ≡ Equal → b ≡ a
+pub equal_names : (a b : List ℕ) → slice_cmp nat_cmp a b ≡ Equal → b ≡ a
 equal_names a b h = sym ((bytes_eq-Decides a b).0 (texts_ties a b ∙ ap is_eq h))
 
 module _ {V : Type 0} where
@@ -107,7 +107,7 @@ module _ {V R : Type 0} (gives : List ℕ × V → R) where
 
 -- A search by halving, among entries as the code has them
 
-nonempty : {E : Type 0} (entries : List E) → (length entries == 0) ≡ false → 0 < length entries
+pub nonempty : {E : Type 0} (entries : List E) → (length entries == 0) ≡ false → 0 < length entries
 nonempty entries h = grind (arith, nat_tests)
 
 module _ {V R E : Type 0} (gives : List ℕ × V → R) (entry_of : E → List ℕ × V) where
@@ -151,13 +151,17 @@ module _ {V R E : Type 0} (gives : List ℕ × V → R) (entry_of : E → List �
         few = simp length-drop (omega (arith, inv.few));
       })
 
-  -- the middle entry is the result if its name is equal
-  pub found : (table entries : List E) (name : List ℕ) (d : E) (o : Ordering) → Narrowed table entries name → (length entries == 0) ≡ false → o ≡ slice_cmp nat_cmp name (entry_of (get_or entries (length entries / 2) d)).0 → o ≡ Equal → looked_up gives (map entry_of table) name ≡ Some (gives (entry_of (get_or entries (length entries / 2) d)))
-  found table entries name d o inv h cmp is =
+  -- the middle entry is the result if it has the name
+  pub named : (table entries : List E) (name : List ℕ) (d : E) → Narrowed table entries name → (length entries == 0) ≡ false → (entry_of (get_or entries (length entries / 2) d)).0 ≡ name → looked_up gives (map entry_of table) name ≡ Some (gives (entry_of (get_or entries (length entries / 2) d)))
+  named table entries name d inv h is =
       let some : 0 < length entries = nonempty entries h in
       let split = split_entries entries (length entries / 2) d (omega arith) in
       let a = subst InOrder split inv.ordered in
-      inv.same ∙ ap (λ r. looked_up gives r name) split ∙ stands_here gives name _ (entry_of (get_or entries (length entries / 2) d)) _ a (equal_names name (entry_of (get_or entries (length entries / 2) d)).0 (sym cmp ∙ is))
+      inv.same ∙ ap (λ r. looked_up gives r name) split ∙ stands_here gives name _ (entry_of (get_or entries (length entries / 2) d)) _ a is
+
+  -- and so it is if its name compares as equal
+  pub found : (table entries : List E) (name : List ℕ) (d : E) (o : Ordering) → Narrowed table entries name → (length entries == 0) ≡ false → o ≡ slice_cmp nat_cmp name (entry_of (get_or entries (length entries / 2) d)).0 → o ≡ Equal → looked_up gives (map entry_of table) name ≡ Some (gives (entry_of (get_or entries (length entries / 2) d)))
+  found table entries name d o inv h cmp is = named table entries name d inv h (equal_names name (entry_of (get_or entries (length entries / 2) d)).0 (sym cmp ∙ is))
 
   -- no entry is the result if none is left
   pub none_left : (table entries : List E) (name : List ℕ) → Narrowed table entries name → length entries ≡ 0 → looked_up gives (map entry_of table) name ≡ None

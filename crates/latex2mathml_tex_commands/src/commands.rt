@@ -4,7 +4,7 @@ ghost use Rattle.std.specs.{Cmp.Lexicographic.slice_cmp, List.AllPass, List.list
 ghost use Rattle.latex2mathml_tokens.specs.Keys.{is_key};
 ghost use Rattle.latex2mathml_tex_grammar.specs.{Commands.entry_meaning, Commands.meaning_of, Sorted.ascending};
 ghost use Rattle.latex2mathml_tex_commands.specs.Meanings;
-ghost use Rattle.latex2mathml_tex_commands.specs.{Meanings.entry_of, Keys.has_key, Parts.entries_in, Parts.part_of};
+ghost use Rattle.latex2mathml_tex_commands.specs.{Meanings.entry_of, Keys.IsCandidate, Keys.MeansIfNamed, Keys.has_key, Parts.entries_in, Parts.part_of};
 
 mod a_and_b;
 mod before_a;
@@ -30,7 +30,26 @@ pub fn find(name: &str) -> Option<&'static Meaning>
     ensures { MatchOption result (meaning_of name.now ≡ None)
         (λ meaning. meaning_of name.now ≡ Some (Meanings.meaning_of meaning.now)) }
 {
-    search(part_for(name), name)
+    let Some(entry) = search(part_for(name), name) else {
+        return None;
+    };
+    if name.len() <= 8 && name.len() == entry.name.len() {
+        return Some(&entry.meaning);
+    }
+    find_long(name, entry)
+}
+
+/// Returns what the command with this name means, if there is one. This entry has the key of the name.
+#[inline(never)]
+fn find_long(name: &str, entry: &'static Entry) -> Option<&'static Meaning>
+    requires { MeansIfNamed entry.now name.now }
+    ensures { MatchOption result (meaning_of name.now ≡ None)
+        (λ meaning. meaning_of name.now ≡ Some (Meanings.meaning_of meaning.now)) }
+{
+    if name == entry.name {
+        return Some(&entry.meaning);
+    }
+    search_names(part_for(name), name)
 }
 
 /// Returns the part of the table in which this name is looked up.
@@ -49,48 +68,51 @@ fn part_for(name: &str) -> &'static [Entry]
     }
 }
 
-/// Returns what the entry with this name means, if the sorted entries have one. Each comparison halves the entries that are
-/// left.
-fn search(table: &'static [Entry], name: &str) -> Option<&'static Meaning>
+/// Returns an entry with the key of this name, if the sorted entries have one. Each comparison halves the entries that are
+/// left. Most names differ in their keys from all others.
+#[inline(always)]
+fn search(table: &'static [Entry], name: &str) -> Option<&'static Entry>
     requires ordered { IsTrue (ascending (map entry_of table.now)) }
     requires few { length table.now < 512 }
     requires keyed { AllPass has_key table.now }
     ensures { MatchOption result (entry_meaning (map entry_of table.now) name.now ≡ None)
-        (λ meaning. entry_meaning (map entry_of table.now) name.now
-        ≡ Some (Meanings.meaning_of meaning.now)) }
+        (λ entry. IsCandidate (map entry_of table.now) entry.now name.now) }
 {
     let key = key_of(name);
     let mut entries = table;
     while !entries.is_empty() {
         let middle = entries.len() / 2;
         let entry = &entries[middle];
-        match compare(key, name, entry) {
+        if key < entry.key {
+            entries = &entries[..middle];
+        } else if key > entry.key {
+            entries = &entries[middle + 1..];
+        } else {
+            return Some(entry);
+        }
+    }
+    None
+}
+
+/// Returns what the entry with this name means, if the sorted entries have one.
+fn search_names(table: &'static [Entry], name: &str) -> Option<&'static Meaning>
+    requires ordered { IsTrue (ascending (map entry_of table.now)) }
+    requires few { length table.now < 512 }
+    ensures { MatchOption result (entry_meaning (map entry_of table.now) name.now ≡ None)
+        (λ meaning. entry_meaning (map entry_of table.now) name.now
+        ≡ Some (Meanings.meaning_of meaning.now)) }
+{
+    let mut entries = table;
+    while !entries.is_empty() {
+        let middle = entries.len() / 2;
+        let entry = &entries[middle];
+        match name.cmp(entry.name) {
             Ordering::Equal => return Some(&entry.meaning),
             Ordering::Less => entries = &entries[..middle],
             Ordering::Greater => entries = &entries[middle + 1..],
         }
     }
     None
-}
-
-/// Compares the name, which has this key, with the entry's name. Most names differ in their keys, and short names with the
-/// same key differ only in length.
-#[inline(always)]
-fn compare(key: u64, name: &str, entry: &Entry) -> Ordering
-    requires key { IsTrue (is_key key name.now) }
-    requires keyed { IsTrue (has_key entry.now) }
-    ensures { result ≡ slice_cmp nat_cmp name.now entry.now.name.now }
-{
-    if key < entry.key {
-        return Ordering::Less;
-    }
-    if key > entry.key {
-        return Ordering::Greater;
-    }
-    if name.len() <= 8 && entry.name.len() <= 8 {
-        return name.len().cmp(&entry.name.len());
-    }
-    name.cmp(entry.name)
 }
 
 /// Returns the key of a name: its first eight bytes as a number, with zeros after its end.

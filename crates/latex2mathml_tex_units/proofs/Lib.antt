@@ -14,12 +14,12 @@ pub mod Plain
 pub mod PuttingBodies
 pub mod Runs
 pub mod Scanned
+pub mod Standing
 pub mod Starts
 pub mod Tables
 pub mod Taken
 pub mod Texts
 pub mod Turning
-pub mod UsualForms
+pub mod TurningForms
 pub mod UsualLookups
 pub mod Whole
-pub mod WordForms

@@ -1,5 +1,5 @@
 -- What the start of a text takes from its units.
-use Rattle.std.proofs.Common.{◌≡◌, ℕ, ◌+◌, ◌-◌, ◌≤◌, List, [], ◌∷◌, ◌++◌, length, Some, None, refl, sym, ap, ◌∙◌, arith}
+use Rattle.std.proofs.Common.{◌≡◌, ℕ, ◌+◌, ◌-◌, ◌≤◌, ◌==◌, true, List, [], ◌∷◌, ◌++◌, length, Some, None, refl, sym, ap, ◌∙◌, arith, true-eqb}
 use Rattle.std.specs.Str.{chars, IsUtf8}
 use Rattle.latex2mathml_tex_grammar.specs.{Cutting.units_of, Refusal.Refusal}
 use Rattle.latex2mathml_tex_grammar.specs.Units.{Piece, Next, End, Stop, unit, behind, Spells, IsRefusedAt, lone_backslash, forbidden, forbidden_name, at_end, refused}
@@ -8,6 +8,11 @@ use Rattle.latex2mathml_tex_units.proofs.Texts.{text_length}
 
 pub nothing_left : (place : ℕ) (text : List ℕ) → text ≡ [] → units_of place text ≡ End place
 nothing_left place text e = units_are place text (End place) (at_end e refl)
+
+pub ended_there : (place : ℕ) (text : List ℕ) → (length text == 0) ≡ true → units_of place (chars text) ≡ End place
+unfolding chars
+ended_there place [] e = nothing_left place [] refl
+ended_there place (b ∷ text) e = absurd (omega (arith, true-eqb _ _ (sym e)))
 
 pub refused_there : (place : ℕ) (text : List ℕ) (r : Refusal) → IsRefusedAt place text r → units_of place text ≡ Stop r
 refused_there place text r h = units_are place text (Stop r) (refused r h refl)
@@ -38,3 +43,10 @@ pub refused_some : (place : ℕ) (text : List ℕ) (r : Refusal) → IsRefusedAt
 refused_some place text r (lone_backslash e f) = some_bytes _ text _ e
 refused_some place text r (forbidden c rest h e f) = some_bytes c text rest e
 refused_some place text r (forbidden_name c rest h e f) = some_bytes _ text _ e
+
+-- the same, where a place is counted from the end
+pub piece_before : (end : ℕ) (text rest w : List ℕ) (piece : Piece) → IsUtf8 text → IsUtf8 rest → length text ≤ end → chars text ≡ w ++ chars rest → Spells w (chars rest) (Some piece) → units_of (end - length text) (chars text) ≡ Next (unit piece (end - length text)) (units_of (end - length rest) (chars rest))
+piece_before end text rest w piece u v h e spells =
+    let within : length rest ≤ length text = end_within text rest u v (w, e) in
+    let place : (end - length text) + (length text - length rest) ≡ end - length rest = omega (arith, h, within) in
+    piece_taken (end - length text) text rest w piece u v e spells ∙ ap (λ p. Next (unit piece (end - length text)) (units_of p (chars rest))) place

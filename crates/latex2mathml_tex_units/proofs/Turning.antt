@@ -1,5 +1,5 @@
 -- The turns of an expansion, in the code and in the grammar.
-use Rattle.std.proofs.Common.{◌≡◌, ℕ, suc, ◌+◌, ◌<◌, ◌≤◌, false, List, Option, Some, None, refl, sym, ap, subst, ◌∙◌, arith}
+use Rattle.std.proofs.Common.{◌≡◌, ℕ, suc, ◌+◌, ◌<◌, ◌≤◌, List, Option, Some, None, refl, sym, ap, subst, ◌∙◌, arith}
 use Rattle.std.specs.Prelude.{option_map, Err}
 use Rattle.latex2mathml_tex_grammar.specs.Definitions.{behind_definition, definition_of, word_named}
 use Rattle.latex2mathml_tex_grammar.specs.Definitions as definitions
@@ -10,8 +10,6 @@ use Rattle.latex2mathml_tex_grammar.specs.Units as units
 use Rattle.latex2mathml_tex_grammar.specs.Units.{Units}
 use Rattle.latex2mathml_tex_grammar.proofs.Expanding.{Shrinks, expansion_end, expansion_fails, expansion_stays, expansion_stop, expansion_turns, turn_shrinks}
 use Rattle.latex2mathml_tex_grammar.proofs.SameTables.{expansion_same}
-use Rattle.latex2mathml_tex_units.proofs.{UsualForms.no_usual, WordForms.no_word}
-use Rattle.latex2mathml_tex_units.specs.{UsualForms.may_be_usual, WordForms.may_be_word}
 use Rattle.latex2mathml_tex_units.specs.{Bodies.macro_of, Expanded.IsHalted, Expanded.Turned, Expanded.after_refusal, MacroTables.defined_in, MacroTables.or_usual, MacroTables.table_of, Taking.Takes, Taking.piece_of, Taking.unit_of}
 use Rattle.latex2mathml_tex_units.specs.declared.macros.{expander.Expander.Expander, halt.Halt.Halt, scope.Scope.Scope}
 use Rattle.latex2mathml_tex_units.specs.declared.macros.part.Macro.{Macro as CodeMacro}
@@ -69,14 +67,14 @@ word_taken m n name place uses room l k o word d none usual is named_so read sam
     )
 
 -- a name that neither was defined nor is that of a usual macro or of a word
-pub left_alone : (m : Scope) (name : List ℕ) (place uses room : ℕ) (l : Units)
-    → ((other : List ℕ) → defined_in m other ≡ None)
-    → may_be_usual name ≡ false
-    → may_be_word name ≡ false
+pub name_left : (m : Scope) (name : List ℕ) (place uses room : ℕ) (l : Units)
+    → None ≡ defined_in m name
+    → usual_macros name ≡ None
+    → word_named name ≡ None
     → turn (table_of m) uses room (named name place) l ≡ Stays
-left_alone m name place uses room l none usual word =
-    let stands : table_of m name ≡ None = ap (λ x. or_usual x name) (none name) ∙ no_usual name usual in
-    ap (λ x. turn_of (name_role x name) (table_of m) uses room (named name place) l) stands ∙ ap (λ w. turn_of (word_role w) (table_of m) uses room (named name place) l) (no_word name word)
+name_left m name place uses room l none usual word =
+    let stands : None ≡ table_of m name = undefined m name None none (sym usual) in
+    ap (λ x. turn_of (name_role x name) (table_of m) uses room (named name place) l) (sym stands) ∙ ap (λ w. turn_of (word_role w) (table_of m) uses room (named name place) l) word
 
 -- Taking the next unit
 

@@ -1,8 +1,12 @@
--- What is taken where a character is taken by itself.
-use Rattle.std.specs.Prelude.{◌≡◌, ℕ}
-use Rattle.latex2mathml_tex_grammar.specs.Units as units
-use Rattle.latex2mathml_tex_grammar.specs.Units.{Units}
+-- Characters that are units by themselves.
+use Rattle.std.specs.Prelude.{ℕ, Bool, ◌&&◌, List, map, nat_lt, not}
+use Rattle.std.specs.List.{range_with_len}
+use Rattle.latex2mathml_tex_grammar.specs.Units.{is_special}
 
--- this character was taken at this place from the units `old`, and the units `new` are left
-abbrev pub TakesCharacter : ℕ × ℕ → Units → Units → Type 0
-TakesCharacter taken old new = old ≡ units.Next (units.unit (units.Character taken.0) taken.1) new
+-- a printable character of ASCII that begins no other unit
+abbrev pub is_plain : ℕ → Bool
+is_plain c = nat_lt 0x20 c && nat_lt c 0x7F && not (is_special c)
+
+-- which bytes are such characters
+unfoldable pub plain_bytes : List Bool
+plain_bytes = map is_plain (range_with_len 0 256)

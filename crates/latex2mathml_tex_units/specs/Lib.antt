@@ -13,8 +13,8 @@ pub mod Positions
 pub mod Putting
 pub mod Runs
 pub mod Scans
+pub mod Standing
 pub mod Taking
 pub mod Texts
-pub mod UsualForms
+pub mod TurningForms
 pub mod Whole
-pub mod WordForms

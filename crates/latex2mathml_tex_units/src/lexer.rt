@@ -1,21 +1,20 @@
 //! The units of a text, taken one at a time.
-ghost use Rattle.std.specs.Prelude.{◌≡◌, ◌+◌, ◌<◌, ◌^◌, MatchOption, length};
+ghost use Rattle.std.specs.Prelude.{◌≡◌, ◌+◌, ◌<◌, ◌^◌, IfSome, length};
 ghost use Rattle.std.specs.Str.{chars};
-ghost use Rattle.latex2mathml_tex_grammar.specs.Cutting.{units_of};
-ghost use Rattle.latex2mathml_tex_units.specs.{Characters.TakesCharacter, Taking.Takes};
+ghost use Rattle.latex2mathml_tex_grammar.specs.{Cutting.units_of, Units.End};
+ghost use Rattle.latex2mathml_tex_units.specs.Taking.{Takes};
 
 pub mod characters;
-mod slices;
+pub(crate) mod slices;
 
-use crate::lexer::characters::{first_char, is_plain};
 use crate::lexer::slices::{Start, front};
 use crate::unit::{Next, Unit};
 
 /// The rest of a text.
 #[derive(Clone, Copy)]
 pub(crate) struct Lexer<'a> {
-    rest: &'a str,
-    place: usize,
+    pub(crate) rest: &'a str,
+    pub(crate) place: usize,
     ghost in_text: { place + length rest.now < 2 ^ 64 },
 }
 
@@ -42,21 +41,16 @@ impl<'a> Lexer<'a> {
         next
     }
 
-    /// Takes the next unit, if it is a printable ASCII character. Returns the character and its place. Most units are such
-    /// characters, and a character with its place takes less room than any unit.
+    /// Returns the place of the end of the text, if nothing is left.
     #[inline(always)]
-    pub(crate) fn take_plain(&mut self) -> Option<(char, usize)>
-        ensures { MatchOption result (units_left self.new ≡ units_left self.old)
-            (λ taken. TakesCharacter taken (units_left self.old) (units_left self.new)) }
+    pub(crate) fn end(&self) -> Option<usize>
+        ensures { IfSome result (λ place. units_left self.now ≡ End place) }
     {
-        let (c, behind) = first_char(self.rest)?;
-        if !is_plain(c) {
-            return None;
+        if self.rest.is_empty() {
+            Some(self.place)
+        } else {
+            None
         }
-        let place = self.place;
-        self.place += self.rest.len() - behind.len();
-        self.rest = behind;
-        Some((c, place))
     }
 }
 

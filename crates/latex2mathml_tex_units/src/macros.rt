@@ -8,6 +8,7 @@ mod part;
 mod pending;
 mod putting;
 mod scope;
+mod standing;
 pub mod table;
 mod texts;
 mod usual;

@@ -1,7 +1,8 @@
 //! A text, character by character and run by run.
-ghost use Rattle.std.specs.Prelude.{◌≡◌, ◌<◌, ◌≤◌, ◌∷◌, ◌++◌, ℕ, [], false, IsFalse, IsTrue, List, MatchOption, get_or, length};
+ghost use Rattle.std.specs.Prelude.{◌≡◌, ◌<◌, ◌≤◌, ◌∷◌, ◌++◌, ℕ, [], IfSome, IsFalse, IsTrue, List, MatchOption, get_or, length};
 ghost use Rattle.std.specs.{Char.is_ascii_alphabetic, Str.chars, Str.encode_utf8_all};
 ghost use Rattle.latex2mathml_tex_grammar.specs.Units;
+ghost use Rattle.latex2mathml_tex_units.specs.Characters.{is_plain, plain_bytes};
 ghost use Rattle.latex2mathml_tex_units.specs.Runs.{in_class, AreLetters, IsLongestRun, IsName};
 
 /// The classes of characters that form runs.
@@ -38,13 +39,45 @@ pub fn is_forbidden(c: char) -> bool
     (c < ' ' && !is_space(c)) || c == '\u{FFFE}' || c == '\u{FFFF}'
 }
 
-/// Whether the character is a printable one of ASCII that is a unit by itself.
+/// Returns whether each byte is a printable character of ASCII that is a unit by itself.
 #[inline(always)]
-pub fn is_plain(c: char) -> bool
-    ensures special { IsTrue result → Units.is_special c ≡ false }
-    ensures forbidden { IsTrue result → Units.is_forbidden c ≡ false }
+fn plain_bytes() -> &'static [bool]
+    ensures { result.now ≡ plain_bytes }
 {
-    c > ' ' && c <= '~' && c != '{' && c != '}' && c != '%' && c != '\\'
+    &PLAIN_BYTES
+}
+
+#[rattlefmt::skip]
+static PLAIN_BYTES: [bool; 256] = [
+    false, false, false, false, false, false, false, false, false, false, false, false, false, false, false, false,
+    false, false, false, false, false, false, false, false, false, false, false, false, false, false, false, false,
+    false, true, true, true, true, false, true, true, true, true, true, true, true, true, true, true,
+    true, true, true, true, true, true, true, true, true, true, true, true, true, true, true, true,
+    true, true, true, true, true, true, true, true, true, true, true, true, true, true, true, true,
+    true, true, true, true, true, true, true, true, true, true, true, true, false, true, true, true,
+    true, true, true, true, true, true, true, true, true, true, true, true, true, true, true, true,
+    true, true, true, true, true, true, true, true, true, true, true, false, true, false, true, false,
+    false, false, false, false, false, false, false, false, false, false, false, false, false, false, false, false,
+    false, false, false, false, false, false, false, false, false, false, false, false, false, false, false, false,
+    false, false, false, false, false, false, false, false, false, false, false, false, false, false, false, false,
+    false, false, false, false, false, false, false, false, false, false, false, false, false, false, false, false,
+    false, false, false, false, false, false, false, false, false, false, false, false, false, false, false, false,
+    false, false, false, false, false, false, false, false, false, false, false, false, false, false, false, false,
+    false, false, false, false, false, false, false, false, false, false, false, false, false, false, false, false,
+    false, false, false, false, false, false, false, false, false, false, false, false, false, false, false, false,
+];
+
+/// Returns the first character and the text after it, if the character is a printable one of ASCII that is a unit by itself.
+#[inline(always)]
+pub(crate) fn first_plain(text: &str) -> Option<(char, &str)>
+    ensures { IfSome result (λ found. IsTrue (is_plain found.0)
+        × (chars text.now ≡ found.0 ∷ chars found.1.now)) }
+{
+    let first = *text.as_bytes().first()?;
+    if !plain_bytes()[usize::from(first)] {
+        return None;
+    }
+    Some((char::from(first), text.split_at(1).1))
 }
 
 /// Returns the first character and the text after it.

@@ -24,6 +24,7 @@ pub(crate) enum Start<'a> {
 }
 
 /// Finds what is at the start of the text.
+#[inline(always)]
 pub(crate) fn front(text: &str) -> Start<'_>
     ensures start { IsStart (chars text.now) result }
     ensures near { IsNear result }
@@ -71,6 +72,7 @@ fn skip_comment(text: &str) -> &str
 }
 
 /// Finds what is at the start of a text that consists of a backslash and this text.
+#[inline(always)]
 fn command(text: &str) -> Start<'_>
     ensures start { IsStart (byte "\\" ∷ chars text.now) result }
     ensures near { IsNear result }

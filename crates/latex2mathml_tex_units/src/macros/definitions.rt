@@ -2,7 +2,6 @@
 ghost use Rattle.std.specs.Prelude.{◌≡◌, map, option_map};
 ghost use Rattle.latex2mathml_tex_grammar.specs.Definitions.{are_space, body, body_in_braces, command_definition, definition_of, is_delimited, name_in, name_of, number_of, operator_definition, parameters, plain_definition, word_named};
 ghost use Rattle.latex2mathml_tex_units.specs.{Bodies.parts_in, Defined.definition_in, Defined.word_of, Pending.Reads, Pending.pending_units, Taking.unit_of};
-ghost use Rattle.latex2mathml_tex_units.specs.WordForms.{is_word_form, may_be_word};
 
 use crate::macros::halt::Halt;
 use crate::macros::part::{Macro, Part, operator_parts, parts_of};
@@ -23,40 +22,10 @@ pub(crate) enum Word {
     DeclareOperator,
 }
 
-/// Whether a word that begins definitions may have this name, by its first byte and its length. Most commands are no such
-/// words, and this test tells nearly all of those apart.
-#[inline(always)]
-pub(crate) fn may_be_word(name: &str) -> bool
-    ensures { result ≡ may_be_word name.now }
-{
-    match name.as_bytes() {
-        [first, ..] => is_word_form(*first, name.len()),
-        [] => false,
-    }
-}
-
-/// Whether the name of a word that begins definitions has this first byte and this length.
-#[inline(always)]
-fn is_word_form(first: u8, len: usize) -> bool
-    ensures { result ≡ is_word_form first len }
-{
-    match len {
-        3 => first == b'd',
-        10 => first == b'n',
-        12 => first == b'r',
-        14 => first == b'p',
-        19 => first == b'D',
-        _ => false,
-    }
-}
-
 /// Returns the word with this name.
 pub(crate) fn word_named(name: &str) -> Option<Word>
     ensures { option_map word_of result ≡ word_named name.now }
 {
-    if !may_be_word(name) {
-        return None;
-    }
     if name == "newcommand" || name == "renewcommand" {
         Some(Word::NewCommand)
     } else if name == "providecommand" {

@@ -1,16 +1,17 @@
 //! The units of a text, with what they expand to in their place.
-ghost use Rattle.std.specs.Prelude.{◌≡◌, ℕ, IfOk, IsTrue, MatchOption, None};
-ghost use Rattle.std.specs.Str.{chars};
-ghost use Rattle.latex2mathml_tex_grammar.specs.{Cutting.units_of, Expanding.expansion, Expansion.Stays, Expansion.most_units, Expansion.most_uses};
+ghost use Rattle.std.specs.Prelude.{◌≡◌, ℕ, IfOk, OnOk};
+ghost use Rattle.latex2mathml_tex_grammar.specs.{Expanding.expansion, Expansion.most_units, Expansion.most_uses, Macros.before};
 ghost use Rattle.latex2mathml_tex_grammar.specs.Units as units;
-ghost use Rattle.latex2mathml_tex_units.specs.{Expanded.IsHalted, Expanded.Turned, Expanded.expanded_left, Expanded.turn_of_name, MacroTables.macros_in, Characters.TakesCharacter, Taking.Takes};
+ghost use Rattle.latex2mathml_tex_units.specs.{Expanded.IsHalted, Expanded.Turned, Expanded.expanded_left, Expanded.turn_of_name, Left.units_left, MacroTables.macros_in, Standing.Moves, Taking.Takes};
 
-use crate::macros::definitions::{may_be_word, word_named};
+use crate::lexer::Lexer;
+use crate::macros::definitions::word_named;
 use crate::macros::halt::Halt;
 use crate::macros::pending::Pending;
 use crate::macros::scope::Scope;
+use crate::macros::standing::may_turn;
 use crate::macros::table::Macros;
-use crate::macros::usual::{may_be_usual, usual_macro};
+use crate::macros::usual::usual_macro;
 use crate::unit::{Fault, Next, Piece, Unit};
 use std::alloc::{AllocError, Global};
 
@@ -35,15 +36,15 @@ pub struct Expander<'m, 'a> {
 }
 
 impl<'m, 'a> Expander<'m, 'a> {
-    /// Creates an expander of all units of a text, in which these macros hold.
-    pub fn new(alloc: Global, macros: &'m Macros<'a>, text: &'a str) -> Expander<'m, 'a>
+    /// Creates an expander of the units that are left of a text, in which these macros hold.
+    pub(crate) fn new(alloc: Global, macros: &'m Macros<'a>, lexer: Lexer<'a>) -> Expander<'m, 'a>
         ensures { expanded_left result
             ≡ expansion (macros_in macros.now) most_uses most_units
-            (units_of 0 (chars text.now)) }
+            (units_left lexer.entry) }
     {
         Expander {
             alloc,
-            pending: Pending::new(alloc, text),
+            pending: Pending::new(alloc, lexer),
             macros: Scope::within(alloc, macros),
             uses: MOST_USES,
             room: MOST_UNITS,
@@ -67,9 +68,6 @@ impl<'m, 'a> Expander<'m, 'a> {
             let Piece::Command(name) = unit.piece else {
                 return Ok(next);
             };
-            if self.surely_stays(name) {
-                return Ok(next);
-            }
             match self.turn(name, unit.place) {
                 Ok(turned) => {
                     if !turned {
@@ -81,16 +79,17 @@ impl<'m, 'a> Expander<'m, 'a> {
         }
     }
 
-    /// Takes the next expanded unit, if it is a printable ASCII character of the text. Returns the character and its place.
+    /// Takes the next units of the text that surely stay as they are, and appends them to a list.
     #[inline(always)]
-    pub(crate) fn take_plain(&mut self) -> Option<(char, usize)>
-        ensures { MatchOption result (expanded_left self.new ≡ expanded_left self.old)
-            (λ taken. TakesCharacter taken (expanded_left self.old) (expanded_left self.new)) }
+    pub(crate) fn take_standing(&mut self, units: &mut Vec<Unit<'a>>) -> Result<(), AllocError>
+        ensures { OnOk result (Moves units.old.items units.new.items (λ taken.
+            expanded_left self.old ≡ before taken (expanded_left self.new))) }
     {
-        if self.refused.is_some() {
-            return None;
+        if self.refused.is_some() || !self.pending.is_text() {
+            return Ok(());
         }
-        self.pending.take_plain()
+        let usual = self.macros.is_empty();
+        self.pending.lexer.take_standing(usual, units)
     }
 
     /// Leaves nothing but this refusal.
@@ -107,17 +106,6 @@ impl<'m, 'a> Expander<'m, 'a> {
         }
     }
 
-    /// Whether a command with this name surely stays as it is. Most commands do, and few instructions tell those apart.
-    #[inline(always)]
-    fn surely_stays(&self, name: &str) -> bool
-        ensures { IsTrue result → (place : ℕ) → turn_of_name self.now name.now place ≡ Stays }
-    {
-        if !self.macros.is_empty() {
-            return false;
-        }
-        !may_be_usual(name) && !may_be_word(name)
-    }
-
     /// Replaces the macro with this name, which was taken at this place, or takes the definition that begins with this name.
     /// Returns whether the name is one of the two.
     #[inline(never)]
@@ -130,6 +118,9 @@ impl<'m, 'a> Expander<'m, 'a> {
             self.pending
                 .replace(self.alloc, found, place, &mut self.uses, &mut self.room)?;
             return Ok(true);
+        }
+        if !may_turn(name) {
+            return Ok(false);
         }
         if let Some(found) = usual_macro(self.alloc, name)? {
             self.pending

@@ -1,8 +1,7 @@
 //! The units that are still to be expanded.
-ghost use Rattle.std.specs.Prelude.{◌≡◌, MatchOption, option_map};
-ghost use Rattle.std.specs.Str.{chars};
-ghost use Rattle.latex2mathml_tex_grammar.specs.{Cutting.units_of, Definitions.digit, Definitions.sign, Next.past_space};
-ghost use Rattle.latex2mathml_tex_units.specs.{Pending.next_piece, Pending.pending_units, Characters.TakesCharacter, Taking.Takes, Taking.piece_of};
+ghost use Rattle.std.specs.Prelude.{◌≡◌, [], IsTrue, option_map};
+ghost use Rattle.latex2mathml_tex_grammar.specs.{Definitions.digit, Definitions.sign, Next.past_space};
+ghost use Rattle.latex2mathml_tex_units.specs.{Left.units_left, Pending.next_piece, Pending.pending_units, Taking.Takes, Taking.piece_of};
 
 use crate::lexer::Lexer;
 use crate::macros::part::{digit_of, is_character};
@@ -18,12 +17,12 @@ pub(crate) struct Pending<'a> {
 }
 
 impl<'a> Pending<'a> {
-    /// Returns all units of a text, to be expanded.
-    pub(crate) fn new(alloc: Global, text: &'a str) -> Pending<'a>
-        ensures { pending_units result ≡ units_of 0 (chars text.now) }
+    /// Returns the units that are left of a text, to be expanded.
+    pub(crate) fn new(alloc: Global, lexer: Lexer<'a>) -> Pending<'a>
+        ensures { pending_units result ≡ units_left lexer.entry }
     {
         Pending {
-            lexer: Lexer::new(text),
+            lexer,
             put: Vec::new(alloc),
         }
     }
@@ -38,16 +37,12 @@ impl<'a> Pending<'a> {
         }
     }
 
-    /// Takes the next unit, if it is a printable ASCII character of the text. Returns the character and its place.
+    /// Whether no unit that was put is left.
     #[inline(always)]
-    pub(crate) fn take_plain(&mut self) -> Option<(char, usize)>
-        ensures { MatchOption result (pending_units self.new ≡ pending_units self.old)
-            (λ taken. TakesCharacter taken (pending_units self.old) (pending_units self.new)) }
+    pub(crate) fn is_text(&self) -> bool
+        ensures { IsTrue result → self.now.put.items ≡ [] }
     {
-        if !self.put.as_slice().is_empty() {
-            return None;
-        }
-        self.lexer.take_plain()
+        self.put.as_slice().is_empty()
     }
 
     /// Returns the next piece, if there is one.

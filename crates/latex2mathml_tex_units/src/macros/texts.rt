@@ -5,6 +5,7 @@ ghost use Rattle.latex2mathml_tex_grammar.specs.{Cutting.units_of, Definitions.w
 ghost use Rattle.latex2mathml_tex_units.specs.Defined;
 ghost use Rattle.latex2mathml_tex_units.specs.{Taking.piece_of, Texts.ReadsTo};
 
+use crate::lexer::Lexer;
 use crate::macros::definitions::{Word, word_named};
 use crate::macros::halt::Halt;
 use crate::macros::pending::Pending;
@@ -28,7 +29,7 @@ impl<'m, 'a> Scope<'m, 'a> {
         ensures { ReadsTo result (units_of 0 (chars text.now)) }
     {
         let mut scope = Scope::new(alloc);
-        let mut pending = Pending::new(alloc, text);
+        let mut pending = Pending::new(alloc, Lexer::new(text));
         'definitions: loop {
             pending.skip_space();
             match pending.take() {

@@ -3,7 +3,6 @@ ghost use Rattle.std.specs.Prelude.{◌≡◌, ◌<◌, IfOk, IsTrue, [], length
 ghost use Rattle.std.specs.Option.{is_some, unwrap_or};
 ghost use Rattle.std.specs.Str.{chars};
 ghost use Rattle.latex2mathml_tex_grammar.specs.{Cutting.units_of, Definitions.parts_of, Sorted.ascending, UsualMacros.entry_macro, UsualMacros.listed, UsualMacros.macro_with, UsualMacros.usual_entries, UsualMacros.usual_macros};
-ghost use Rattle.latex2mathml_tex_units.specs.UsualForms.{is_usual_form, may_be_usual};
 ghost use Rattle.latex2mathml_tex_units.specs.{Bodies.entry_of, Bodies.macro_of, Bodies.named_entry, Bodies.parts_in, Taking.unit_of};
 
 use crate::lexer::Lexer;
@@ -122,48 +121,6 @@ fn find(table: &[Usual], name: &str) -> Option<Usual>
     None
 }
 
-/// Whether a usual macro may have this name, by its first byte and its length. Most commands are no usual macros, and this test
-/// tells most of those apart.
-#[inline(always)]
-pub(crate) fn may_be_usual(name: &str) -> bool
-    ensures { result ≡ may_be_usual name.now }
-{
-    match name.as_bytes() {
-        [first, ..] => is_usual_form(*first, name.len()),
-        [] => false,
-    }
-}
-
-/// Whether the name of a usual macro has this first byte and this length.
-fn is_usual_form(first: u8, len: usize) -> bool
-    ensures { result ≡ is_usual_form first len }
-{
-    match first {
-        b'-' | b'/' => len == 1,
-        b'B' | b'H' => len == 4,
-        b'L' => len == 5,
-        b'T' | b'k' | b'q' => len == 3,
-        b'a' => len == 10,
-        b'b' => matches!(len, 3 | 4 | 6 | 8),
-        b'c' => matches!(len, 4 | 7 | 8 | 9),
-        b'd' => len == 5,
-        b'e' => matches!(len, 2 | 10),
-        b'f' => matches!(len, 4 | 12),
-        b'h' => matches!(len, 4 | 5),
-        b'i' => matches!(len, 3 | 7 | 9),
-        b'l' => matches!(len, 4 | 5),
-        b'm' => matches!(len, 3 | 8 | 9 | 10),
-        b'n' => matches!(len, 5 | 7 | 8 | 10),
-        b'p' => matches!(len, 3 | 4),
-        b'r' => matches!(len, 4 | 5 | 8),
-        b's' => matches!(len, 5 | 7 | 8 | 10),
-        b't' => matches!(len, 3 | 4 | 8),
-        b'u' => len == 7,
-        b'v' => len == 8,
-        _ => false,
-    }
-}
-
 /// Whether a usual macro has this name.
 pub(crate) fn is_usual(name: &str) -> bool
     ensures { result ≡ is_some (usual_macros name.now) }
@@ -175,9 +132,6 @@ pub(crate) fn is_usual(name: &str) -> bool
 pub(crate) fn usual_macro<'a>(alloc: Global, name: &str) -> Result<Option<Macro<'a>>, AllocError>
     ensures { IfOk result (λ found. option_map macro_of found ≡ usual_macros name.now) }
 {
-    if !may_be_usual(name) {
-        return Ok(None);
-    }
     let Some(entry) = find(entries(), name) else {
         return Ok(None);
     };

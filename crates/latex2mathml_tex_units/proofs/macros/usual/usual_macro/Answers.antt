@@ -1,6 +1,6 @@
-use Rattle.std.proofs.Common.{◌∙◌, ap, sym, Some}
+use Rattle.std.proofs.Common.{◌∙◌, ap, Some}
 use Rattle.latex2mathml_tex_grammar.specs.Macros.{macro}
-use Rattle.latex2mathml_tex_units.proofs.{Tables.usual_is, UsualForms.no_usual}
+use Rattle.latex2mathml_tex_units.proofs.Tables.{usual_is}
 use Rattle.latex2mathml_tex_units.proofs.UsualLookups.{usual_few, usual_ordered}
 use Rattle.latex2mathml_tex_units.proofs.macros.usual.usual_macro.Goals as goal
 
@@ -15,6 +15,3 @@ returns-in_default c = c.in_default.ensures ∙ usual_is _ c.args.name.now c.ent
 
 pub returns : goal.returns
 returns c = ap (λ parts. Some (macro c.in-Some.entry.arity parts)) c.in_ok-body.ensures ∙ c.in-Some.ensures ∙ usual_is _ c.args.name.now c.entries.ensures
-
-pub returns-then-not-may_be_usual : goal.returns-then-not-may_be_usual
-returns-then-not-may_be_usual c = sym (no_usual c.args.name.now (sym c.if-not-may_be_usual.ensures))

@@ -13,11 +13,6 @@ returns-in_default-piece c = takes_left c.take-next.result _ _ _ _ c.in_default.
     (stood c.take-next.result (table_of c.units.self.macros) c.units.self.uses c.units.self.room c.in-Unit.unit (unit_of c.in-Unit.unit) (pending_units c.units.self.pending) (pending_units c.take-next.new.self) _ _ c.in-Unit.is c.units.invariant.same c.in-Unit.ensures refl
     (no_command (table_of c.units.self.macros) c.units.self.uses c.units.self.room c.in-Unit.unit (pending_units c.take-next.new.self) c.in_default-piece.not-Command) refl)
 
-pub returns-then-surely_stays : goal.returns-then-surely_stays
-returns-then-surely_stays c = takes_left c.take-next.result _ _ _ _ c.in_default.is c.units.invariant.none
-    (stood c.take-next.result (table_of c.units.self.macros) c.units.self.uses c.units.self.room c.in-Unit.unit (units.unit (units.Command c.in-Command.name.now) c.in-Unit.unit.place) (pending_units c.units.self.pending) (pending_units c.take-next.new.self) _ _ c.in-Unit.is c.units.invariant.same c.in-Unit.ensures
-    (ap (λ p. units.unit (piece_of p) c.in-Unit.unit.place) c.in-Command.is) (c.if-surely_stays.ensures refl c.in-Unit.unit.place) refl)
-
 pub returns-then-not-turned : goal.returns-then-not-turned
 returns-then-not-turned c =
     let turned = rw c.if-not-turned.true at c.in-Ok.ensures.turned in

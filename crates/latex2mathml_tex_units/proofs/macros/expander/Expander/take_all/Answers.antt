@@ -1,15 +1,19 @@
-use Rattle.std.proofs.Common.{sym}
-use Rattle.latex2mathml_tex_units.specs.Expanded.{expanded_left}
-use Rattle.latex2mathml_tex_units.specs.declared.unit.Piece.TheVariants as piece
-use Rattle.latex2mathml_tex_units.proofs.Whole.{listed_all, listed_on}
+use Rattle.std.proofs.Common.{◌≡◌, ◌≤◌, ap, arith, map}
+use Rattle.latex2mathml_tex_grammar.specs.Macros.{before, count}
+use Rattle.latex2mathml_tex_grammar.specs.Units.{Next}
+use Rattle.latex2mathml_tex_units.specs.{Expanded.expanded_left, Taking.unit_of}
+use Rattle.latex2mathml_tex_units.proofs.Whole.{listed_on, moved_all, moved_less}
 use Rattle.latex2mathml_tex_units.proofs.macros.expander.Expander.take_all.Goals as goal
+
+pub units-smaller : goal.units-smaller
+units-smaller c =
+    let taken : expanded_left c.units.self ≡ Next (unit_of c.in-Unit.unit) (expanded_left c.take.new.self) = rw c.in-Unit.is at c.in_ok-unit.ensures in
+    let less : count (expanded_left c.take_standing.new.self) ≤ count (expanded_left c.take.new.self) = moved_less c.push.new.self.items c.take_standing.new.units.items _ _ c.in_ok-take_standing.ensures in
+    omega (arith, less, ap count taken)
 
 pub units-preserved : goal.units-preserved
 units-preserved c =
-    let taken = rw c.in-Unit.is at c.in_ok-unit.ensures in
-    let same = listed_all c.units.units.items (expanded_left c.units.self) (expanded_left c.take_plain.new.self) (expanded_left c.args.self.now) c.units.invariant (sym c.in_default.ensures) in
-    listed_on c.units.units.items c.push-in-Unit.new.self.items c.in-Unit.unit (expanded_left c.take_plain.new.self) (expanded_left c.take.new.self) (expanded_left c.args.self.now) same taken c.in_ok-push-in-Unit.ensures.items
-
-pub units-preserved-in-Some : goal.units-preserved-in-Some
-units-preserved-in-Some c =
-    listed_on c.units.units.items c.push.new.self.items (record { piece = piece.Character c.in-Some.c; place = c.in-Some.place }) (expanded_left c.units.self) (expanded_left c.take_plain.new.self) (expanded_left c.args.self.now) c.units.invariant c.in-Some.ensures c.in_ok-push.ensures.items
+    let start = before (map unit_of c.args.taken.items) (expanded_left c.args.self.now) in
+    let taken : expanded_left c.units.self ≡ Next (unit_of c.in-Unit.unit) (expanded_left c.take.new.self) = rw c.in-Unit.is at c.in_ok-unit.ensures in
+    let same = listed_on c.units.units.items c.push.new.self.items c.in-Unit.unit (expanded_left c.units.self) (expanded_left c.take.new.self) start c.units.invariant taken c.in_ok-push-in-Unit.ensures.items in
+    moved_all c.push.new.self.items c.take_standing.new.units.items (expanded_left c.take.new.self) (expanded_left c.take_standing.new.self) start same c.in_ok-take_standing.ensures

@@ -1,10 +1,11 @@
+use Rattle.std.proofs.Common.{◌∙◌}
 use Rattle.std.proofs.lemmas.Result.{err_from_is_err_and}
 use Rattle.latex2mathml_tex_units.specs.{Defined.definition_in, Defined.word_of, Pending.pending_units, Taking.unit_of}
 use Rattle.latex2mathml_tex_units.proofs.DefinitionTexts.{all_defined, leads_first, not_defined, text_defines, text_halted, text_smaller, text_stopped}
 use Rattle.latex2mathml_tex_units.proofs.macros.scope.Scope.read.Goals as goal
 
 pub definitions-init : goal.definitions-init
-definitions-init c = leads_first _ (pending_units c.new-pending.result) c.new-scope.result c.new-scope.ensures.same c.new-scope.ensures.alone c.new-pending.ensures
+definitions-init c = leads_first _ (pending_units c.new-pending.result) c.new-scope.result c.new-scope.ensures.same c.new-scope.ensures.alone (c.new-pending.ensures ∙ c.new.ensures)
 
 pub returns-in-End : goal.returns-in-End
 returns-in-End c = all_defined _ (pending_units c.definitions.pending) (pending_units c.skip_space.new.self) c.definitions.scope c.in-End.field-0 c.definitions.invariant c.skip_space.ensures c.in-End.ensures.0

@@ -1,0 +1,12 @@
+use Rattle.std.proofs.Common.{◌∙◌, sym, rules}
+use Rattle.latex2mathml_tex_units.proofs.TurningForms.{no_usual, turns_more, turns_none, turns_one}
+use Rattle.latex2mathml_tex_units.proofs.macros.standing.may_turn.Goals as goal
+
+pub returns-in-empty-clause-usual : goal.returns-in-empty-clause-usual
+returns-in-empty-clause-usual c = λ none. no_usual c.args.name.now (turns_none c.args.name.now _ c.as_bytes.ensures.value c.in-empty.len_below)
+
+pub returns-in_default-clause-usual : goal.returns-in_default-clause-usual
+returns-in_default-clause-usual c = λ none. no_usual c.args.name.now (turns_one c.args.name.now _ c.as_bytes.ensures.value c.in-len1.len_at_least c.in-len1.len_below ∙ search rules)
+
+pub returns-in-len2-up-clause-usual : goal.returns-in-len2-up-clause-usual
+returns-in-len2-up-clause-usual c = λ none. no_usual c.args.name.now (turns_more c.args.name.now _ c.as_bytes.ensures.value c.in-len2-up.len_at_least ∙ sym c.is_turning_form.ensures ∙ none)

@@ -1,0 +1,173 @@
+//! Units that surely stay as they are when a text is expanded. Most units do, and few instructions tell those apart.
+ghost use Rattle.std.specs.Prelude.{◌≡◌, IsFalse, IsTrue, None, OnOk};
+ghost use Rattle.latex2mathml_tex_grammar.specs.{Definitions.word_named, Expansion.Stands, Expansion.role_of, Macros.Table, UsualMacros.usual_macros};
+ghost use Rattle.latex2mathml_tex_units.specs.{Left.units_left, Taking.piece_of, TurningForms.is_turning_form};
+ghost use Rattle.latex2mathml_tex_units.specs.Standing.{AreStanding, IsUsual, Moves};
+
+use crate::lexer::Lexer;
+use crate::lexer::characters::first_plain;
+use crate::lexer::slices::{Start, front};
+use crate::unit::{Piece, Unit};
+use std::alloc::AllocError;
+
+impl<'a> Lexer<'a> {
+    /// Takes the next units that surely stay as they are, and appends them to a list. `usual` says that only the usual macros
+    /// hold: where others do, no command surely stays.
+    #[inline(always)]
+    pub(crate) fn take_standing(
+        &mut self,
+        usual: bool,
+        units: &mut Vec<Unit<'a>>,
+    ) -> Result<(), AllocError>
+        ensures { OnOk result (Moves units.old.items units.new.items (λ taken.
+            AreStanding usual taken (units_left self.old) (units_left self.new))) }
+    {
+        let end = self.place + self.rest.len();
+        let mut rest = self.rest;
+        'units: loop {
+            let place = end - rest.len();
+            if let Some((c, behind)) = first_plain(rest) {
+                let piece = Piece::Character(c);
+                units.push(Unit { piece, place })?;
+                rest = behind;
+                continue;
+            }
+            let Start::Piece(piece, behind) = front(rest) else {
+                break;
+            };
+            if !stands(usual, piece) {
+                break;
+            }
+            units.push(Unit { piece, place })?;
+            rest = behind;
+        }
+        self.place = end - rest.len();
+        self.rest = rest;
+        Ok(())
+    }
+}
+
+/// Whether the piece surely stays, in a text where only the usual macros hold, if `usual` says so.
+#[inline(always)]
+fn stands(usual: bool, piece: Piece) -> bool
+    ensures { IsTrue result → (table : Table) → IsUsual usual table
+        → role_of table (piece_of piece.entry) ≡ Stands }
+{
+    match piece {
+        Piece::Command(name) => usual && !may_turn(name),
+        _ => true,
+    }
+}
+
+/// Whether a usual macro or a word that begins definitions may have this name, by its first two bytes and its length.
+#[inline(always)]
+pub(crate) fn may_turn(name: &str) -> bool
+    ensures usual { IsFalse result → usual_macros name.now ≡ None }
+    ensures word { IsFalse result → word_named name.now ≡ None }
+{
+    match name.as_bytes() {
+        [first, second, ..] => is_turning_form(*first, *second, name.len()),
+        [one] => matches!(*one, b'-' | b'/'),
+        [] => false,
+    }
+}
+
+/// Whether the name of a usual macro, or of a word that begins definitions, has these first two bytes and this length.
+#[inline(always)]
+fn is_turning_form(first: u8, second: u8, len: usize) -> bool
+    ensures { result ≡ is_turning_form first second len }
+{
+    match first {
+        b'B' => second == b'b' && len == 4,
+        b'D' => second == b'e' && len == 19,
+        b'H' => second == b'u' && len == 4,
+        b'L' => matches!(second, b'A' | b'a') && len == 5,
+        b'T' => second == b'e' && len == 3,
+        b'a' => second == b'l' && len == 10,
+        b'b' => match second {
+            b'f' => len == 8,
+            b'm' => len == 4,
+            b'r' => matches!(len, 3 | 6),
+            _ => false,
+        },
+        b'c' => match second {
+            b'e' => len == 9,
+            b'l' => len == 4,
+            b'o' => matches!(len, 7 | 8),
+            _ => false,
+        },
+        b'd' => match second {
+            b'e' => len == 3,
+            b'o' => len == 5,
+            _ => false,
+        },
+        b'e' => match second {
+            b'm' => len == 2,
+            b'n' => len == 10,
+            _ => false,
+        },
+        b'f' => match second {
+            b'b' => len == 4,
+            b'o' => len == 12,
+            _ => false,
+        },
+        b'h' => match second {
+            b'd' => len == 5,
+            b'u' => len == 4,
+            _ => false,
+        },
+        b'i' => match second {
+            b'f' => len == 3,
+            b'm' => matches!(len, 7 | 9),
+            b't' => len == 7,
+            _ => false,
+        },
+        b'k' | b'q' => second == b'e' && len == 3,
+        b'l' => match second {
+            b'a' => len == 5,
+            b'l' => len == 4,
+            _ => false,
+        },
+        b'm' => match second {
+            b'a' => matches!(len, 9 | 10),
+            b'd' => len == 8,
+            b'o' => len == 3,
+            _ => false,
+        },
+        b'n' => match second {
+            b'e' => len == 10,
+            b'o' => matches!(len, 5 | 7 | 8 | 10),
+            _ => false,
+        },
+        b'p' => match second {
+            b'm' => len == 4,
+            b'o' => len == 3,
+            b'r' => len == 14,
+            _ => false,
+        },
+        b'r' => match second {
+            b'a' => len == 8,
+            b'e' => matches!(len, 5 | 12),
+            b'l' => len == 4,
+            b'm' => len == 8,
+            _ => false,
+        },
+        b's' => match second {
+            b'c' => matches!(len, 7 | 10),
+            b'f' => matches!(len, 5 | 8),
+            b'l' => len == 7,
+            b'm' => len == 5,
+            b't' => len == 5,
+            _ => false,
+        },
+        b't' => match second {
+            b'a' => len == 3,
+            b'i' => len == 4,
+            b't' => len == 8,
+            _ => false,
+        },
+        b'u' => second == b'p' && len == 7,
+        b'v' => second == b'a' && len == 8,
+        _ => false,
+    }
+}
