@@ -7,6 +7,7 @@ ghost use Rattle.latex2mathml_elements.specs.Print.{attributes_text, print, prin
 ghost use Rattle.latex2mathml_builder.specs.Built.{Fits, element_in, elements_in, is_token_part, uppermost};
 ghost use Rattle.latex2mathml_attributes.specs.Names.{attributes_if_any, attributes_of, token_of};
 ghost use Rattle.latex2mathml_tokens.specs.Escape.{content};
+ghost use Rattle.latex2mathml_builder.specs.Names.{short_end, short_start};
 ghost use Rattle.latex2mathml_builder.specs.Due.{AreIn, Begins, IsIn, Writes, arranged, due, load, run_print, run_weight, settled_from, weight, weights, work_print, work_weight};
 
 use crate::builder::Builder;
@@ -262,7 +263,6 @@ impl Builder {
 
 /// Appends an element that holds this text.
 #[inline(always)]
-#[tactic(auto, using(std::proofs::lemmas::Grind::common_steps))]
 fn write_token(
     tag: Token,
     attributes: &Option<Attributes>,
@@ -272,166 +272,102 @@ fn write_token(
     ensures { OnOk result (string_bytes out.new ≡ string_bytes out.old
         ++ print (token (token_of tag) (attributes_if_any attributes.now) text.now)) }
 {
-    let Some(attributes) = attributes else {
-        return write_plain(tag, text, out);
-    };
+    match attributes {
+        None => write_plain(tag, text, out),
+        Some(attributes) => write_with_attributes(tag, attributes, text, out),
+    }
+}
+
+/// Appends an element with attributes that holds this text.
+#[inline(never)]
+#[tactic(auto, using(std::proofs::lemmas::Grind::common_steps))]
+fn write_with_attributes(
+    tag: Token,
+    attributes: &Attributes,
+    text: &str,
+    out: &mut String,
+) -> Result<(), AllocError>
+    ensures { OnOk result (string_bytes out.new ≡ string_bytes out.old
+        ++ print (token (token_of tag) (attributes_of attributes.now) text.now)) }
+{
     start_token(tag, attributes, out)?;
     write_content(text, out)?;
     out.push_str(tag.end())
 }
 
-/// Appends an element without attributes that holds this text. Most texts are one character.
+/// Appends an element without attributes that holds this text.
 #[inline(always)]
 fn write_plain(tag: Token, text: &str, out: &mut String) -> Result<(), AllocError>
     ensures { OnOk result (string_bytes out.new ≡ string_bytes out.old
         ++ print (token (token_of tag) plain text.now)) }
 {
-    match text.as_bytes() {
-        [byte] if byte.is_ascii() && is_kept(*byte) => write_byte(tag, *byte, out),
-        [a, b] if is_kept(*a) && is_kept(*b) => write_two(tag, *a, *b, out),
-        [a, b, c] if is_kept(*a) && is_kept(*b) && is_kept(*c) => write_three(tag, *a, *b, *c, out),
-        _ => match tag {
-            Token::Mi => write_text("<mi>", text, "</mi>", out),
-            Token::Mn => write_text("<mn>", text, "</mn>", out),
-            Token::Mo => write_text("<mo>", text, "</mo>", out),
-            Token::Mtext => write_text("<mtext>", text, "</mtext>", out),
-        },
+    match tag {
+        Token::Mi => write_short(b'i', text, out),
+        Token::Mn => write_short(b'n', text, out),
+        Token::Mo => write_short(b'o', text, out),
+        Token::Mtext => write_mtext(text, out),
     }
 }
 
-/// Appends a text as contents, between two tags.
-#[inline(always)]
-fn write_text(
-    before: &'static str,
-    text: &str,
-    after: &'static str,
-    out: &mut String,
-) -> Result<(), AllocError>
+/// Appends an `mtext` element without attributes.
+#[inline(never)]
+fn write_mtext(text: &str, out: &mut String) -> Result<(), AllocError>
     ensures { OnOk result (string_bytes out.new ≡ string_bytes out.old
-        ++ (before.now ++ (content text.now ++ after.now))) }
+        ++ (codes "<mtext>" ++ (content text.now ++ codes "</mtext>"))) }
 {
-    out.push_str(before)?;
+    out.push_str("<mtext>")?;
     append_content(text, out)?;
-    out.push_str(after)
+    out.push_str("</mtext>")
 }
 
-/// Appends an element without attributes that holds this byte, which is a character.
+/// Appends an element without attributes that holds this text. Its name is `m` and this letter. Most texts are one character,
+/// of which no byte is escaped. One push of all takes less time than one for each of its three pieces.
 #[inline(always)]
-fn write_byte(tag: Token, byte: u8, out: &mut String) -> Result<(), AllocError>
-    requires ascii { byte < 128 }
-    requires content { content (byte ∷ []) ≡ byte ∷ [] }
+fn write_short(letter: u8, text: &str, out: &mut String) -> Result<(), AllocError>
+    requires { IsAscii (letter ∷ []) }
     ensures { OnOk result (string_bytes out.new ≡ string_bytes out.old
-        ++ print (token (token_of tag) plain (byte ∷ []))) }
+        ++ (short_start letter ++ (content text.now ++ short_end letter))) }
 {
-    match tag {
-        Token::Mi => push_with_byte(b"<mi> </mi>", 4, byte, out),
-        Token::Mn => push_with_byte(b"<mn> </mn>", 4, byte, out),
-        Token::Mo => push_with_byte(b"<mo> </mo>", 4, byte, out),
-        Token::Mtext => push_with_byte(b"<mtext> </mtext>", 7, byte, out),
+    match text.as_bytes() {
+        [a] if is_kept(*a) => push_bytes(
+            &[b'<', b'm', letter, b'>', *a, b'<', b'/', b'm', letter, b'>'],
+            out,
+        ),
+        [a, b] if is_kept(*a) && is_kept(*b) => push_bytes(
+            &[
+                b'<', b'm', letter, b'>', *a, *b, b'<', b'/', b'm', letter, b'>',
+            ],
+            out,
+        ),
+        [a, b, c] if is_kept(*a) && is_kept(*b) && is_kept(*c) => push_bytes(
+            &[
+                b'<', b'm', letter, b'>', *a, *b, *c, b'<', b'/', b'm', letter, b'>',
+            ],
+            out,
+        ),
+        _ => write_long(letter, text, out),
     }
 }
 
-/// Appends an element without attributes that holds these two bytes, which are a character.
-#[inline(always)]
-fn write_two(tag: Token, first: u8, second: u8, out: &mut String) -> Result<(), AllocError>
-    requires text { IsUtf8 (first ∷ second ∷ []) }
-    requires content { content (first ∷ second ∷ []) ≡ first ∷ second ∷ [] }
+/// The same for any text.
+#[inline(never)]
+fn write_long(letter: u8, text: &str, out: &mut String) -> Result<(), AllocError>
+    requires { IsAscii (letter ∷ []) }
     ensures { OnOk result (string_bytes out.new ≡ string_bytes out.old
-        ++ print (token (token_of tag) plain (first ∷ second ∷ []))) }
+        ++ (short_start letter ++ (content text.now ++ short_end letter))) }
 {
-    match tag {
-        Token::Mi => push_with_two(b"<mi>  </mi>", 4, first, second, out),
-        Token::Mn => push_with_two(b"<mn>  </mn>", 4, first, second, out),
-        Token::Mo => push_with_two(b"<mo>  </mo>", 4, first, second, out),
-        Token::Mtext => push_with_two(b"<mtext>  </mtext>", 7, first, second, out),
-    }
+    push_bytes(&[b'<', b'm', letter, b'>'], out)?;
+    append_content(text, out)?;
+    push_bytes(&[b'<', b'/', b'm', letter, b'>'], out)
 }
 
-/// Appends an element without attributes that holds these three bytes, which are a character.
+/// Appends bytes that are a text.
 #[inline(always)]
-fn write_three(
-    tag: Token,
-    first: u8,
-    second: u8,
-    third: u8,
-    out: &mut String,
-) -> Result<(), AllocError>
-    requires text { IsUtf8 (first ∷ second ∷ third ∷ []) }
-    requires content { content (first ∷ second ∷ third ∷ []) ≡ first ∷ second ∷ third ∷ [] }
-    ensures { OnOk result (string_bytes out.new ≡ string_bytes out.old
-        ++ print (token (token_of tag) plain (first ∷ second ∷ third ∷ []))) }
+fn push_bytes(bytes: &[u8], out: &mut String) -> Result<(), AllocError>
+    requires { IsUtf8 bytes.now }
+    ensures { OnOk result (string_bytes out.new ≡ string_bytes out.old ++ bytes.now) }
 {
-    match tag {
-        Token::Mi => push_with_three(b"<mi>   </mi>", 4, first, second, third, out),
-        Token::Mn => push_with_three(b"<mn>   </mn>", 4, first, second, third, out),
-        Token::Mo => push_with_three(b"<mo>   </mo>", 4, first, second, third, out),
-        Token::Mtext => push_with_three(b"<mtext>   </mtext>", 7, first, second, third, out),
-    }
-}
-
-/// Appends markup with this byte at the place. One push takes less time than one for each of its three pieces.
-#[inline(always)]
-fn push_with_byte<const N: usize>(
-    markup: &[u8; N],
-    place: usize,
-    byte: u8,
-    out: &mut String,
-) -> Result<(), AllocError>
-    requires place { place < length markup.now }
-    requires markup { IsAscii markup.now }
-    requires byte { byte < 128 }
-    ensures { OnOk result (string_bytes out.new ≡ string_bytes out.old
-        ++ set markup.now place byte) }
-{
-    let mut bytes = *markup;
-    bytes[place] = byte;
-    // The bytes are ASCII, and so they are a text.
-    out.push_str(unsafe { str::from_utf8_unchecked(&bytes) })
-}
-
-/// Appends markup with these two bytes from the place on.
-#[inline(always)]
-fn push_with_two<const N: usize>(
-    markup: &[u8; N],
-    place: usize,
-    first: u8,
-    second: u8,
-    out: &mut String,
-) -> Result<(), AllocError>
-    requires place { place + 1 < length markup.now }
-    requires text { IsUtf8 (set (set markup.now place first) (place + 1) second) }
-    ensures { OnOk result (string_bytes out.new ≡ string_bytes out.old
-        ++ set (set markup.now place first) (place + 1) second) }
-{
-    let mut bytes = *markup;
-    bytes[place] = first;
-    bytes[place + 1] = second;
-    // The caller shows that the bytes are a text.
-    out.push_str(unsafe { str::from_utf8_unchecked(&bytes) })
-}
-
-/// Appends markup with these three bytes from the place on.
-#[inline(always)]
-fn push_with_three<const N: usize>(
-    markup: &[u8; N],
-    place: usize,
-    first: u8,
-    second: u8,
-    third: u8,
-    out: &mut String,
-) -> Result<(), AllocError>
-    requires place { place + 2 < length markup.now }
-    requires text { IsUtf8
-        (set (set (set markup.now place first) (place + 1) second) (place + 2) third) }
-    ensures { OnOk result (string_bytes out.new ≡ string_bytes out.old
-        ++ set (set (set markup.now place first) (place + 1) second) (place + 2) third) }
-{
-    let mut bytes = *markup;
-    bytes[place] = first;
-    bytes[place + 1] = second;
-    bytes[place + 2] = third;
-    // The caller shows that the bytes are a text.
-    out.push_str(unsafe { str::from_utf8_unchecked(&bytes) })
+    out.push_str(unsafe { str::from_utf8_unchecked(bytes) })
 }
 
 /// Appends a text as contents. Most texts are one character.
