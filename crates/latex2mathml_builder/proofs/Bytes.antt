@@ -1,21 +1,15 @@
 -- Markup of elements that hold a short text, and bytes that contents hold as they are.
-use Rattle.std.proofs.Common.{codes, ◌≡◌, ℕ, true, List, [], ◌∷◌, ◌++◌, append-nil, arith, length, nat_lt, refl, slice_index_or, sym, ap, ◌∙◌}
+use Rattle.std.proofs.Common.{codes, ◌≡◌, ℕ, true, List, [], ◌∷◌, ◌++◌, arith, length, nat_lt, refl, slice_index_or}
 use Rattle.std.proofs.lemmas.Bool.{ltb-true}
 use Rattle.std.proofs.lemmas.List.{Elements.All-weaker, Sums.AllPass-from_list_all}
 use Rattle.std.proofs.lemmas.Str.{Ascii.IsAscii-from_all, IsAscii-append, IsUtf8-append, IsUtf8-from_ascii}
 use Rattle.std.specs.{List.list_all, Str.IsAscii, Str.IsUtf8}
-use Rattle.latex2mathml_tokens.specs.Escape.{content, content_byte}
 use Rattle.latex2mathml_builder.specs.Names.{short_end, short_start}
 
 -- markup that is known is seen to be ASCII
 pub ascii_markup : (bs : List ℕ) → list_all (λ b. nat_lt b 128) bs ≡ true → IsAscii bs
 ascii_markup bs h =
     IsAscii-from_all bs (All-weaker _ _ (λ b is. ltb-true b 128 is) bs (AllPass-from_list_all (λ b. nat_lt b 128) bs h))
-
--- contents begin with a byte that they hold as it is
-pub content_begun : (b : ℕ) (bs : List ℕ) → content (b ∷ []) ≡ b ∷ [] → content bs ≡ bs → content (b ∷ bs) ≡ b ∷ bs
-content_begun b bs one others =
-    ap (λ l. l ++ content bs) (sym (append-nil (content_byte b)) ∙ one) ∙ ap (λ l. b ∷ l) others
 
 -- the tags of elements whose names have two letters
 pub start_is_text : (letter : ℕ) → IsAscii (letter ∷ []) → IsUtf8 (short_start letter)

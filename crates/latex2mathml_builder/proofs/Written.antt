@@ -2,9 +2,8 @@
 use Rattle.std.proofs.Common.{codes, ◌≡◌, ℕ, zero, suc, ◌+◌, ◌-◌, ◌<◌, ◌≤◌, Bool, true, false, List, [], ◌∷◌, ◌++◌, length, length-drop, append_assoc, append-nil, take, drop, refl, reverse, sym, ap, ◌∙◌, arith}
 use Rattle.std.proofs.lemmas.List.{drop-drop, length-take-le, reverse-append}
 use Rattle.latex2mathml_elements.specs.Attributes.{Attributes}
-use Rattle.latex2mathml_elements.specs.Element.{Pair, Token, Triple, Element, children, token}
-use Rattle.latex2mathml_elements.specs.Print.{attributes_text, container_name, end_tag, pair_name, print, prints, start_tag, token_name, triple_name}
-use Rattle.latex2mathml_tokens.specs.Escape.{content}
+use Rattle.latex2mathml_elements.specs.Element.{Pair, Triple, Element, children}
+use Rattle.latex2mathml_elements.specs.Print.{attributes_text, container_name, end_tag, pair_name, print, prints, start_tag, triple_name}
 use Rattle.latex2mathml_builder.specs.Due.{arranged, weight, weights}
 use Rattle.latex2mathml_attributes.specs.{Arounds.around_attributes, Arounds.around_name, declared.around.Around.Around}
 use Rattle.latex2mathml_builder.specs.Stacks.{around_first}
@@ -145,14 +144,6 @@ outer_of_run out xs ys x tag due below all whole is puts writes before =
     ∙ ap (λ l. out ++ ((prints (children l) ++ tag) ++ due)) (sym is)
     ∙ before
 
--- nothing is left of a run but its end tag
-pub run_ended : (out tag due new whole : List ℕ) (xs : List Element) → xs ≡ [] → new ≡ out ++ tag → out ++ ((prints (children xs) ++ tag) ++ due) ≡ whole → new ++ due ≡ whole
-run_ended out tag due new whole xs none writes before =
-    ap (λ l. l ++ due) writes
-    ∙ append_assoc out tag due
-    ∙ ap (λ l. out ++ ((prints (children l) ++ tag) ++ due)) (sym none)
-    ∙ before
-
 -- A token is written, and then the elements after it
 
 pub token_first : (out : List ℕ) (xs ys : List Element) (x : Element) (new whole : List ℕ) → xs ≡ x ∷ ys → new ≡ out ++ print x → out ++ prints (children xs) ≡ whole → new ++ prints (children ys) ≡ whole
@@ -179,13 +170,3 @@ print_around a xs first h = around_written a _ (taken_length xs first 1 h)
 
 pub weight_around : (a : Around) (xs : List Element) (first : ℕ) → first + 1 ≤ length xs → weight (around_first a (take 1 (drop first xs))) ≡ 3 + weights (children (take 1 (drop first xs)))
 weight_around a xs first h = around_weight a _ (taken_length xs first 1 h)
-
--- An element that holds a text, and has no attributes
-
-pub plain_written : (t : Token) (a : Attributes) (out text before after new : List ℕ) → attributes_text a ≡ [] → before ≡ (codes "<" ++ token_name t) ++ codes ">" → after ≡ end_tag (token_name t) → new ≡ out ++ (before ++ (content text ++ after)) → new ≡ out ++ print (token t a text)
-plain_written t a out text before after new none begins ends writes =
-    let name = token_name t in
-    let tag : (codes "<" ++ name) ++ codes ">" ≡ start_tag name a = append_assoc (codes "<") name (codes ">") ∙ ap (λ l. codes "<" ++ (name ++ (l ++ codes ">"))) (sym none) in
-    writes
-    ∙ ap (λ l. out ++ (l ++ (content text ++ after))) (begins ∙ tag)
-    ∙ ap (λ l. out ++ (start_tag name a ++ (content text ++ l))) ends
