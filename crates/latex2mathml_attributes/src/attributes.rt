@@ -200,17 +200,22 @@ fn usual_tag(
         (None, None, Some(Space::NoSpace)) => Some("<mo lspace=\"0\" rspace=\"0\">"),
         (None, Some(Stretch::Stretching), None) => Some("<mo stretchy=\"true\">"),
         (None, Some(Stretch::Rigid), None) => Some("<mo stretchy=\"false\">"),
-        (None, Some(Stretch::Rigid), Some(Space::NoSpace)) =>
-            Some("<mo stretchy=\"false\" lspace=\"0\" rspace=\"0\">"),
+        (None, Some(Stretch::Rigid), Some(Space::NoSpace)) => Some(
+            "<mo stretchy=\"false\" lspace=\"0\" rspace=\"0\">",
+        ),
         (Some(Form::Prefix), None, None) => Some("<mo form=\"prefix\">"),
-        (Some(Form::Prefix), Some(Stretch::Stretching), None) =>
-            Some("<mo form=\"prefix\" stretchy=\"true\">"),
-        (Some(Form::Prefix), Some(Stretch::Rigid), None) =>
-            Some("<mo form=\"prefix\" stretchy=\"false\">"),
-        (Some(Form::Postfix), Some(Stretch::Stretching), None) =>
-            Some("<mo form=\"postfix\" stretchy=\"true\">"),
-        (Some(Form::Postfix), Some(Stretch::Rigid), None) =>
-            Some("<mo form=\"postfix\" stretchy=\"false\">"),
+        (Some(Form::Prefix), Some(Stretch::Stretching), None) => Some(
+            "<mo form=\"prefix\" stretchy=\"true\">",
+        ),
+        (Some(Form::Prefix), Some(Stretch::Rigid), None) => Some(
+            "<mo form=\"prefix\" stretchy=\"false\">",
+        ),
+        (Some(Form::Postfix), Some(Stretch::Stretching), None) => Some(
+            "<mo form=\"postfix\" stretchy=\"true\">",
+        ),
+        (Some(Form::Postfix), Some(Stretch::Rigid), None) => Some(
+            "<mo form=\"postfix\" stretchy=\"false\">",
+        ),
         _ => None,
     }
 }

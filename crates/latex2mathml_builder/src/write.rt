@@ -3,9 +3,9 @@ ghost use Rattle.std.specs.Prelude.{◌≡◌, ◌+◌, ◌<◌, ◌≤◌, ◌�
 ghost use Rattle.std.specs.Str.{IsAscii, IsUtf8};
 ghost use Rattle.latex2mathml_elements.specs.Attributes.{plain};
 ghost use Rattle.latex2mathml_elements.specs.Element.{children, token};
-ghost use Rattle.latex2mathml_elements.specs.Print.{attributes_text, print, prints, start_tag, token_name};
+ghost use Rattle.latex2mathml_elements.specs.Print.{attributes_text, container_name, pair_name, print, prints, start_tag, token_name, triple_name};
 ghost use Rattle.latex2mathml_builder.specs.Built.{Fits, element_in, elements_in, is_token_part, uppermost};
-ghost use Rattle.latex2mathml_attributes.specs.Names.{attributes_if_any, attributes_of, token_of};
+ghost use Rattle.latex2mathml_attributes.specs.Names.{attributes_if_any, attributes_of, container_of, pair_of, token_of, triple_of};
 ghost use Rattle.latex2mathml_tokens.specs.Escape.{content};
 ghost use Rattle.latex2mathml_builder.specs.Names.{short_end, short_start};
 ghost use Rattle.latex2mathml_builder.specs.Due.{AreIn, Begins, IsIn, Writes, arranged, due, load, run_print, run_weight, settled_from, weight, weights, work_print, work_weight};
@@ -14,7 +14,7 @@ use crate::builder::Builder;
 use crate::part::Part;
 use crate::works::{Run, Work, Works};
 use latex2mathml_attributes::attributes::Attributes;
-use latex2mathml_attributes::tag::Token;
+use latex2mathml_attributes::tag::{Container, Pair, Token, Triple};
 use latex2mathml_trees::append::{append_content, append_space};
 use std::alloc::AllocError;
 
@@ -175,15 +175,15 @@ impl Builder {
                 Ok(self.run(*first, 1, around.end()))
             }
             Part::Container(tag, attributes, first, count) => {
-                start_tag(tag.start_tag(), tag.start(), attributes, out)?;
+                start_container(*tag, attributes, out)?;
                 Ok(self.run(*first, *count, tag.end()))
             }
             Part::Pair(tag, attributes, first) => {
-                start_tag(tag.start_tag(), tag.start(), attributes, out)?;
+                start_pair(*tag, attributes, out)?;
                 Ok(self.run(*first, 2, tag.end()))
             }
             Part::Triple(tag, attributes, first, is_exchanged) => {
-                start_tag(tag.start_tag(), tag.start(), attributes, out)?;
+                start_triple(*tag, attributes, out)?;
                 self.three(*first, *is_exchanged, tag.end(), works)
             }
             Part::Table(style, columns, first, count) => {
@@ -389,22 +389,57 @@ fn is_kept(byte: u8) -> bool
     !matches!(byte, b'&' | b'<' | b'>' | b'$')
 }
 
-/// Appends a start tag: `whole` if there are no attributes, otherwise `beginning` and the attributes.
+/// Appends the start tag of an element that holds any number of elements.
 #[inline(always)]
 #[tactic(auto, using(std::proofs::lemmas::Grind::common_steps))]
-fn start_tag(
-    whole: &'static str,
-    beginning: &'static str,
+fn start_container(
+    tag: Container,
     attributes: &Option<Attributes>,
     out: &mut String,
 ) -> Result<(), AllocError>
-    requires { whole.now ≡ beginning.now ++ codes ">" }
     ensures { OnOk result (string_bytes out.new ≡ string_bytes out.old
-        ++ (beginning.now ++ (attributes_text (attributes_if_any attributes.now) ++ codes ">"))) }
+        ++ ((codes "<" ++ container_name (container_of tag))
+        ++ (attributes_text (attributes_if_any attributes.now) ++ codes ">"))) }
 {
     match attributes {
-        None => out.push_str(whole),
-        Some(attributes) => start_with_attributes(beginning, attributes, out),
+        None => tag.append_start_tag(out),
+        Some(attributes) => start_with_attributes(tag.start(), attributes, out),
+    }
+}
+
+/// Appends the start tag of an element that holds two elements.
+#[inline(always)]
+#[tactic(auto, using(std::proofs::lemmas::Grind::common_steps))]
+fn start_pair(
+    tag: Pair,
+    attributes: &Option<Attributes>,
+    out: &mut String,
+) -> Result<(), AllocError>
+    ensures { OnOk result (string_bytes out.new ≡ string_bytes out.old
+        ++ ((codes "<" ++ pair_name (pair_of tag))
+        ++ (attributes_text (attributes_if_any attributes.now) ++ codes ">"))) }
+{
+    match attributes {
+        None => tag.append_start_tag(out),
+        Some(attributes) => start_with_attributes(tag.start(), attributes, out),
+    }
+}
+
+/// Appends the start tag of an element that holds three elements.
+#[inline(always)]
+#[tactic(auto, using(std::proofs::lemmas::Grind::common_steps))]
+fn start_triple(
+    tag: Triple,
+    attributes: &Option<Attributes>,
+    out: &mut String,
+) -> Result<(), AllocError>
+    ensures { OnOk result (string_bytes out.new ≡ string_bytes out.old
+        ++ ((codes "<" ++ triple_name (triple_of tag))
+        ++ (attributes_text (attributes_if_any attributes.now) ++ codes ">"))) }
+{
+    match attributes {
+        None => tag.append_start_tag(out),
+        Some(attributes) => start_with_attributes(tag.start(), attributes, out),
     }
 }
 

@@ -25,9 +25,9 @@ returns-in_ok-append_start-in-Around-clause-print c =
     let whole = ap (λ p. print (element_of b.texts (settled_in b) p)) found.is ∙ print_around found.around (settled_in b) found.first enough in
     opened (container_name (around_name found.around)) (around_attributes found.around) (string_bytes c.args.out.now) inner rest _ _ _ _ _ _ refl c.in_ok-append_start-in-Around.ensures c.end.ensures refl (run_due _ inner _ rest c.run-in-Around.ensures.print) whole
 
-pub returns-in_ok-start_tag-in-Pair-clause-print :
-    goal.returns-in_ok-start_tag-in-Pair-clause-print
-returns-in_ok-start_tag-in-Pair-clause-print c =
+pub returns-in_ok-start_pair-in-Pair-clause-print :
+    goal.returns-in_ok-start_pair-in-Pair-clause-print
+returns-in_ok-start_pair-in-Pair-clause-print c =
     let b = c.args.self.now in
     let found = c.in-Pair in
     let inner = prints (children (settled_from b found.first 2)) in
@@ -35,11 +35,11 @@ returns-in_ok-start_tag-in-Pair-clause-print c =
     let fits = subst (λ p. Fits b.texts (length b.settled) p) found.is c.requires.fits in
     let enough : found.first + 2 ≤ length (settled_in b) = omega (arith, settled_count b.texts b.settled, fits) in
     let whole = ap (λ p. print (element_of b.texts (settled_in b) p)) found.is ∙ print_pair (pair_of found.tag) (attributes_if_any found.attributes) (settled_in b) found.first enough in
-    opened (pair_name (pair_of found.tag)) (attributes_if_any found.attributes) (string_bytes c.args.out.now) inner rest _ _ _ _ _ _ c.start-in-Pair.ensures c.in_ok-start_tag-in-Pair.ensures c.end-in-Pair.ensures refl (run_due _ inner _ rest c.run-in-Pair.ensures.print) whole
+    opened (pair_name (pair_of found.tag)) (attributes_if_any found.attributes) (string_bytes c.args.out.now) inner rest _ _ _ _ _ _ refl c.in_ok-start_pair-in-Pair.ensures c.end-in-Pair.ensures refl (run_due _ inner _ rest c.run-in-Pair.ensures.print) whole
 
-pub returns-in_ok-start_tag-in-Pair-clause-weight :
-    goal.returns-in_ok-start_tag-in-Pair-clause-weight
-returns-in_ok-start_tag-in-Pair-clause-weight c =
+pub returns-in_ok-start_pair-in-Pair-clause-weight :
+    goal.returns-in_ok-start_pair-in-Pair-clause-weight
+returns-in_ok-start_pair-in-Pair-clause-weight c =
     let b = c.args.self.now in
     let found = c.in-Pair in
     let fits = subst (λ p. Fits b.texts (length b.settled) p) found.is c.requires.fits in
@@ -47,21 +47,21 @@ returns-in_ok-start_tag-in-Pair-clause-weight c =
     let whole = ap (λ p. weight (element_of b.texts (settled_in b) p)) found.is ∙ weight_pair (pair_of found.tag) (attributes_if_any found.attributes) (settled_in b) found.first enough in
     omega (arith, whole, c.run-in-Pair.ensures.weight)
 
-pub returns-in_ok-start_tag-in-Triple-clause-print :
-    goal.returns-in_ok-start_tag-in-Triple-clause-print
-returns-in_ok-start_tag-in-Triple-clause-print c =
+pub returns-in_ok-start_triple-in-Triple-clause-print :
+    goal.returns-in_ok-start_triple-in-Triple-clause-print
+returns-in_ok-start_triple-in-Triple-clause-print c =
     let b = c.args.self.now in
     let found = c.in-Triple in
     let fits = subst (λ p. Fits b.texts (length b.settled) p) found.is c.requires.fits in
     let enough : found.first + 3 ≤ length (settled_in b) = omega (arith, settled_count b.texts b.settled, fits) in
     let whole = ap (λ p. print (element_of b.texts (settled_in b) p)) found.is ∙ print_triple (triple_of found.tag) (attributes_if_any found.attributes) found.is_exchanged (settled_in b) found.first enough in
     IfOk-weaker c.three.result _ _
-    (λ run h. opened (triple_name (triple_of found.tag)) (attributes_if_any found.attributes) (string_bytes c.args.out.now) (prints (children (arranged found.is_exchanged (settled_from b found.first 3)))) (due b c.args.works.now.items) _ _ _ _ _ _ c.start-in-Triple.ensures c.in_ok-start_tag-in-Triple.ensures c.end-in-Triple.ensures refl h whole)
+    (λ run h. opened (triple_name (triple_of found.tag)) (attributes_if_any found.attributes) (string_bytes c.args.out.now) (prints (children (arranged found.is_exchanged (settled_from b found.first 3)))) (due b c.args.works.now.items) _ _ _ _ _ _ refl c.in_ok-start_triple-in-Triple.ensures c.end-in-Triple.ensures refl h whole)
     c.three.ensures.print
 
-pub returns-in_ok-start_tag-in-Triple-clause-weight :
-    goal.returns-in_ok-start_tag-in-Triple-clause-weight
-returns-in_ok-start_tag-in-Triple-clause-weight c =
+pub returns-in_ok-start_triple-in-Triple-clause-weight :
+    goal.returns-in_ok-start_triple-in-Triple-clause-weight
+returns-in_ok-start_triple-in-Triple-clause-weight c =
     let b = c.args.self.now in
     let found = c.in-Triple in
     let fits = subst (λ p. Fits b.texts (length b.settled) p) found.is c.requires.fits in
