@@ -1,7 +1,7 @@
 //! The attributes of elements.
-ghost use Rattle.std.specs.Prelude.{◌≡◌, ◌++◌, true, OnOk, option_map, string_bytes};
+ghost use Rattle.std.specs.Prelude.{◌≡◌, ◌++◌, true, IfSome, OnOk, codes, option_map, string_bytes};
 ghost use Rattle.latex2mathml_elements.specs.Attributes.{plain, styled};
-ghost use Rattle.latex2mathml_elements.specs.Print.{accent_text, attributes_text, form_text, if_so, size_text, space_text, stretch_text, style_text};
+ghost use Rattle.latex2mathml_elements.specs.Print.{accent_text, attributes_text, form_text, if_so, size_text, space_text, start_tag, stretch_text, style_text};
 ghost use Rattle.latex2mathml_attributes.specs.Names.{attributes_if_any, attributes_of, form_of, math_style_of, side_of, size_of, space_of, stretch_of};
 
 use std::alloc::AllocError;
@@ -141,6 +141,30 @@ impl Attributes {
         }
     }
 
+    /// Returns the start tag of an operator with these attributes, if it is one of those that most formulas have. It is one text,
+    /// and takes less time than its pieces.
+    #[inline(always)]
+    pub fn usual_operator(&self) -> Option<&'static str>
+        ensures { IfSome result (λ tag. tag.now ≡ start_tag (codes "mo") (attributes_of self.now)) }
+    {
+        match *self {
+            Attributes {
+                upright: false,
+                form,
+                stretch,
+                fence: false,
+                separator: false,
+                size: None,
+                space,
+                limits_stay: false,
+                accent: None,
+                no_line: false,
+                style: None,
+            } => usual_tag(form, stretch, space),
+            _ => None,
+        }
+    }
+
     /// Appends the attributes, each after a space.
     pub fn append(self, out: &mut String) -> Result<(), AllocError>
         ensures { OnOk result (string_bytes out.new
@@ -158,6 +182,41 @@ impl Attributes {
         append_some(text_if(self.no_line, " linethickness=\"0\""), out)?;
         append_some(style_text(self.style), out)?;
         Ok(())
+    }
+}
+
+/// Returns the start tag of an operator that has these attributes and no other, if it is one of those that most formulas have.
+#[inline(always)]
+fn usual_tag(
+    form: Option<Form>,
+    stretch: Option<Stretch>,
+    space: Option<Space>,
+) -> Option<&'static str>
+    ensures { IfSome result (λ tag. tag.now ≡ codes "<mo"
+        ++ (form_text (option_map form_of form) ++ (stretch_text (option_map stretch_of stretch)
+        ++ (space_text (option_map space_of space) ++ codes ">")))) }
+{
+    match (form, stretch, space) {
+        (None, None, Some(Space::NoSpace)) => Some("<mo lspace=\"0\" rspace=\"0\">"),
+        (None, Some(Stretch::Stretching), None) => Some("<mo stretchy=\"true\">"),
+        (None, Some(Stretch::Rigid), None) => Some("<mo stretchy=\"false\">"),
+        (None, Some(Stretch::Rigid), Some(Space::NoSpace)) => Some(
+            "<mo stretchy=\"false\" lspace=\"0\" rspace=\"0\">",
+        ),
+        (Some(Form::Prefix), None, None) => Some("<mo form=\"prefix\">"),
+        (Some(Form::Prefix), Some(Stretch::Stretching), None) => Some(
+            "<mo form=\"prefix\" stretchy=\"true\">",
+        ),
+        (Some(Form::Prefix), Some(Stretch::Rigid), None) => Some(
+            "<mo form=\"prefix\" stretchy=\"false\">",
+        ),
+        (Some(Form::Postfix), Some(Stretch::Stretching), None) => Some(
+            "<mo form=\"postfix\" stretchy=\"true\">",
+        ),
+        (Some(Form::Postfix), Some(Stretch::Rigid), None) => Some(
+            "<mo form=\"postfix\" stretchy=\"false\">",
+        ),
+        _ => None,
     }
 }
 

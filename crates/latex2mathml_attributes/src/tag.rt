@@ -1,7 +1,9 @@
 //! The names of elements, by what an element may hold.
-ghost use Rattle.std.specs.Prelude.{◌≡◌, ◌++◌, codes};
+ghost use Rattle.std.specs.Prelude.{◌≡◌, ◌++◌, OnOk, codes, string_bytes};
 ghost use Rattle.latex2mathml_elements.specs.Print.{container_name, end_tag, pair_name, token_name, triple_name};
 ghost use Rattle.latex2mathml_attributes.specs.Names.{container_of, pair_of, token_of, triple_of};
+
+use std::alloc::AllocError;
 
 /// The elements that hold a text.
 #[derive(Debug, Clone, Copy)]
@@ -51,18 +53,6 @@ impl Token {
         }
     }
 
-    /// Returns the start tag without attributes.
-    pub fn start_tag(self) -> &'static str
-        ensures { result.now ≡ (codes "<" ++ token_name (token_of self)) ++ codes ">" }
-    {
-        match self {
-            Token::Mi => "<mi>",
-            Token::Mn => "<mn>",
-            Token::Mo => "<mo>",
-            Token::Mtext => "<mtext>",
-        }
-    }
-
     /// Returns the end tag.
     pub fn end(self) -> &'static str
         ensures { result.now ≡ end_tag (token_name (token_of self)) }
@@ -88,14 +78,16 @@ impl Container {
         }
     }
 
-    /// Returns the start tag without attributes.
-    pub fn start_tag(self) -> &'static str
-        ensures { result.now ≡ (codes "<" ++ container_name (container_of self)) ++ codes ">" }
+    /// Appends the start tag without attributes. Each is a text of its own, of a length that is known.
+    #[inline(always)]
+    pub fn append_start_tag(self, out: &mut String) -> Result<(), AllocError>
+        ensures { OnOk result (string_bytes out.new ≡ string_bytes out.old
+            ++ ((codes "<" ++ container_name (container_of self)) ++ codes ">")) }
     {
         match self {
-            Container::Mrow => "<mrow>",
-            Container::Msqrt => "<msqrt>",
-            Container::Mstyle => "<mstyle>",
+            Container::Mrow => out.push_str("<mrow>"),
+            Container::Msqrt => out.push_str("<msqrt>"),
+            Container::Mstyle => out.push_str("<mstyle>"),
         }
     }
 
@@ -126,17 +118,19 @@ impl Pair {
         }
     }
 
-    /// Returns the start tag without attributes.
-    pub fn start_tag(self) -> &'static str
-        ensures { result.now ≡ (codes "<" ++ pair_name (pair_of self)) ++ codes ">" }
+    /// Appends the start tag without attributes. Each is a text of its own, of a length that is known.
+    #[inline(always)]
+    pub fn append_start_tag(self, out: &mut String) -> Result<(), AllocError>
+        ensures { OnOk result (string_bytes out.new ≡ string_bytes out.old
+            ++ ((codes "<" ++ pair_name (pair_of self)) ++ codes ">")) }
     {
         match self {
-            Pair::Mfrac => "<mfrac>",
-            Pair::Mroot => "<mroot>",
-            Pair::Msub => "<msub>",
-            Pair::Msup => "<msup>",
-            Pair::Munder => "<munder>",
-            Pair::Mover => "<mover>",
+            Pair::Mfrac => out.push_str("<mfrac>"),
+            Pair::Mroot => out.push_str("<mroot>"),
+            Pair::Msub => out.push_str("<msub>"),
+            Pair::Msup => out.push_str("<msup>"),
+            Pair::Munder => out.push_str("<munder>"),
+            Pair::Mover => out.push_str("<mover>"),
         }
     }
 
@@ -166,13 +160,15 @@ impl Triple {
         }
     }
 
-    /// Returns the start tag without attributes.
-    pub fn start_tag(self) -> &'static str
-        ensures { result.now ≡ (codes "<" ++ triple_name (triple_of self)) ++ codes ">" }
+    /// Appends the start tag without attributes. Each is a text of its own, of a length that is known.
+    #[inline(always)]
+    pub fn append_start_tag(self, out: &mut String) -> Result<(), AllocError>
+        ensures { OnOk result (string_bytes out.new ≡ string_bytes out.old
+            ++ ((codes "<" ++ triple_name (triple_of self)) ++ codes ">")) }
     {
         match self {
-            Triple::Msubsup => "<msubsup>",
-            Triple::Munderover => "<munderover>",
+            Triple::Msubsup => out.push_str("<msubsup>"),
+            Triple::Munderover => out.push_str("<munderover>"),
         }
     }
 

@@ -1,30 +1,45 @@
--- Markup with one byte of content, and bytes that contents hold as they are.
-use Rattle.std.proofs.Common.{codes, ◌≡◌, ℕ, true, List, [], ◌∷◌, ◌++◌, append-nil, nat_lt, refl, sym, ap, ◌∙◌}
+-- Markup of elements that hold a short text, and bytes that contents hold as they are.
+use Rattle.std.proofs.Common.{codes, ◌≡◌, ℕ, true, List, [], ◌∷◌, ◌++◌, arith, length, nat_lt, refl, slice_index_or}
 use Rattle.std.proofs.lemmas.Bool.{ltb-true}
 use Rattle.std.proofs.lemmas.List.{Elements.All-weaker, Sums.AllPass-from_list_all}
-use Rattle.std.proofs.lemmas.Str.{Ascii.IsAscii-from_all, IsUtf8-append, IsUtf8-from_ascii}
+use Rattle.std.proofs.lemmas.Str.{Ascii.IsAscii-from_all, IsAscii-append, IsUtf8-append, IsUtf8-from_ascii}
 use Rattle.std.specs.{List.list_all, Str.IsAscii, Str.IsUtf8}
-use Rattle.latex2mathml_elements.specs.{Attributes.plain, Element.Token, Element.token}
-use Rattle.latex2mathml_elements.specs.Print.{end_tag, print, token_name}
-use Rattle.latex2mathml_tokens.specs.Escape.{content, content_byte}
-use Rattle.latex2mathml_builder.proofs.Written.{plain_written}
+use Rattle.latex2mathml_builder.specs.Names.{short_end, short_start}
 
 -- markup that is known is seen to be ASCII
 pub ascii_markup : (bs : List ℕ) → list_all (λ b. nat_lt b 128) bs ≡ true → IsAscii bs
 ascii_markup bs h =
     IsAscii-from_all bs (All-weaker _ _ (λ b is. ltb-true b 128 is) bs (AllPass-from_list_all (λ b. nat_lt b 128) bs h))
 
--- contents begin with a byte that they hold as it is
-pub content_begun : (b : ℕ) (bs : List ℕ) → content (b ∷ []) ≡ b ∷ [] → content bs ≡ bs → content (b ∷ bs) ≡ b ∷ bs
-content_begun b bs one others =
-    ap (λ l. l ++ content bs) (sym (append-nil (content_byte b)) ∙ one) ∙ ap (λ l. b ∷ l) others
+-- the tags of elements whose names have two letters
+pub start_is_text : (letter : ℕ) → IsAscii (letter ∷ []) → IsUtf8 (short_start letter)
+start_is_text letter h =
+    IsUtf8-from_ascii _ (IsAscii-append (codes "<m") (letter ∷ codes ">") (ascii_markup (codes "<m") refl) (IsAscii-append (letter ∷ []) (codes ">") h (ascii_markup (codes ">") refl)))
 
--- a character in markup that is known
-pub markup_with : (before after text : List ℕ) → list_all (λ c. nat_lt c 128) before ≡ true → list_all (λ c. nat_lt c 128) after ≡ true → IsUtf8 text → IsUtf8 (before ++ (text ++ after))
-markup_with before after text h k is =
-    IsUtf8-append before (text ++ after) (IsUtf8-from_ascii before (ascii_markup before h)) (IsUtf8-append text after is (IsUtf8-from_ascii after (ascii_markup after k)))
+pub end_is_text : (letter : ℕ) → IsAscii (letter ∷ []) → IsUtf8 (short_end letter)
+end_is_text letter h =
+    IsUtf8-from_ascii _ (IsAscii-append (codes "</m") (letter ∷ codes ">") (ascii_markup (codes "</m") refl) (IsAscii-append (letter ∷ []) (codes ">") h (ascii_markup (codes ">") refl)))
 
--- an element without attributes that holds bytes that contents hold as they are
-pub bytes_written : (t : Token) (out bytes before after new : List ℕ) → content bytes ≡ bytes → before ≡ (codes "<" ++ token_name t) ++ codes ">" → after ≡ end_tag (token_name t) → new ≡ out ++ (before ++ (bytes ++ after)) → new ≡ out ++ print (token t plain bytes)
-bytes_written t out bytes before after new same begins ends writes =
-    plain_written t plain out bytes before after new refl begins ends (writes ∙ ap (λ l. out ++ (before ++ (l ++ after))) (sym same))
+-- such an element with a text
+pub short_is_text : (letter : ℕ) (text : List ℕ) → IsAscii (letter ∷ []) → IsUtf8 text → IsUtf8 (short_start letter ++ (text ++ short_end letter))
+short_is_text letter text h is =
+    IsUtf8-append (short_start letter) (text ++ short_end letter) (start_is_text letter h) (IsUtf8-append text (short_end letter) is (end_is_text letter h))
+
+-- a text of one, two or three bytes is these
+pub one_byte : (bytes : List ℕ) → length bytes ≡ 1 → IsUtf8 bytes → IsUtf8 (slice_index_or bytes 0 0 ∷ [])
+one_byte [] h is = absurd (omega arith)
+one_byte (a ∷ []) h is = is
+one_byte (a ∷ b ∷ bytes) h is = absurd (omega arith)
+
+pub two_bytes : (bytes : List ℕ) → length bytes ≡ 2 → IsUtf8 bytes → IsUtf8 (slice_index_or bytes 0 0 ∷ slice_index_or bytes 1 0 ∷ [])
+two_bytes [] h is = absurd (omega arith)
+two_bytes (a ∷ []) h is = absurd (omega arith)
+two_bytes (a ∷ b ∷ []) h is = is
+two_bytes (a ∷ b ∷ c ∷ bytes) h is = absurd (omega arith)
+
+pub three_bytes : (bytes : List ℕ) → length bytes ≡ 3 → IsUtf8 bytes → IsUtf8 (slice_index_or bytes 0 0 ∷ slice_index_or bytes 1 0 ∷ slice_index_or bytes 2 0 ∷ [])
+three_bytes [] h is = absurd (omega arith)
+three_bytes (a ∷ []) h is = absurd (omega arith)
+three_bytes (a ∷ b ∷ []) h is = absurd (omega arith)
+three_bytes (a ∷ b ∷ c ∷ []) h is = is
+three_bytes (a ∷ b ∷ c ∷ d ∷ bytes) h is = absurd (omega arith)

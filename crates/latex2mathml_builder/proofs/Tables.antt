@@ -99,7 +99,7 @@ pub table_written : (a : Attributes) (columns : Columns) (xs : List Element) →
 table_written a columns [] h = absurd (omega arith)
 table_written a columns (x ∷ xs) h = ap (λ l. start_tag (codes "mtable") a ++ (l ++ end_tag (codes "mtable"))) (rows_written columns x xs)
 
-pub table_loaded : (a : Attributes) (columns : Columns) (xs : List Element) → 0 < length xs → weight (table_with a columns xs) ≡ 3 + row_loads columns xs
+pub table_loaded : (a : Attributes) (columns : Columns) (xs : List Element) → 0 < length xs → weight (table_with a columns xs) ≡ 4 + row_loads columns xs
 table_loaded a columns [] h = absurd (omega arith)
 table_loaded a columns (x ∷ xs) h = omega (arith, rows_loaded columns x xs)
 

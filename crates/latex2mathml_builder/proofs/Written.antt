@@ -2,9 +2,8 @@
 use Rattle.std.proofs.Common.{codes, ◌≡◌, ℕ, zero, suc, ◌+◌, ◌-◌, ◌<◌, ◌≤◌, Bool, true, false, List, [], ◌∷◌, ◌++◌, length, length-drop, append_assoc, append-nil, take, drop, refl, reverse, sym, ap, ◌∙◌, arith}
 use Rattle.std.proofs.lemmas.List.{drop-drop, length-take-le, reverse-append}
 use Rattle.latex2mathml_elements.specs.Attributes.{Attributes}
-use Rattle.latex2mathml_elements.specs.Element.{Pair, Token, Triple, Element, children, token}
-use Rattle.latex2mathml_elements.specs.Print.{attributes_text, container_name, end_tag, pair_name, print, prints, start_tag, token_name, triple_name}
-use Rattle.latex2mathml_tokens.specs.Escape.{content}
+use Rattle.latex2mathml_elements.specs.Element.{Pair, Triple, Element, children}
+use Rattle.latex2mathml_elements.specs.Print.{attributes_text, container_name, end_tag, pair_name, print, prints, start_tag, triple_name}
 use Rattle.latex2mathml_builder.specs.Due.{arranged, weight, weights}
 use Rattle.latex2mathml_attributes.specs.{Arounds.around_attributes, Arounds.around_name, declared.around.Around.Around}
 use Rattle.latex2mathml_builder.specs.Stacks.{around_first}
@@ -74,9 +73,18 @@ exchanged_weight (x ∷ y ∷ []) h = absurd (omega arith)
 exchanged_weight (x ∷ y ∷ z ∷ ys) h = omega arith
 
 module _ (xs : List Element) (first : ℕ) (enough : first + 3 ≤ length xs) where
-  pub print_exchanged : (due : List ℕ) → prints (children (take 1 (drop first xs))) ++ (prints (children (take 1 (drop (first + 2) xs))) ++ (prints (children (take 1 (drop (first + 1) xs))) ++ due)) ≡ prints (children (arranged true (take 3 (drop first xs)))) ++ due
+  print_exchanged : (due : List ℕ) → prints (children (take 1 (drop first xs))) ++ (prints (children (take 1 (drop (first + 2) xs))) ++ (prints (children (take 1 (drop (first + 1) xs))) ++ due)) ≡ prints (children (arranged true (take 3 (drop first xs)))) ++ due
   print_exchanged due =
       rw (← drop-drop 2 first xs, ← drop-drop 1 first xs) (exchanged_print (drop first xs) due (omega (arith, length-drop first xs)))
+
+  -- three runs, the last of which has the end tag
+  pub exchanged_due : (tag due last below middle behind whole : List ℕ) → last ≡ prints (children (take 1 (drop (first + 1) xs))) ++ tag → below ≡ last ++ due → middle ≡ prints (children (take 1 (drop (first + 2) xs))) ++ [] → behind ≡ middle ++ below → whole ≡ prints (children (take 1 (drop first xs))) ++ [] → whole ++ behind ≡ prints (children (arranged true (take 3 (drop first xs)))) ++ (tag ++ due)
+  exchanged_due tag due last below middle behind whole ends puts between puts_next begins =
+      let second = prints (children (take 1 (drop (first + 1) xs))) in
+      let third = prints (children (take 1 (drop (first + 2) xs))) in
+      ap (λ l. l ++ behind) (begins ∙ append-nil _)
+      ∙ ap (λ l. prints (children (take 1 (drop first xs))) ++ l) (puts_next ∙ ap (λ l. l ++ below) (between ∙ append-nil third) ∙ ap (λ l. third ++ l) (puts ∙ ap (λ l. l ++ due) ends ∙ append_assoc second tag due))
+      ∙ print_exchanged (tag ++ due)
 
   pub weight_exchanged : weights (children (take 1 (drop first xs))) + (weights (children (take 1 (drop (first + 2) xs))) + weights (children (take 1 (drop (first + 1) xs)))) ≡ weights (children (take 3 (drop first xs)))
   weight_exchanged =
@@ -112,22 +120,28 @@ opened name a out inner due new start end below behind whole begins writes ends 
     ∙ append_assoc out tag (inner ++ (end_tag name ++ due))
     ∙ ap (λ l. out ++ l) (sym (ap (λ l. l ++ due) is ∙ append_assoc tag (inner ++ end_tag name) due ∙ ap (λ l. tag ++ l) (append_assoc inner (end_tag name) due)))
 
--- the print of some elements is that of the first one and that of the others
-pub continued : (out due : List ℕ) (xs ys : List Element) (x : Element) (all below : List ℕ) → xs ≡ x ∷ ys → below ≡ prints (children ys) ++ due → all ≡ out ++ (print x ++ below) → all ≡ out ++ (prints (children xs) ++ due)
-continued out due xs ys x all below is puts writes =
+-- a run is written before what is due
+pub run_due : (run inner tag due : List ℕ) → run ≡ inner ++ tag → run ++ due ≡ inner ++ (tag ++ due)
+run_due run inner tag due is = ap (λ l. l ++ due) is ∙ append_assoc inner tag due
+
+-- the first element of a run is written, and then the others with the end tag
+first_of_run : (x : Element) (ys : List Element) (tag due : List ℕ) → print x ++ ((prints (children ys) ++ tag) ++ due) ≡ (prints (children (x ∷ ys)) ++ tag) ++ due
+first_of_run x ys tag due = simp append_assoc
+
+pub token_of_run : (out : List ℕ) (xs ys : List Element) (x : Element) (tag due new whole : List ℕ) → xs ≡ x ∷ ys → new ≡ out ++ print x → out ++ ((prints (children xs) ++ tag) ++ due) ≡ whole → new ++ ((prints (children ys) ++ tag) ++ due) ≡ whole
+token_of_run out xs ys x tag due new whole is writes before =
+    ap (λ l. l ++ ((prints (children ys) ++ tag) ++ due)) writes
+    ∙ append_assoc out (print x) ((prints (children ys) ++ tag) ++ due)
+    ∙ ap (λ l. out ++ l) (first_of_run x ys tag due)
+    ∙ ap (λ l. out ++ ((prints (children l) ++ tag) ++ due)) (sym is)
+    ∙ before
+
+pub outer_of_run : (out : List ℕ) (xs ys : List Element) (x : Element) (tag due below all whole : List ℕ) → xs ≡ x ∷ ys → below ≡ (prints (children ys) ++ tag) ++ due → all ≡ out ++ (print x ++ below) → out ++ ((prints (children xs) ++ tag) ++ due) ≡ whole → all ≡ whole
+outer_of_run out xs ys x tag due below all whole is puts writes before =
     writes
     ∙ ap (λ l. out ++ (print x ++ l)) puts
-    ∙ ap (λ l. out ++ l) (sym (append_assoc (print x) (prints (children ys)) due))
-    ∙ ap (λ l. out ++ (prints (children l) ++ due)) (sym is)
-
--- The lowest element is written, and then those above it
-
-pub lowest_first : (out : List ℕ) (xs ys : List Element) (x : Element) (new middle due whole : List ℕ) → xs ≡ x ∷ ys → due ≡ [] → new ≡ middle → middle ≡ out ++ (print x ++ due) → out ++ prints (children xs) ≡ whole → new ++ prints (children ys) ≡ whole
-lowest_first out xs ys x new middle due whole is none ends writes before =
-    let first = ends ∙ writes ∙ ap (λ d. out ++ (print x ++ d)) none ∙ ap (λ l. out ++ l) (append-nil (print x)) in
-    ap (λ l. l ++ prints (children ys)) first
-    ∙ append_assoc out (print x) (prints (children ys))
-    ∙ ap (λ l. out ++ prints (children l)) (sym is)
+    ∙ ap (λ l. out ++ l) (first_of_run x ys tag due)
+    ∙ ap (λ l. out ++ ((prints (children l) ++ tag) ++ due)) (sym is)
     ∙ before
 
 -- A token is written, and then the elements after it
@@ -138,11 +152,6 @@ token_first out xs ys x new whole is writes before =
     ∙ append_assoc out (print x) (prints (children ys))
     ∙ ap (λ l. out ++ prints (children l)) (sym is)
     ∙ before
-
--- the first elements are written, and then the others and what is due
-pub after_tokens : (first out whole others due all : List ℕ) → out ++ others ≡ first ++ whole → all ≡ out ++ (others ++ due) → all ≡ first ++ (whole ++ due)
-after_tokens first out whole others due all before writes =
-    writes ∙ sym (append_assoc out others due) ∙ ap (λ l. l ++ due) before ∙ append_assoc first whole due
 
 -- An element around another
 
@@ -161,13 +170,3 @@ print_around a xs first h = around_written a _ (taken_length xs first 1 h)
 
 pub weight_around : (a : Around) (xs : List Element) (first : ℕ) → first + 1 ≤ length xs → weight (around_first a (take 1 (drop first xs))) ≡ 3 + weights (children (take 1 (drop first xs)))
 weight_around a xs first h = around_weight a _ (taken_length xs first 1 h)
-
--- An element that holds a text, and has no attributes
-
-pub plain_written : (t : Token) (a : Attributes) (out text before after new : List ℕ) → attributes_text a ≡ [] → before ≡ (codes "<" ++ token_name t) ++ codes ">" → after ≡ end_tag (token_name t) → new ≡ out ++ (before ++ (content text ++ after)) → new ≡ out ++ print (token t a text)
-plain_written t a out text before after new none begins ends writes =
-    let name = token_name t in
-    let tag : (codes "<" ++ name) ++ codes ">" ≡ start_tag name a = append_assoc (codes "<") name (codes ">") ∙ ap (λ l. codes "<" ++ (name ++ (l ++ codes ">"))) (sym none) in
-    writes
-    ∙ ap (λ l. out ++ (l ++ (content text ++ after))) (begins ∙ tag)
-    ∙ ap (λ l. out ++ (start_tag name a ++ (content text ++ l))) ends

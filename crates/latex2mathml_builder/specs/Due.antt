@@ -7,6 +7,7 @@ use Rattle.latex2mathml_elements.specs.Print.{cell_print, cells_print, prints, r
 use Rattle.latex2mathml_elements.specs.Tables.{cells_in}
 use Rattle.latex2mathml_builder.specs.Built.{Built, settled_in}
 use Rattle.latex2mathml_attributes.specs.Columns.{columns_of}
+use Rattle.latex2mathml_builder.specs.declared.works.Run.{Run}
 use Rattle.latex2mathml_builder.specs.declared.works.Work.{Work}
 use Rattle.latex2mathml_builder.specs.declared.works.Work.TheVariants as work
 
@@ -24,8 +25,15 @@ abbrev pub row_prints : Columns → List Element → List ℕ
 row_prints columns [] = []
 row_prints columns (x ∷ xs) = row_print (cells_print (cells_in columns x)) ++ row_prints columns xs
 
+-- the elements of a run
+abbrev pub elements_of : Built → Run → List Element
+elements_of b run = settled_from b run.next (run.end - run.next)
+
+abbrev pub run_print : Built → Run → List ℕ
+run_print b run = prints (children (elements_of b run)) ++ run.tag.now
+
 abbrev pub work_print : Built → Work → List ℕ
-work_print b (work.Elements first count) = prints (children (settled_from b first count))
+work_print b (work.Elements run) = run_print b run
 work_print b (work.Rows columns first count) = row_prints (columns_of columns) (settled_from b first count)
 work_print b (work.Cells columns start first count) = cell_prints (columns_of columns) (first - start) (settled_from b first count)
 work_print b (work.End tag) = tag.now
@@ -35,7 +43,7 @@ due b ws = flat_map (work_print b) (reverse ws)
 
 -- the elements of a work are settled
 abbrev pub IsIn : Built → Work → Type 0
-IsIn b (work.Elements first count) = first + count ≤ length b.settled
+IsIn b (work.Elements run) = run.end ≤ length b.settled
 IsIn b (work.Rows columns first count) = first + count ≤ length b.settled
 IsIn b (work.Cells columns start first count) = (start ≤ first) × (first + count ≤ length b.settled)
 IsIn b (work.End tag) = Unit {0}
@@ -62,12 +70,12 @@ arranged is_exchanged xs = xs
 abbrev mutual
   pub weight : Element → ℕ
   weight (token t a text) = 1
-  weight (space width) = 1
-  weight (rectangle e) = 1
+  weight (space width) = 2
+  weight (rectangle e) = 2
   weight (container c a xs) = 3 + weights xs
   weight (pair p a x y) = 3 + (weight x + weight y)
   weight (triple t a x y z) = 5 + (weight x + (weight y + weight z))
-  weight (table a rows) = 3 + row_weights rows
+  weight (table a rows) = 4 + row_weights rows
 
   pub weights : Elements → ℕ
   weights none = 0
@@ -91,8 +99,11 @@ row_loads columns [] = 0
 row_loads columns (x ∷ xs) = 3 + (cell_weights (cells_in columns x) + row_loads columns xs)
 
 -- how much there is to write of a work, and of all works
+abbrev pub run_weight : Built → Run → ℕ
+run_weight b run = weights (children (elements_of b run))
+
 abbrev pub work_weight : Built → Work → ℕ
-work_weight b (work.Elements first count) = 1 + weights (children (settled_from b first count))
+work_weight b (work.Elements run) = 1 + run_weight b run
 work_weight b (work.Rows columns first count) = 1 + row_loads (columns_of columns) (settled_from b first count)
 work_weight b (work.Cells columns start first count) = 1 + cell_loads (settled_from b first count)
 work_weight b (work.End tag) = 1
@@ -104,3 +115,7 @@ load b = sum_by (work_weight b)
 -- old text followed by this markup and what was due.
 abbrev pub Writes : Built → List ℕ → List Work → List ℕ → List ℕ → List Work → Type 0
 Writes b old ws markup new vs = new ++ due b vs ≡ old ++ (markup ++ due b ws)
+
+-- The same, if what follows is this run and what is due.
+abbrev pub Begins : Built → List ℕ → List Work → List ℕ → List ℕ → Run → List Work → Type 0
+Begins b old ws markup new run vs = new ++ (run_print b run ++ due b vs) ≡ old ++ (markup ++ due b ws)

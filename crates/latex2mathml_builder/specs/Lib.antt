@@ -1,3 +1,4 @@
 pub mod Built
 pub mod Due
+pub mod Names
 pub mod Stacks

@@ -115,18 +115,13 @@ impl Builder {
             ⊎ Puts (element_with_text tag attributes []) self.old self.new) }
     {
         let start = self.texts.len();
+        // Room for the element comes first, so that no character stays without its element.
+        self.stack.reserve(1)?;
         self.texts.push(c)?;
         let end = self.texts.len();
-        match self
-            .stack
-            .push(Part::Token(tag, attributes.if_any(), start, end))
-        {
-            Ok(()) => Ok(()),
-            Err(failed) => {
-                self.texts.truncate(start);
-                Err(failed.into())
-            }
-        }
+        self.stack
+            .push_reserved(Part::Token(tag, attributes.if_any(), start, end));
+        Ok(())
     }
 
     /// Appends to the text of the uppermost element, if it holds one. Returns whether it does.
@@ -378,24 +373,24 @@ impl Builder {
     }
 
     /// Returns a settled element.
-    pub(crate) fn settled_at(&self, place: usize) -> Part
+    pub(crate) fn settled_at(&self, place: usize) -> &Part
         requires { place < length self.now.settled }
-        ensures fits { Fits self.now.texts (length self.now.settled) result }
+        ensures fits { Fits self.now.texts (length self.now.settled) result.now }
         ensures element { drop place (settled_in self.now)
-            ≡ element_in self.now result ∷ drop (place + 1) (settled_in self.now) }
+            ≡ element_in self.now result.now ∷ drop (place + 1) (settled_in self.now) }
     {
-        self.settled[place]
+        &self.settled[place]
     }
 
     /// Returns an open element.
-    pub(crate) fn open_at(&self, place: usize) -> Part
+    pub(crate) fn open_at(&self, place: usize) -> &Part
         requires { place < length self.now.stack }
-        ensures fits { Fits self.now.texts (length self.now.settled) result }
+        ensures fits { Fits self.now.texts (length self.now.settled) result.now }
         ensures element { drop (length self.now.stack - (place + 1)) (elements_in self.now)
-            ≡ element_in self.now result
+            ≡ element_in self.now result.now
             ∷ drop (length self.now.stack - place) (elements_in self.now) }
     {
-        self.stack[place]
+        &self.stack[place]
     }
 
     /// Returns a part of the texts.

@@ -45,7 +45,10 @@ impl Builder {
             ≡ in_cells (drop place (settled_in self.now)) }
     {
         match self.settled_at(place) {
-            Part::Container(Container::Mrow, _, first, count) if count > 0 => (first, count),
+            Part::Container(tag, _, first, count) => match *tag {
+                Container::Mrow if *count > 0 => (*first, *count),
+                _ => (place, 1),
+            },
             _ => (place, 1),
         }
     }
@@ -71,8 +74,7 @@ impl Builder {
             < load self.now works.old.items + cell_loads (settled_from self.now place 1)) }
     {
         start_cell(columns.column_at(place - start), out)?;
-        self.push_work(Work::End("</mtd>"), works)?;
-        self.push_work(Work::Elements(place, 1), works)
+        self.push_work(Work::Elements(self.run(place, 1, "</mtd>")), works)
     }
 }
 

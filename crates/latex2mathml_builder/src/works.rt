@@ -31,11 +31,22 @@ impl Works {
     }
 }
 
+/// Settled elements next to each other that are still to be written, and the end tag after them.
+#[derive(Clone, Copy)]
+pub(crate) struct Run {
+    /// The place of the first.
+    pub(crate) next: usize,
+    /// The place after the last.
+    pub(crate) end: usize,
+    /// The end tag. It may be empty.
+    pub(crate) tag: &'static str,
+}
+
 /// A piece of what is still to be written.
 #[derive(Clone, Copy)]
 pub(crate) enum Work {
-    /// A number of settled elements: the place of the first, and how many there are.
-    Elements(usize, usize),
+    /// Settled elements and the end tag after them.
+    Elements(Run),
     /// A number of settled elements, each as a row of these columns: the place of the first, and how many there are.
     Rows(Columns, usize, usize),
     /// Cells of a row of these columns: the place of the settled element with which the row begins, the place of the first

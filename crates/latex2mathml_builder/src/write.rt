@@ -1,19 +1,20 @@
 //! Writes elements as markup.
-ghost use Rattle.std.specs.Prelude.{◌≡◌, ◌+◌, ◌<◌, ◌≤◌, ◌∷◌, ◌++◌, [], false, IsTrue, OnOk, codes, length, set, string_bytes};
+ghost use Rattle.std.specs.Prelude.{◌≡◌, ◌+◌, ◌<◌, ◌≤◌, ◌∷◌, ◌++◌, [], false, IfOk, IsTrue, OnOk, codes, length, set, string_bytes};
 ghost use Rattle.std.specs.Str.{IsAscii, IsUtf8};
 ghost use Rattle.latex2mathml_elements.specs.Attributes.{plain};
 ghost use Rattle.latex2mathml_elements.specs.Element.{children, token};
-ghost use Rattle.latex2mathml_elements.specs.Print.{attributes_text, print, prints};
+ghost use Rattle.latex2mathml_elements.specs.Print.{attributes_text, container_name, pair_name, print, prints, start_tag, token_name, triple_name};
 ghost use Rattle.latex2mathml_builder.specs.Built.{Fits, element_in, elements_in, is_token_part, uppermost};
-ghost use Rattle.latex2mathml_attributes.specs.Names.{attributes_if_any, attributes_of, token_of};
+ghost use Rattle.latex2mathml_attributes.specs.Names.{attributes_if_any, attributes_of, container_of, pair_of, token_of, triple_of};
 ghost use Rattle.latex2mathml_tokens.specs.Escape.{content};
-ghost use Rattle.latex2mathml_builder.specs.Due.{AreIn, IsIn, Writes, arranged, due, load, settled_from, weight, weights, work_print, work_weight};
+ghost use Rattle.latex2mathml_builder.specs.Names.{short_end, short_start};
+ghost use Rattle.latex2mathml_builder.specs.Due.{AreIn, Begins, IsIn, Writes, arranged, due, load, run_print, run_weight, settled_from, weight, weights, work_print, work_weight};
 
 use crate::builder::Builder;
 use crate::part::Part;
-use crate::works::{Work, Works};
+use crate::works::{Run, Work, Works};
 use latex2mathml_attributes::attributes::Attributes;
-use latex2mathml_attributes::tag::Token;
+use latex2mathml_attributes::tag::{Container, Pair, Token, Triple};
 use latex2mathml_trees::append::{append_content, append_space};
 use std::alloc::AllocError;
 
@@ -34,16 +35,34 @@ impl Builder {
         'elements: while place < self.len() {
             match self.open_at(place) {
                 Part::Token(tag, attributes, from, to) => {
-                    write_token(tag, attributes, self.text_between(from, to), out)?;
+                    write_token(*tag, attributes, self.text_between(*from, *to), out)?;
                 }
-                part => {
-                    self.write_outer(part, list, out)?;
-                    self.finish(list, out)?;
-                }
+                part => self.write_outer(part, list, out)?,
             }
             place += 1;
         }
         Ok(())
+    }
+
+    /// Writes an element that holds no text. The list is empty before and after that.
+    #[inline(never)]
+    #[tactic(auto, unfolding(crate::specs::Due::AreIn))]
+    fn write_outer(
+        &self,
+        part: &Part,
+        works: &mut Vec<Work>,
+        out: &mut String,
+    ) -> Result<(), AllocError>
+        requires no_token { is_token_part part.now ≡ false }
+        requires fits { Fits self.now.texts (length self.now.settled) part.now }
+        requires empty { works.old.items ≡ [] }
+        ensures empty { OnOk result (works.new.items ≡ []) }
+        ensures print { OnOk result (string_bytes out.new
+            ≡ string_bytes out.old ++ print (element_in self.now part.now)) }
+    {
+        let run = self.write_start(part, works, out)?;
+        self.write_run(run, works, out)?;
+        self.finish(works, out)
     }
 
     /// Does all works of the list.
@@ -72,7 +91,7 @@ impl Builder {
     {
         match work {
             Work::End(tag) => out.push_str(tag),
-            Work::Elements(first, count) => self.write_elements(first, count, works, out),
+            Work::Elements(run) => self.write_run(run, works, out),
             Work::Rows(_, _, 0) => Ok(()),
             Work::Rows(columns, first, count) => {
                 let _ = self.settled_len();
@@ -88,122 +107,141 @@ impl Builder {
         }
     }
 
-    /// Writes settled elements until one of them holds no text, and pushes what follows on the list.
-    #[inline(always)]
-    fn write_elements(
-        &self,
-        first: usize,
-        count: usize,
-        works: &mut Vec<Work>,
-        out: &mut String,
-    ) -> Result<(), AllocError>
-        requires all { first + count ≤ length self.now.settled }
+    /// Writes settled elements and the end tag after them. If one of them holds no text, this pushes the others on the list,
+    /// writes what precedes the children of that one, and goes on with its children.
+    #[inline(never)]
+    fn write_run(&self, run: Run, works: &mut Vec<Work>, out: &mut String) -> Result<(), AllocError>
+        requires one { run.end ≤ length self.now.settled }
         requires inside { AreIn self.now works.old.items }
         ensures inside { OnOk result (AreIn self.now works.new.items) }
         ensures print { OnOk result (Writes self.now (string_bytes out.old) works.old.items
-            (prints (children (settled_from self.now first count)))
-            (string_bytes out.new) works.new.items) }
+            (run_print self.now run) (string_bytes out.new) works.new.items) }
         ensures weight { OnOk result (load self.now works.new.items
-            ≤ load self.now works.old.items
-            + weights (children (settled_from self.now first count))) }
+            ≤ load self.now works.old.items + run_weight self.now run) }
     {
         // No place is greater than this length, so none overflows.
         let _ = self.settled_len();
-        let end = first + count;
-        let mut place = first;
-        'elements: while place < end {
-            match self.settled_at(place) {
+        let mut left = run;
+        'elements: while left.next < left.end {
+            let first = self.settled_at(left.next);
+            left.next += 1;
+            match first {
                 Part::Token(tag, attributes, from, to) => {
-                    write_token(tag, attributes, self.text_between(from, to), out)?;
+                    write_token(*tag, attributes, self.text_between(*from, *to), out)?;
                 }
                 part => {
-                    self.push_work(Work::Elements(place + 1, end - (place + 1)), works)?;
-                    return self.write_outer(part, works, out);
+                    self.push_work(Work::Elements(left), works)?;
+                    left = self.write_start(part, works, out)?;
                 }
             }
-            place += 1;
         }
-        Ok(())
+        out.push_str(left.tag)
     }
 
-    /// Writes what precedes the children of an element that holds no text, and pushes what follows on the list.
-    #[inline(never)]
-    fn write_outer(
+    /// Writes what precedes the children of an element that holds no text. Returns what follows, up to the end tag, except
+    /// what it pushes on the list.
+    #[inline(always)]
+    fn write_start(
         &self,
-        part: Part,
+        part: &Part,
         works: &mut Vec<Work>,
         out: &mut String,
-    ) -> Result<(), AllocError>
-        requires no_token { is_token_part part ≡ false }
-        requires fits { Fits self.now.texts (length self.now.settled) part }
+    ) -> Result<Run, AllocError>
+        requires no_token { is_token_part part.now ≡ false }
+        requires fits { Fits self.now.texts (length self.now.settled) part.now }
         requires inside { AreIn self.now works.old.items }
         ensures inside { OnOk result (AreIn self.now works.new.items) }
-        ensures print { OnOk result (Writes self.now (string_bytes out.old) works.old.items
-            (print (element_in self.now part)) (string_bytes out.new) works.new.items) }
-        ensures weight { OnOk result (load self.now works.new.items
-            < load self.now works.old.items + weight (element_in self.now part)) }
+        ensures one { IfOk result (λ run. run.end ≤ length self.now.settled) }
+        ensures print { IfOk result (λ run. Begins self.now (string_bytes out.old) works.old.items
+            (print (element_in self.now part.now)) (string_bytes out.new) run works.new.items) }
+        ensures weight { IfOk result (λ run. load self.now works.new.items
+            + run_weight self.now run + 1
+            < load self.now works.old.items + weight (element_in self.now part.now)) }
     {
         match part {
             Part::Token(_, _, _, _) => unreachable!(),
-            Part::Space(width) => append_space(width, out),
+            Part::Space(width) => {
+                append_space(*width, out)?;
+                Ok(self.run(0, 0, ""))
+            }
             Part::Rectangle(extent) => {
                 out.push_str("<mspace")?;
                 extent.append(out)?;
-                out.push_str("/>")
+                out.push_str("/>")?;
+                Ok(self.run(0, 0, ""))
             }
             Part::Around(around, first) => {
                 around.append_start(out)?;
-                self.push_work(Work::End(around.end()), works)?;
-                self.push_work(Work::Elements(first, 1), works)
+                Ok(self.run(*first, 1, around.end()))
             }
             Part::Container(tag, attributes, first, count) => {
-                start_tag(tag.start_tag(), tag.start(), attributes, out)?;
-                self.push_work(Work::End(tag.end()), works)?;
-                self.push_work(Work::Elements(first, count), works)
+                start_container(*tag, attributes, out)?;
+                Ok(self.run(*first, *count, tag.end()))
             }
             Part::Pair(tag, attributes, first) => {
-                start_tag(tag.start_tag(), tag.start(), attributes, out)?;
-                self.push_work(Work::End(tag.end()), works)?;
-                self.push_work(Work::Elements(first, 2), works)
+                start_pair(*tag, attributes, out)?;
+                Ok(self.run(*first, 2, tag.end()))
             }
             Part::Triple(tag, attributes, first, is_exchanged) => {
-                start_tag(tag.start_tag(), tag.start(), attributes, out)?;
-                self.push_work(Work::End(tag.end()), works)?;
-                self.push_three(first, is_exchanged, works)
+                start_triple(*tag, attributes, out)?;
+                self.three(*first, *is_exchanged, tag.end(), works)
             }
             Part::Table(style, columns, first, count) => {
-                start_with_attributes("<mtable", &Attributes::styled(style), out)?;
+                start_with_attributes("<mtable", &Attributes::styled(*style), out)?;
                 self.push_work(Work::End("</mtable>"), works)?;
-                self.push_work(Work::Rows(columns, first, count), works)
+                self.push_work(Work::Rows(*columns, *first, *count), works)?;
+                Ok(self.run(0, 0, ""))
             }
         }
     }
 
-    /// Pushes the three children of an element on the list, with the last two exchanged if the flag says so.
-    fn push_three(
+    /// Returns the three children of an element and its end tag. If the last two are exchanged, it pushes both on the list.
+    #[inline(always)]
+    fn three(
         &self,
         first: usize,
         is_exchanged: bool,
+        tag: &'static str,
         works: &mut Vec<Work>,
-    ) -> Result<(), AllocError>
+    ) -> Result<Run, AllocError>
         requires all { first + 3 ≤ length self.now.settled }
         requires inside { AreIn self.now works.old.items }
         ensures inside { OnOk result (AreIn self.now works.new.items) }
-        ensures print { OnOk result (due self.now works.new.items
+        ensures one { IfOk result (λ run. run.end ≤ length self.now.settled) }
+        ensures print { IfOk result (λ run. run_print self.now run ++ due self.now works.new.items
             ≡ prints (children (arranged is_exchanged (settled_from self.now first 3)))
-            ++ due self.now works.old.items) }
-        ensures weight { OnOk result (load self.now works.new.items
-            ≤ load self.now works.old.items + 3
+            ++ (tag.now ++ due self.now works.old.items)) }
+        ensures weight { IfOk result (λ run. load self.now works.new.items
+            + run_weight self.now run
+            ≤ load self.now works.old.items + 2
             + weights (children (settled_from self.now first 3))) }
     {
-        if is_exchanged {
-            // No place is greater than this length, so none overflows.
-            let _ = self.settled_len();
-            self.push_work(Work::Elements(first + 1, 1), works)?;
-            self.push_work(Work::Elements(first + 2, 1), works)?;
-            self.push_work(Work::Elements(first, 1), works)
-        } else {
-            self.push_work(Work::Elements(first, 3), works)
+        if !is_exchanged {
+            return Ok(self.run(first, 3, tag));
+        }
+        // No place is greater than this length, so none overflows.
+        let _ = self.settled_len();
+        self.push_work(Work::Elements(self.run(first + 1, 1, tag)), works)?;
+        self.push_work(Work::Elements(self.run(first + 2, 1, "")), works)?;
+        Ok(self.run(first, 1, ""))
+    }
+
+    /// Returns a number of settled elements from this place on, with this end tag.
+    #[inline(always)]
+    pub(crate) fn run(&self, first: usize, count: usize, tag: &'static str) -> Run
+        requires { first + count ≤ length self.now.settled }
+        ensures one { result.end ≤ length self.now.settled }
+        ensures print { run_print self.now result
+            ≡ prints (children (settled_from self.now first count)) ++ tag.now }
+        ensures weight { run_weight self.now result
+            ≡ weights (children (settled_from self.now first count)) }
+    {
+        // No place is greater than this length, so none overflows.
+        let _ = self.settled_len();
+        Run {
+            next: first,
+            end: first + count,
+            tag,
         }
     }
 
@@ -225,176 +263,111 @@ impl Builder {
 
 /// Appends an element that holds this text.
 #[inline(always)]
-#[tactic(auto, using(std::proofs::lemmas::Grind::common_steps))]
 fn write_token(
     tag: Token,
-    attributes: Option<Attributes>,
+    attributes: &Option<Attributes>,
     text: &str,
     out: &mut String,
 ) -> Result<(), AllocError>
     ensures { OnOk result (string_bytes out.new ≡ string_bytes out.old
-        ++ print (token (token_of tag) (attributes_if_any attributes) text.now)) }
+        ++ print (token (token_of tag) (attributes_if_any attributes.now) text.now)) }
 {
-    let Some(attributes) = attributes else {
-        return write_plain(tag, text, out);
-    };
-    start_with_attributes(tag.start(), &attributes, out)?;
+    match attributes {
+        None => write_plain(tag, text, out),
+        Some(attributes) => write_with_attributes(tag, attributes, text, out),
+    }
+}
+
+/// Appends an element with attributes that holds this text.
+#[inline(never)]
+#[tactic(auto, using(std::proofs::lemmas::Grind::common_steps))]
+fn write_with_attributes(
+    tag: Token,
+    attributes: &Attributes,
+    text: &str,
+    out: &mut String,
+) -> Result<(), AllocError>
+    ensures { OnOk result (string_bytes out.new ≡ string_bytes out.old
+        ++ print (token (token_of tag) (attributes_of attributes.now) text.now)) }
+{
+    start_token(tag, attributes, out)?;
     write_content(text, out)?;
     out.push_str(tag.end())
 }
 
-/// Appends an element without attributes that holds this text. Most texts are one character.
+/// Appends an element without attributes that holds this text.
 #[inline(always)]
 fn write_plain(tag: Token, text: &str, out: &mut String) -> Result<(), AllocError>
     ensures { OnOk result (string_bytes out.new ≡ string_bytes out.old
         ++ print (token (token_of tag) plain text.now)) }
 {
-    match text.as_bytes() {
-        [byte] if byte.is_ascii() && is_kept(*byte) => write_byte(tag, *byte, out),
-        [a, b] if is_kept(*a) && is_kept(*b) => write_two(tag, *a, *b, out),
-        [a, b, c] if is_kept(*a) && is_kept(*b) && is_kept(*c) => write_three(tag, *a, *b, *c, out),
-        _ => match tag {
-            Token::Mi => write_text("<mi>", text, "</mi>", out),
-            Token::Mn => write_text("<mn>", text, "</mn>", out),
-            Token::Mo => write_text("<mo>", text, "</mo>", out),
-            Token::Mtext => write_text("<mtext>", text, "</mtext>", out),
-        },
+    match tag {
+        Token::Mi => write_short(b'i', text, out),
+        Token::Mn => write_short(b'n', text, out),
+        Token::Mo => write_short(b'o', text, out),
+        Token::Mtext => write_mtext(text, out),
     }
 }
 
-/// Appends a text as contents, between two tags.
-#[inline(always)]
-fn write_text(
-    before: &'static str,
-    text: &str,
-    after: &'static str,
-    out: &mut String,
-) -> Result<(), AllocError>
+/// Appends an `mtext` element without attributes.
+#[inline(never)]
+fn write_mtext(text: &str, out: &mut String) -> Result<(), AllocError>
     ensures { OnOk result (string_bytes out.new ≡ string_bytes out.old
-        ++ (before.now ++ (content text.now ++ after.now))) }
+        ++ (codes "<mtext>" ++ (content text.now ++ codes "</mtext>"))) }
 {
-    out.push_str(before)?;
+    out.push_str("<mtext>")?;
     append_content(text, out)?;
-    out.push_str(after)
+    out.push_str("</mtext>")
 }
 
-/// Appends an element without attributes that holds this byte, which is a character.
+/// Appends an element without attributes that holds this text. Its name is `m` and this letter. Most texts are one character,
+/// of which no byte is escaped. One push of all takes less time than one for each of its three pieces.
 #[inline(always)]
-fn write_byte(tag: Token, byte: u8, out: &mut String) -> Result<(), AllocError>
-    requires ascii { byte < 128 }
-    requires content { content (byte ∷ []) ≡ byte ∷ [] }
+fn write_short(letter: u8, text: &str, out: &mut String) -> Result<(), AllocError>
+    requires { IsAscii (letter ∷ []) }
     ensures { OnOk result (string_bytes out.new ≡ string_bytes out.old
-        ++ print (token (token_of tag) plain (byte ∷ []))) }
+        ++ (short_start letter ++ (content text.now ++ short_end letter))) }
 {
-    match tag {
-        Token::Mi => push_with_byte(b"<mi> </mi>", 4, byte, out),
-        Token::Mn => push_with_byte(b"<mn> </mn>", 4, byte, out),
-        Token::Mo => push_with_byte(b"<mo> </mo>", 4, byte, out),
-        Token::Mtext => push_with_byte(b"<mtext> </mtext>", 7, byte, out),
+    match text.as_bytes() {
+        [a] if is_kept(*a) => push_bytes(
+            &[b'<', b'm', letter, b'>', *a, b'<', b'/', b'm', letter, b'>'],
+            out,
+        ),
+        [a, b] if is_kept(*a) && is_kept(*b) => push_bytes(
+            &[
+                b'<', b'm', letter, b'>', *a, *b, b'<', b'/', b'm', letter, b'>',
+            ],
+            out,
+        ),
+        [a, b, c] if is_kept(*a) && is_kept(*b) && is_kept(*c) => push_bytes(
+            &[
+                b'<', b'm', letter, b'>', *a, *b, *c, b'<', b'/', b'm', letter, b'>',
+            ],
+            out,
+        ),
+        _ => write_long(letter, text, out),
     }
 }
 
-/// Appends an element without attributes that holds these two bytes, which are a character.
-#[inline(always)]
-fn write_two(tag: Token, first: u8, second: u8, out: &mut String) -> Result<(), AllocError>
-    requires text { IsUtf8 (first ∷ second ∷ []) }
-    requires content { content (first ∷ second ∷ []) ≡ first ∷ second ∷ [] }
+/// The same for any text.
+#[inline(never)]
+fn write_long(letter: u8, text: &str, out: &mut String) -> Result<(), AllocError>
+    requires { IsAscii (letter ∷ []) }
     ensures { OnOk result (string_bytes out.new ≡ string_bytes out.old
-        ++ print (token (token_of tag) plain (first ∷ second ∷ []))) }
+        ++ (short_start letter ++ (content text.now ++ short_end letter))) }
 {
-    match tag {
-        Token::Mi => push_with_two(b"<mi>  </mi>", 4, first, second, out),
-        Token::Mn => push_with_two(b"<mn>  </mn>", 4, first, second, out),
-        Token::Mo => push_with_two(b"<mo>  </mo>", 4, first, second, out),
-        Token::Mtext => push_with_two(b"<mtext>  </mtext>", 7, first, second, out),
-    }
+    push_bytes(&[b'<', b'm', letter, b'>'], out)?;
+    append_content(text, out)?;
+    push_bytes(&[b'<', b'/', b'm', letter, b'>'], out)
 }
 
-/// Appends an element without attributes that holds these three bytes, which are a character.
+/// Appends bytes that are a text.
 #[inline(always)]
-fn write_three(
-    tag: Token,
-    first: u8,
-    second: u8,
-    third: u8,
-    out: &mut String,
-) -> Result<(), AllocError>
-    requires text { IsUtf8 (first ∷ second ∷ third ∷ []) }
-    requires content { content (first ∷ second ∷ third ∷ []) ≡ first ∷ second ∷ third ∷ [] }
-    ensures { OnOk result (string_bytes out.new ≡ string_bytes out.old
-        ++ print (token (token_of tag) plain (first ∷ second ∷ third ∷ []))) }
+fn push_bytes(bytes: &[u8], out: &mut String) -> Result<(), AllocError>
+    requires { IsUtf8 bytes.now }
+    ensures { OnOk result (string_bytes out.new ≡ string_bytes out.old ++ bytes.now) }
 {
-    match tag {
-        Token::Mi => push_with_three(b"<mi>   </mi>", 4, first, second, third, out),
-        Token::Mn => push_with_three(b"<mn>   </mn>", 4, first, second, third, out),
-        Token::Mo => push_with_three(b"<mo>   </mo>", 4, first, second, third, out),
-        Token::Mtext => push_with_three(b"<mtext>   </mtext>", 7, first, second, third, out),
-    }
-}
-
-/// Appends markup with this byte at the place. One push takes less time than one for each of its three pieces.
-#[inline(always)]
-fn push_with_byte<const N: usize>(
-    markup: &[u8; N],
-    place: usize,
-    byte: u8,
-    out: &mut String,
-) -> Result<(), AllocError>
-    requires place { place < length markup.now }
-    requires markup { IsAscii markup.now }
-    requires byte { byte < 128 }
-    ensures { OnOk result (string_bytes out.new ≡ string_bytes out.old
-        ++ set markup.now place byte) }
-{
-    let mut bytes = *markup;
-    bytes[place] = byte;
-    // The bytes are ASCII, and so they are a text.
-    out.push_str(unsafe { str::from_utf8_unchecked(&bytes) })
-}
-
-/// Appends markup with these two bytes from the place on.
-#[inline(always)]
-fn push_with_two<const N: usize>(
-    markup: &[u8; N],
-    place: usize,
-    first: u8,
-    second: u8,
-    out: &mut String,
-) -> Result<(), AllocError>
-    requires place { place + 1 < length markup.now }
-    requires text { IsUtf8 (set (set markup.now place first) (place + 1) second) }
-    ensures { OnOk result (string_bytes out.new ≡ string_bytes out.old
-        ++ set (set markup.now place first) (place + 1) second) }
-{
-    let mut bytes = *markup;
-    bytes[place] = first;
-    bytes[place + 1] = second;
-    // The caller shows that the bytes are a text.
-    out.push_str(unsafe { str::from_utf8_unchecked(&bytes) })
-}
-
-/// Appends markup with these three bytes from the place on.
-#[inline(always)]
-fn push_with_three<const N: usize>(
-    markup: &[u8; N],
-    place: usize,
-    first: u8,
-    second: u8,
-    third: u8,
-    out: &mut String,
-) -> Result<(), AllocError>
-    requires place { place + 2 < length markup.now }
-    requires text { IsUtf8
-        (set (set (set markup.now place first) (place + 1) second) (place + 2) third) }
-    ensures { OnOk result (string_bytes out.new ≡ string_bytes out.old
-        ++ set (set (set markup.now place first) (place + 1) second) (place + 2) third) }
-{
-    let mut bytes = *markup;
-    bytes[place] = first;
-    bytes[place + 1] = second;
-    bytes[place + 2] = third;
-    // The caller shows that the bytes are a text.
-    out.push_str(unsafe { str::from_utf8_unchecked(&bytes) })
+    out.push_str(unsafe { str::from_utf8_unchecked(bytes) })
 }
 
 /// Appends a text as contents. Most texts are one character.
@@ -416,23 +389,73 @@ fn is_kept(byte: u8) -> bool
     !matches!(byte, b'&' | b'<' | b'>' | b'$')
 }
 
-/// Appends a start tag: `whole` if there are no attributes, otherwise `beginning` and the attributes.
+/// Appends the start tag of an element that holds any number of elements.
 #[inline(always)]
 #[tactic(auto, using(std::proofs::lemmas::Grind::common_steps))]
-fn start_tag(
-    whole: &'static str,
-    beginning: &'static str,
-    attributes: Option<Attributes>,
+fn start_container(
+    tag: Container,
+    attributes: &Option<Attributes>,
     out: &mut String,
 ) -> Result<(), AllocError>
-    requires { whole.now ≡ beginning.now ++ codes ">" }
     ensures { OnOk result (string_bytes out.new ≡ string_bytes out.old
-        ++ (beginning.now ++ (attributes_text (attributes_if_any attributes) ++ codes ">"))) }
+        ++ ((codes "<" ++ container_name (container_of tag))
+        ++ (attributes_text (attributes_if_any attributes.now) ++ codes ">"))) }
 {
     match attributes {
-        None => out.push_str(whole),
-        Some(attributes) => start_with_attributes(beginning, &attributes, out),
+        None => tag.append_start_tag(out),
+        Some(attributes) => start_with_attributes(tag.start(), attributes, out),
     }
+}
+
+/// Appends the start tag of an element that holds two elements.
+#[inline(always)]
+#[tactic(auto, using(std::proofs::lemmas::Grind::common_steps))]
+fn start_pair(
+    tag: Pair,
+    attributes: &Option<Attributes>,
+    out: &mut String,
+) -> Result<(), AllocError>
+    ensures { OnOk result (string_bytes out.new ≡ string_bytes out.old
+        ++ ((codes "<" ++ pair_name (pair_of tag))
+        ++ (attributes_text (attributes_if_any attributes.now) ++ codes ">"))) }
+{
+    match attributes {
+        None => tag.append_start_tag(out),
+        Some(attributes) => start_with_attributes(tag.start(), attributes, out),
+    }
+}
+
+/// Appends the start tag of an element that holds three elements.
+#[inline(always)]
+#[tactic(auto, using(std::proofs::lemmas::Grind::common_steps))]
+fn start_triple(
+    tag: Triple,
+    attributes: &Option<Attributes>,
+    out: &mut String,
+) -> Result<(), AllocError>
+    ensures { OnOk result (string_bytes out.new ≡ string_bytes out.old
+        ++ ((codes "<" ++ triple_name (triple_of tag))
+        ++ (attributes_text (attributes_if_any attributes.now) ++ codes ">"))) }
+{
+    match attributes {
+        None => tag.append_start_tag(out),
+        Some(attributes) => start_with_attributes(tag.start(), attributes, out),
+    }
+}
+
+/// Appends the start tag of an element that holds a text.
+#[inline(always)]
+#[tactic(auto, using(std::proofs::lemmas::Grind::common_steps))]
+fn start_token(tag: Token, attributes: &Attributes, out: &mut String) -> Result<(), AllocError>
+    ensures { OnOk result (string_bytes out.new ≡ string_bytes out.old
+        ++ start_tag (token_name (token_of tag)) (attributes_of attributes.now)) }
+{
+    if let Token::Mo = tag {
+        if let Some(whole) = attributes.usual_operator() {
+            return out.push_str(whole);
+        }
+    }
+    start_with_attributes(tag.start(), attributes, out)
 }
 
 /// Appends a start tag: `beginning` and the attributes.

@@ -11,14 +11,14 @@ pub returns-in-Elements-clause-print : goal.returns-in-Elements-clause-print
 returns-in-Elements-clause-print c =
     let b = c.args.self.now in
     let rest = due b c.args.works.now.items in
-    on_ok_weaker c.write_elements.result
+    on_ok_weaker c.write_run.result
     (λ h. h ∙ ap (λ w. string_bytes c.args.out.now ++ (work_print b w ++ rest)) (sym c.in-Elements.is))
-    c.write_elements.ensures.print
+    c.write_run.ensures.print
 
 pub returns-in-Elements-clause-weight : goal.returns-in-Elements-clause-weight
 returns-in-Elements-clause-weight c =
     let whole = ap (work_weight c.args.self.now) c.in-Elements.is in
-    on_ok_weaker c.write_elements.result (λ h. omega (arith, h, whole)) c.write_elements.ensures.weight
+    on_ok_weaker c.write_run.result (λ h. omega (arith, h, whole)) c.write_run.ensures.weight
 
 pub returns-in_ok-push_work-in-Rows-clause-print : goal.returns-in_ok-push_work-in-Rows-clause-print
 returns-in_ok-push_work-in-Rows-clause-print c =

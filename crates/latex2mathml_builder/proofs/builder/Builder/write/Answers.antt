@@ -1,10 +1,10 @@
 use Rattle.std.proofs.Common.{◌+◌, ◌-◌, ◌<◌, ◌∙◌, ◌++◌, ap, arith, length, reverse, string_bytes, sym, take}
 use Rattle.latex2mathml_elements.specs.{Element.token, Print.print}
 use Rattle.latex2mathml_attributes.specs.Names.{attributes_if_any, token_of}
-use Rattle.latex2mathml_builder.specs.{Built.element_in, Built.elements_in, Due.due}
-use Rattle.latex2mathml_builder.proofs.{Sound.elements_length, Written.lowest_first, Written.lowest_written, Written.token_first}
+use Rattle.latex2mathml_builder.specs.{Built.element_in, Built.elements_in}
+use Rattle.latex2mathml_builder.proofs.{Sound.elements_length, Written.lowest_written, Written.token_first}
 use Rattle.latex2mathml_builder.proofs.builder.Builder.write.Goals as goal
-use Rattle.latex2mathml_builder.proofs.builder.Builder.write.Goals.{in-Token+in_ok-write_token-in-Token, in_default+in_ok-write_outer-in_default+in_ok-finish-in_default}
+use Rattle.latex2mathml_builder.proofs.builder.Builder.write.Goals.{in-Token+in_ok-write_token-in-Token, in_default+in_ok-write_outer-in_default}
 
 pub elements-preserved : goal.elements-preserved
 elements-preserved c =
@@ -28,9 +28,9 @@ elements-preserved c =
             within = omega (arith, below);
             print = token_first out (reverse (take (n - place) xs)) (reverse (take (n - (place + 1)) xs)) _ _ _ is writes c.elements.invariant.print;
           }
-      | in_default+in_ok-write_outer-in_default+in_ok-finish-in_default w ↦ record {
-        none = rw w.list-is w.in_ok-finish-in_default.ensures.none;
+      | in_default+in_ok-write_outer-in_default w ↦ record {
+        none = rw w.list-is w.in_ok-write_outer-in_default.ensures.empty;
         within = omega (arith, below);
-        print = lowest_first out (reverse (take (n - place) xs)) (reverse (take (n - (place + 1)) xs)) _ _ _ _ _ is (ap (due b) c.elements.invariant.none) (ap string_bytes w.out-is ∙ w.in_ok-finish-in_default.ensures.print) w.in_ok-write_outer-in_default.ensures.print c.elements.invariant.print;
+        print = token_first out (reverse (take (n - place) xs)) (reverse (take (n - (place + 1)) xs)) _ _ _ is (ap string_bytes w.out-is ∙ w.in_ok-write_outer-in_default.ensures.print) c.elements.invariant.print;
       }
     ]
