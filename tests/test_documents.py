@@ -47,6 +47,27 @@ class Links(Case):
         self.assertEqual([it for it in links if not re.match(r"[a-z]+:", it[1]) and not leads_somewhere(*it)], [])
 
 
+# a trait: two of its methods have no body
+SINK = """\
+/// Takes bytes.
+pub trait Sink {
+    /// Takes these.
+    fn put(&mut self, bytes: &[u8]) -> bool
+        // none is left
+        ensures all { result ≡ true }
+        ensures last { self.new ≡ bytes.now };
+
+    fn name(&self) -> u8;
+
+    fn clear(&mut self)
+        ensures { self.new ≡ [] }
+    {
+        self.last = 0;
+    }
+}
+"""
+
+
 class Quotes(Case):
     def test_nothing_is_to_be_renewed(self):
         self.expect(run([ROOT / "tools/renew-documents", "--check"]), stdout=b"")
@@ -78,6 +99,18 @@ class Quotes(Case):
         for document in quoting:
             links = document.read_text().count(".antt#L")
             self.assertEqual(len(quotes.sources_of(document)), links, f"{document.name} links a line without a definition's name")
+
+    def test_a_signature_is_all_that_precedes_the_body(self):
+        """A method that a trait declares has no body: its last line, which ends in `;`, belongs to its signature."""
+        source = self.folder / "sink.rt"
+        source.write_text(SINK)
+        for name, lines in {
+            "put": ["fn put(&mut self, bytes: &[u8]) -> bool", "    ensures all { result ≡ true }", "    ensures last { self.new ≡ bytes.now };"],
+            "name": ["fn name(&self) -> u8;"],
+            "clear": ["fn clear(&mut self)", "    ensures { self.new ≡ [] }"],
+        }.items():
+            with self.subTest(name):
+                self.assertEqual(quotes.signature(source, name), "".join(f"{line}\n" for line in lines))
 
     def test_each_public_call_is_quoted(self):
         text = read("docs/CALLING.md") + read("docs/CALLING_TEX.md")
