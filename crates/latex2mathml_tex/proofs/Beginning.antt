@@ -24,7 +24,7 @@ use Rattle.latex2mathml_tex_commands.specs.Meanings.{alphabet_of, style_of}
 use Rattle.latex2mathml_tex_atoms.specs.Models.{context_of, core_with}
 use Rattle.latex2mathml_tex.specs.Steps.{AwaitsCore, AwaitsOperand, Begins, BeginsIn, BeginsUnit, CanBegin, Follows, HasElements, Holds, InnermostIs, Took, elements_of, frame_weight, left_of, level, level_within, operand_place, to_do}
 use Rattle.latex2mathml_tex_units.specs.Taking.{kind_of, piece_of, unit_of}
-use Rattle.latex2mathml_tex_units.specs.declared.{error.TexError.TexError, input.Input.Input, unit.Fault.Fault, unit.Piece.Piece, unit.Unit.Unit}
+use Rattle.latex2mathml_tex_units.specs.declared.{error.TexError.TexError, input.Input.Input, unit.Fault.Fault, unit.Next.Next as CodeNext, unit.Piece.Piece, unit.Unit.Unit}
 use Rattle.latex2mathml_tex_commands.specs.declared.meaning.Alphabet.{Alphabet as CodeAlphabet}
 use Rattle.latex2mathml_tex_atoms.specs.declared.{atoms.Context.Context, atoms.Core.Core as CodeCore, atoms.Row.Row as CodeRow}
 use Rattle.latex2mathml_tex.specs.declared.{parse.Parser.Parser, parse.State.State, parse.frames.Frames.Frames}
@@ -42,28 +42,29 @@ use Rattle.latex2mathml_tex.proofs.Opening.{begins_in, context_is, out_of_frame,
 -- What comes next after white space
 
 module _ (l : Units) (i : Input) (past : units_at i ≡ past_space l) where
-  pub ends_next : (at : ℕ) → i.next ≡ next.End at → past_space l ≡ End at
-  ends_next at is = sym past ∙ ap (λ n. put_back n (units_behind i)) is
-
-  pub stops_next : (fault : Fault) (at : ℕ) → i.next ≡ next.Fault fault at → past_space l ≡ Stop (refusal_at (kind_of fault) at)
-  stops_next fault at is = sym past ∙ ap (λ n. put_back n (units_behind i)) is
-
-  pub stands_next : (u : Unit) → i.next ≡ next.Unit u → past_space l ≡ Next (unit_of u) (units_behind i)
-  stands_next u is = sym past ∙ ap (λ n. put_back n (units_behind i)) is
-
-  pub taken_next : (u : Unit) (m : Units) → i.next ≡ next.Unit u → units_at i ≡ put_back i.next m → past_space l ≡ Next (unit_of u) m
-  taken_next u m is e = sym past ∙ e ∙ ap (λ n. put_back n m) is
-
   -- there are no more units than before
   pub no_more_next : unit_count (units_at i) ≤ unit_count l
   no_more_next = rw past (no_more_past_space l)
 
-  -- there is at least one unit less than before, if one was taken
-  pub one_less_next : (u : Unit) (m : Units) → i.next ≡ next.Unit u → units_at i ≡ put_back i.next m → suc (unit_count m) ≤ unit_count l
-  one_less_next u m is e =
-      let one : unit_count (past_space l) ≡ suc (unit_count m) = ap unit_count (taken_next u m is e) in
-      let less = no_more_past_space l in
-      omega (arith, one, less)
+  module _ (n : CodeNext) (peeked : units_at i ≡ put_back n (units_behind i)) where
+    pub ends_next : (at : ℕ) → n ≡ next.End at → past_space l ≡ End at
+    ends_next at is = sym past ∙ peeked ∙ ap (λ n. put_back n (units_behind i)) is
+
+    pub stops_next : (fault : Fault) (at : ℕ) → n ≡ next.Fault fault at → past_space l ≡ Stop (refusal_at (kind_of fault) at)
+    stops_next fault at is = sym past ∙ peeked ∙ ap (λ n. put_back n (units_behind i)) is
+
+    pub stands_next : (u : Unit) → n ≡ next.Unit u → past_space l ≡ Next (unit_of u) (units_behind i)
+    stands_next u is = sym past ∙ peeked ∙ ap (λ n. put_back n (units_behind i)) is
+
+    pub taken_next : (u : Unit) (j : Input) → n ≡ next.Unit u → units_at j ≡ units_behind i → past_space l ≡ Next (unit_of u) (units_at j)
+    taken_next u j is behind = stands_next u is ∙ ap (Next (unit_of u)) (sym behind)
+
+    -- there is at least one unit less than before, if one was taken
+    pub one_less_next : (u : Unit) (j : Input) → n ≡ next.Unit u → units_at j ≡ units_behind i → suc (unit_count (units_at j)) ≤ unit_count l
+    one_less_next u j is behind =
+        let one : unit_count (past_space l) ≡ suc (unit_count (units_at j)) = ap unit_count (taken_next u j is behind) in
+        let less = no_more_past_space l in
+        omega (arith, one, less)
 
 -- what is refused before it begins
 pub refused_next : (p q : Parser) (i : Input) (error : TexError) (st : State) → q ≡ record p { input = i; refusal = error } → st ≡ state.Refused → unit_count (units_at i) ≤ unit_count (left_of p) → HasElements 0 p → Follows (to_do p + 1) q st
@@ -136,7 +137,7 @@ module _ (P : Level → Type 0) (s : Start) (place : ℕ) (on : (c : RuleContext
   in_operand f xs l e = absurd (cc)
 
 -- what holds at any level where an operand is due holds at this one
-at_operand : (P : Level → Type 0) (s : Start) (p : Parser) (place : ℕ) → s.style ≡ style_of p.style → AwaitsOperand place p → ((c : RuleContext) (K : Outcome Operand → Type 0) → P (levels.operand place c K)) → P (level 0 s p)
+pub at_operand : (P : Level → Type 0) (s : Start) (p : Parser) (place : ℕ) → s.style ≡ style_of p.style → AwaitsOperand place p → ((c : RuleContext) (K : Outcome Operand → Type 0) → P (levels.operand place c K)) → P (level 0 s p)
 at_operand P s p place style due on = out_of_frame P s p.style style p.frames.stack.items due.1.0 due.0 (elements_of p) due.1.1 (in_operand P s place on due.0 (elements_of p) _ due.2)
 
 module _ (s : Start) (p : Parser) (place : ℕ) (due : AwaitsOperand place p) (g : Holds s p state.Next) where

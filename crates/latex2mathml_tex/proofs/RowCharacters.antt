@@ -1,5 +1,5 @@
 -- Characters that begin atoms in every row.
-use Rattle.std.proofs.Common.{◌≡◌, ◌∙◌, ◌==◌, ◌||◌, ℕ, Bool, true, false, Some, ap, arith, refl, suc}
+use Rattle.std.proofs.Common.{◌≡◌, ◌∙◌, ◌==◌, ◌||◌, ℕ, Bool, true, false, Some, ap, arith, refl, suc, sym}
 use Rattle.std.proofs.lemmas.Bool.Decides.{nat_tests}
 use Rattle.latex2mathml_builder.specs.Built.{Built, elements_in}
 use Rattle.std.specs.Prelude.{not}
@@ -11,9 +11,8 @@ use Rattle.latex2mathml_tex_grammar.specs.Rules.{WholeText, InBraces, InBrackets
 use Rattle.latex2mathml_tex_grammar.specs.Starts.{RuleStart, atom_start, ends}
 use Rattle.latex2mathml_tex_grammar.specs.Units.{Character, Next, Open}
 use Rattle.latex2mathml_tex_atoms.specs.Models.{context_of, empty_row}
-use Rattle.latex2mathml_tex_units.specs.{Left.put_back, Left.unit_count, Left.units_at, Taking.unit_of}
+use Rattle.latex2mathml_tex_units.specs.{Left.unit_count, Left.units_at, Left.units_behind, Taking.unit_of}
 use Rattle.latex2mathml_tex_units.specs.declared.{input.Input.Input, unit.Unit.Unit}
-use Rattle.latex2mathml_tex_units.specs.declared.unit.Next.TheVariants as next
 use Rattle.latex2mathml_tex_units.specs.declared.unit.Piece.TheVariants as piece
 use Rattle.latex2mathml_tex_grammar.specs.{Commands.symbol_of, Makes.core, Makes.takes_limits, Rules.gives, Symbols.Symbol}
 use Rattle.latex2mathml_tex_grammar.specs.Makes
@@ -109,9 +108,9 @@ group_begins_there p i u is next s k (e, (place, (own, (others, inner)))) h row 
     group_begins s q k row u.place none (unit_begins s q (frame.Row e place k own) k u piece.Open refl is (others, inner) begun)
 
 -- the rule of a symbol begins in the innermost row, where it comes next
-pub symbol_begins : (p : Parser) (i : Input) (u : Unit) (c : ℕ) → p.input.next ≡ next.Unit u → u.piece ≡ piece.Character c → left_of p ≡ put_back p.input.next (units_at i) → (s : Start) (k : Context) → IsRowInnermost p.style p.frames.stack.items k → ends_or_marks c ≡ false → Holds s p state.Next → BeginsIn k (character_rule (context_of k) c u.place) 0 s (record p { input = i })
+pub symbol_begins : (p : Parser) (i : Input) (u : Unit) (c : ℕ) → left_of p ≡ Next (unit_of u) (units_behind p.input) → u.piece ≡ piece.Character c → units_at i ≡ units_behind p.input → (s : Start) (k : Context) → IsRowInnermost p.style p.frames.stack.items k → ends_or_marks c ≡ false → Holds s p state.Next → BeginsIn k (character_rule (context_of k) c u.place) 0 s (record p { input = i })
 symbol_begins p i u c there is taken s k row none h =
-    let next : left_of p ≡ Next (unit_of u) (units_at i) = taken ∙ ap (λ n. put_back n (units_at i)) there in
+    let next : left_of p ≡ Next (unit_of u) (units_at i) = there ∙ ap (Next (unit_of u)) (sym taken) in
     character_begins p i u c is s k row none (character_next p i u c is next) h
 
 -- what follows an atom that was put in the innermost row
@@ -140,8 +139,8 @@ scripts_due p k (e, (place, (row, (others, inner)))) c n follows =
     }
 
 -- how many units are left after one was taken
-pub one_less : (p : Parser) (i : Input) (u : Unit) → p.input.next ≡ next.Unit u → left_of p ≡ put_back p.input.next (units_at i) → unit_count (left_of p) ≡ suc (unit_count (units_at i))
-one_less p i u there taken = ap unit_count (taken ∙ ap (λ n. put_back n (units_at i)) there)
+pub one_less : (p : Parser) (i : Input) (u : Unit) → left_of p ≡ Next (unit_of u) (units_behind p.input) → units_at i ≡ units_behind p.input → unit_count (left_of p) ≡ suc (unit_count (units_at i))
+one_less p i u there taken = ap unit_count (there ∙ ap (Next (unit_of u)) (sym taken))
 
 -- a symbol was taken, and its element was put
 pub symbol_put : (p : Parser) (i : Input) (b : Built) (k : Context) → IsRowInnermost p.style p.frames.stack.items k → unit_count (left_of p) ≡ suc (unit_count (units_at i)) → (c : Core) (made : Makes.Core) → IsPut c made (elements_of p) (elements_in b) → ((s : Start) → Holds s p state.Next → Begins (gives made) 0 s (record p { input = i })) → Ready p state.Next → ReadSymbol c p (record p { input = i; builder = b })

@@ -8,7 +8,7 @@ use Rattle.latex2mathml_tex_grammar.specs.Meaning.{Changes, Meaning}
 use Rattle.latex2mathml_tex_grammar.specs.Rules as rules
 use Rattle.latex2mathml_tex_grammar.specs.Rules.{WholeText, InBraces, InBrackets, InDollars, InDelimiters, InCell, ByName, ByBrace, ByText, meaning_rule}
 use Rattle.latex2mathml_tex_grammar.specs.Starts.{RuleStart, atom_start, change_meant, ends}
-use Rattle.latex2mathml_tex_grammar.specs.Units.{Command, Next}
+use Rattle.latex2mathml_tex_grammar.specs.Units.{Command, Next, Units}
 use Rattle.latex2mathml_tex_atoms.specs.Models.{context_of}
 use Rattle.latex2mathml_tex_units.specs.{Left.units_at, Taking.piece_of, Taking.unit_of}
 use Rattle.latex2mathml_tex_units.specs.declared.{input.Input.Input, unit.Unit.Unit}
@@ -108,6 +108,10 @@ module _ (name : List ℕ) (m : Meaning) (is : meaning_of name ≡ Some m) (begi
   begins_by_rule (InBrackets place) = rw (is_no (codes "limits") limits_mark, is_no (codes "nolimits") nolimits_mark, is_no (codes "displaylimits") displaylimits_mark, is, no_change m begins) refl
   begins_by_rule (InDollars place) = rw (is_no (codes "limits") limits_mark, is_no (codes "nolimits") nolimits_mark, is_no (codes "displaylimits") displaylimits_mark, is, no_change m begins) refl
   begins_by_rule (InCell end place) = rw (is_no (codes "limits") limits_mark, is_no (codes "nolimits") nolimits_mark, is_no (codes "displaylimits") displaylimits_mark, is, no_change m begins) refl
+
+-- two units with which the same units begin are one piece
+pub same_unit : (u v : Unit) (l m : Units) → Next (unit_of u) l ≡ Next (unit_of v) m → piece_of u.piece ≡ piece_of v.piece
+same_unit u v l m same = let one : unit_of u ≡ unit_of v = cc in ap (λ x. x.piece) one
 
 module _ (p : Parser) (i : Input) (u : Unit) (text : List ℕ) (is : piece_of u.piece ≡ Command text) where
   -- no white space precedes the command

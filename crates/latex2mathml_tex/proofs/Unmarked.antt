@@ -1,8 +1,8 @@
 -- An atom without scripts is added to its row where no mark comes next.
-use Rattle.std.proofs.Common.{◌≡◌, ◌+◌, ◌≤◌, Bool, true, false, IsTrue, None, arith, refl, sym}
+use Rattle.std.proofs.Common.{◌≡◌, ◌∙◌, ◌+◌, ◌≤◌, Bool, true, false, IsTrue, None, arith, refl, sym}
 use Rattle.latex2mathml_tex_grammar.specs.{Next.past_space, Starts.mark_of}
-use Rattle.latex2mathml_tex_units.specs.{Left.unit_count, Left.units_at, Left.units_behind, Taking.piece_of}
-use Rattle.latex2mathml_tex_units.specs.declared.{input.Input.Input, unit.Unit.Unit}
+use Rattle.latex2mathml_tex_units.specs.{Left.put_back, Left.unit_count, Left.units_at, Left.units_behind, Taking.piece_of}
+use Rattle.latex2mathml_tex_units.specs.declared.{input.Input.Input, unit.Next.Next as CodeNext, unit.Unit.Unit}
 use Rattle.latex2mathml_tex_units.specs.declared.unit.Next.TheVariants as next
 use Rattle.latex2mathml_tex_units.proofs.Nexts.{no_more_past_space}
 use Rattle.latex2mathml_tex_atoms.specs.declared.atoms.Core.{Core}
@@ -43,10 +43,10 @@ module _ (p : Parser) (core : Core) (i : Input) (past : units_at i ≡ past_spac
         let step = row_added_step (record p { input = i }) fr core added can_make in
         record { ready = step.ready; falls = omega (arith, step.falls, no_more) }
 
-    pub added_held : (s : Start) → ((u : Unit) → i.next ≡ next.Unit u → mark_of (piece_of u.piece) ≡ None) → Holds s p (state.Atom core (lone_scripts core)) → Holds s (record p { input = i; frames = fr }) state.Next
-    added_held s none h =
+    pub added_held : (s : Start) (n : CodeNext) → units_at i ≡ put_back n (units_behind i) → ((u : Unit) → n ≡ next.Unit u → mark_of (piece_of u.piece) ≡ None) → Holds s p (state.Atom core (lone_scripts core)) → Holds s (record p { input = i; frames = fr }) state.Next
+    added_held s n peeked none h =
         let f = frame.Row added.ending added.place added.context added.row in
-        let made = scripts_made s p p.builder core core (lone_scripts core) f added.context i.next (units_behind i) refl (added.others, on_top added.before) (sym past) none refl refl h in
+        let made = scripts_made s p p.builder core core (lone_scripts core) f added.context n (units_behind i) refl (added.others, on_top added.before) (sym past ∙ peeked) none refl refl h in
         row_added (record p { input = i }) fr core added can_make s (made_spaced s p core i past made)
 
 -- by whether a test holds

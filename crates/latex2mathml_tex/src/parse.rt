@@ -27,6 +27,7 @@ mod values;
 mod words;
 
 use crate::parse::frames::{Frame, Frames};
+use crate::parse::plain::InRow;
 use latex2mathml_builder::builder::Builder;
 use latex2mathml_tex_atoms::atoms::{Core, Operand, Scripts, Words};
 use latex2mathml_tex_commands::meaning::{Alphabet, Style};
@@ -166,12 +167,17 @@ impl<'a> Parser<'a> {
         ensures holds { LeadsOn (HoldsIn State.Next) self.old self.new result }
         ensures step { Advances 1 self.old self.new result }
     {
-        'atoms: while let Some(core) = self.symbol_in_row()? {
-            if !self.add_unmarked(core) {
-                return self.go_on(core, Scripts::none(core.kind, core.limits));
+        'atoms: loop {
+            match self.symbol_in_row()? {
+                InRow::Symbol(core) => {
+                    if !self.add_unmarked(core) {
+                        return self.go_on(core, Scripts::none(core.kind, core.limits));
+                    }
+                }
+                InRow::Command(meaning) => return self.begin_command(meaning),
+                InRow::Other => return self.begin_next(),
             }
         }
-        self.begin_next()
     }
 
     /// Reads what the innermost frame waits for, whatever comes next.

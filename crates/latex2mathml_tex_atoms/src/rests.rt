@@ -197,8 +197,25 @@ pub fn divide(
     })
 }
 
-/// Finishes a row that was read in this style, at the end of its group.
+/// Finishes a row that was read in this style, at the end of its group. Most rows are finished already.
+#[inline(always)]
 pub fn finish(builder: &mut Builder, style: Style, row: Row) -> Result<Row, AllocError>
+    requires { row_count row ≤ length (elements_in builder.old) }
+    ensures row { IfOk result (λ whole. row_with whole (elements_in builder.new)
+        ≡ Rests.finished (style_of style) (row_with row (elements_in builder.old))) }
+    ensures below { IfOk result (λ whole. drop whole.count (elements_in builder.new)
+        ≡ drop (row_count row) (elements_in builder.old)) }
+    ensures count { IfOk result (λ whole. whole.count ≤ length (elements_in builder.new)) }
+{
+    match (row.restyled, row.under) {
+        (None, None) => Ok(row),
+        _ => finish_changed(builder, style, row),
+    }
+}
+
+/// Finishes a row in which the style or color was changed, or which is the lower part of a fraction.
+#[inline(never)]
+fn finish_changed(builder: &mut Builder, style: Style, row: Row) -> Result<Row, AllocError>
     requires { row_count row ≤ length (elements_in builder.old) }
     ensures row { IfOk result (λ whole. row_with whole (elements_in builder.new)
         ≡ Rests.finished (style_of style) (row_with row (elements_in builder.old))) }

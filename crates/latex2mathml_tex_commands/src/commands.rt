@@ -22,6 +22,14 @@ pub fn look_up(name: &str) -> Option<Meaning>
     ensures { MatchOption result (meaning_of name.now ≡ None)
         (λ meaning. meaning_of name.now ≡ Some (Meanings.meaning_of meaning)) }
 {
+    find(name).copied()
+}
+
+/// Returns the meaning that `look_up` returns, without a copy of it.
+pub fn find(name: &str) -> Option<&'static Meaning>
+    ensures { MatchOption result (meaning_of name.now ≡ None)
+        (λ meaning. meaning_of name.now ≡ Some (Meanings.meaning_of meaning.now)) }
+{
     search(part_for(name), name)
 }
 
@@ -43,13 +51,13 @@ fn part_for(name: &str) -> &'static [Entry]
 
 /// Returns what the entry with this name means, if the sorted entries have one. Each comparison halves the entries that are
 /// left.
-fn search(table: &[Entry], name: &str) -> Option<Meaning>
+fn search(table: &'static [Entry], name: &str) -> Option<&'static Meaning>
     requires ordered { IsTrue (ascending (map entry_of table.now)) }
     requires few { length table.now < 512 }
     requires keyed { AllPass has_key table.now }
     ensures { MatchOption result (entry_meaning (map entry_of table.now) name.now ≡ None)
         (λ meaning. entry_meaning (map entry_of table.now) name.now
-        ≡ Some (Meanings.meaning_of meaning)) }
+        ≡ Some (Meanings.meaning_of meaning.now)) }
 {
     let key = key_of(name);
     let mut entries = table;
@@ -57,7 +65,7 @@ fn search(table: &[Entry], name: &str) -> Option<Meaning>
         let middle = entries.len() / 2;
         let entry = &entries[middle];
         match compare(key, name, entry) {
-            Ordering::Equal => return Some(entry.meaning),
+            Ordering::Equal => return Some(&entry.meaning),
             Ordering::Less => entries = &entries[..middle],
             Ordering::Greater => entries = &entries[middle + 1..],
         }

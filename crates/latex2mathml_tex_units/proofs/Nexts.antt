@@ -1,9 +1,14 @@
 -- Units that come next, ignoring white space.
-use Rattle.std.proofs.Common.{◌≡◌, ℕ, ◌<◌, ◌≤◌, List, [], ◌∷◌, ◌++◌, Option, Some, None, arith, inl, inr, refl, ap, sym}
+use Rattle.std.proofs.Common.{◌≡◌, ℕ, ◌<◌, ◌≤◌, List, [], ◌∷◌, ◌++◌, Option, Some, None, arith, inl, inr, refl, ap, sym, ◌∙◌}
 use Rattle.std.proofs.lemmas.Bool.{cases_Bool}
 use Rattle.latex2mathml_tex_grammar.specs.Next.{first_is, first_passes, is_space_piece, next_are, past_space}
 use Rattle.latex2mathml_tex_grammar.specs.Units.{Piece, Units, Next, End, Stop}
-use Rattle.latex2mathml_tex_units.specs.Left.{unit_count}
+use Rattle.latex2mathml_tex_units.specs.Left.{put_back, unit_count, units_at, units_behind}
+use Rattle.latex2mathml_tex_units.specs.declared.{input.Input.Input, unit.Next.Next as CodeNext}
+
+-- the units of an input where what comes next was skipped
+pub passed : (n : CodeNext) (i j : Input) → units_at i ≡ put_back n (units_behind i) → units_at j ≡ units_behind i → units_at i ≡ put_back n (units_at j)
+passed n i j is behind = is ∙ ap (put_back n) (sym behind)
 
 -- How many units are left
 

@@ -1,11 +1,9 @@
 //! How rows go on. Most of their atoms are letters, numbers and signs without scripts: for these, no frame is copied, and no
 //! state is made.
-ghost use Rattle.std.specs.Prelude.{◌≡◌, ◌+◌, IfOk, MatchOption};
-ghost use Rattle.latex2mathml_tex_grammar.specs.Units.{Command};
+ghost use Rattle.std.specs.Prelude.{◌≡◌, ◌+◌, IfOk};
 ghost use Rattle.latex2mathml_tex_commands.specs.Meanings.{meaning_of};
-ghost use Rattle.latex2mathml_tex_units.specs.Taking.{piece_of};
 ghost use Rattle.latex2mathml_tex.specs.{Frames.Start, RowCharacters.IsRowInnermost, RowCharacters.ends_or_marks, RowCharacters.is_symbol, RowCommands.begins_atoms};
-ghost use Rattle.latex2mathml_tex.specs.RowSymbols.{IsNext, ReadSymbol, added_state, lone_scripts};
+ghost use Rattle.latex2mathml_tex.specs.RowSymbols.{IsCommandNext, IsInRow, IsNext, added_state, lone_scripts};
 ghost use Rattle.latex2mathml_tex.specs.Steps.{Advances, Follows, Holds, HoldsIn, LeadsOn, Ready, to_do};
 
 use crate::parse::frames::{Ending, Frame};
@@ -19,82 +17,104 @@ use latex2mathml_tex_commands::signs::symbol_of;
 use latex2mathml_tex_units::unit::{Next, Piece};
 use std::alloc::AllocError;
 
+/// What comes next in the innermost row.
+#[derive(Clone, Copy)]
+pub(crate) enum InRow {
+    /// A symbol or a number, which is one in each row. It was taken, and its element was put: this is the atom without scripts.
+    Symbol(Core),
+    /// A command of this meaning, which is no symbol. It was not taken.
+    Command(&'static Meaning),
+    /// Anything else, or the innermost frame is no row. Nothing was taken.
+    Other,
+}
+
 impl<'a> Parser<'a> {
-    /// Takes the symbol or number that comes next in the innermost row and puts its element, if it is one in each row. Returns
-    /// the atom without its scripts.
+    /// Takes the symbol or number that comes next in the innermost row and puts its element, if it is one in each row.
     #[inline(always)]
-    pub(crate) fn symbol_in_row(&mut self) -> Result<Option<Core>, AllocError>
+    pub(crate) fn symbol_in_row(&mut self) -> Result<InRow, AllocError>
         requires { Ready self.old State.Next }
-        ensures { IfOk result (λ found. MatchOption found (self.new ≡ self.old)
-            (λ core. ReadSymbol core self.old self.new)) }
+        ensures { IfOk result (λ next. IsInRow next self.old self.new) }
     {
         let Some(context) = self.frames.row_context(self.style) else {
-            return Ok(None);
+            return Ok(InRow::Other);
         };
         let Next::Unit(unit) = self.input.peek() else {
-            return Ok(None);
+            return Ok(InRow::Other);
         };
         match unit.piece {
             Piece::Character(c) => self.character_in_row(c, context),
             Piece::Command(name) => self.command_in_row(name, context),
-            _ => Ok(None),
+            _ => Ok(InRow::Other),
         }
     }
 
     /// Takes the character that comes next in the innermost row, as `symbol_in_row` does.
     #[inline(always)]
-    fn character_in_row(&mut self, c: char, context: Context) -> Result<Option<Core>, AllocError>
+    fn character_in_row(&mut self, c: char, context: Context) -> Result<InRow, AllocError>
         requires ready { Ready self.old State.Next }
         requires next { IsNext (Piece.Character c) self.old }
         requires row { IsRowInnermost self.old.style self.old.frames.stack.items context }
-        ensures { IfOk result (λ found. MatchOption found (self.new ≡ self.old)
-            (λ core. ReadSymbol core self.old self.new)) }
+        ensures { IfOk result (λ next. IsInRow next self.old self.new) }
     {
         if c.is_ascii_digit() {
             self.input.advance();
             let number = self.number(context.alphabet, c)?;
-            return Ok(Some(number));
+            return Ok(InRow::Symbol(number));
         }
         if c.is_ascii_alphabetic() {
             self.input.advance();
             let letter = put_letter(&mut self.builder, context.alphabet, c)?;
-            return Ok(Some(letter));
+            return Ok(InRow::Symbol(letter));
         }
         if is_symbol(c)
             && let Some(symbol) = symbol_of(c)
         {
             self.input.advance();
             let sign = put_symbol(&mut self.builder, context.alphabet, symbol)?;
-            return Ok(Some(sign));
+            return Ok(InRow::Symbol(sign));
         }
-        Ok(None)
+        Ok(InRow::Other)
     }
 
-    /// Takes the command that comes next in the innermost row, as `symbol_in_row` does.
+    /// Takes the command that comes next in the innermost row if it is a symbol, as `symbol_in_row` does.
     #[inline(always)]
-    fn command_in_row(
-        &mut self,
-        name: &'a str,
-        context: Context,
-    ) -> Result<Option<Core>, AllocError>
+    fn command_in_row(&mut self, name: &'a str, context: Context) -> Result<InRow, AllocError>
         requires ready { Ready self.old State.Next }
         requires next { IsNext (Piece.Command name) self.old }
         requires row { IsRowInnermost self.old.style self.old.frames.stack.items context }
-        ensures { IfOk result (λ found. MatchOption found (self.new ≡ self.old)
-            (λ core. ReadSymbol core self.old self.new)) }
+        ensures { IfOk result (λ next. IsInRow next self.old self.new) }
     {
-        let Some(meaning) = commands::look_up(name) else {
-            return Ok(None);
+        let Some(meaning) = commands::find(name) else {
+            return Ok(InRow::Other);
         };
         let Meaning::Shows(symbol) = meaning else {
-            return Ok(None);
+            return Ok(InRow::Command(meaning));
         };
         self.input.advance();
-        let sign = put_symbol(&mut self.builder, context.alphabet, symbol)?;
-        Ok(Some(sign))
+        let sign = put_symbol(&mut self.builder, context.alphabet, *symbol)?;
+        Ok(InRow::Symbol(sign))
     }
 
-    /// Begins what comes next in the innermost frame. In a row, no frame is copied for an atom that begins in each row.
+    /// Begins the command of this meaning that comes next. In a row, no frame is copied for an atom that begins in each row.
+    #[inline(never)]
+    pub(crate) fn begin_command(&mut self, meaning: &'static Meaning) -> Result<State, AllocError>
+        requires ready { Ready self.old State.Next }
+        requires next { IsCommandNext (meaning_of meaning.now) self.old }
+        ensures holds { LeadsOn (HoldsIn State.Next) self.old self.new result }
+        ensures step { Advances 1 self.old self.new result }
+    {
+        if let Some(context) = self.frames.row_context(self.style)
+            && let Next::Unit(unit) = self.input.peek()
+            && begins_atoms(*meaning)
+        {
+            self.input.advance();
+            return self.meaning(*meaning, unit.place, context);
+        }
+        self.next_part()
+    }
+
+    /// Begins what comes next in the innermost frame. In a row, no frame is copied for a character or a group that begins an
+    /// atom in each row.
     #[inline(never)]
     pub(crate) fn begin_next(&mut self) -> Result<State, AllocError>
         requires { Ready self.old State.Next }
@@ -108,14 +128,6 @@ impl<'a> Parser<'a> {
                 Piece::Character(c) if !ends_or_marks(c) => {
                     self.input.advance();
                     return self.character(c, unit.place, context);
-                }
-                Piece::Command(name) => {
-                    if let Some(meaning) = commands::look_up(name)
-                        && begins_atoms(meaning)
-                    {
-                        self.input.advance();
-                        return self.meaning(meaning, unit.place, context);
-                    }
                 }
                 Piece::Open => {
                     self.input.advance();

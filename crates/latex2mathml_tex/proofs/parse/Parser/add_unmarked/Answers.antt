@@ -22,7 +22,7 @@ returns-clause-holds c = λ s h.
     let p = c.args.self.now in
     let core = c.args.core in
     let i = c.skip_space.new.self in
-    let none : (u : Unit) → i.next ≡ next.Unit u → mark_of (piece_of u.piece) ≡ None = λ u e. elim c.match-self.branch [
+    let none : (u : Unit) → c.peek.result ≡ next.Unit u → mark_of (piece_of u.piece) ≡ None = λ u e. elim c.match-peek.branch [
       | in-Unit+in_default w ↦ (let same : u ≡ w.in-Unit.unit = cc (e, w.in-Unit.is) in ap (λ x. mark_of (piece_of x.piece)) same ∙ sym w.in_default.ensures)
       | in-End w ↦ elim w.in-End.is [
         | inl is ↦ (let other = is.1 in absurd (cc (other, e)))
@@ -30,7 +30,7 @@ returns-clause-holds c = λ s h.
       ]
     ] in
     by_test (λ b. Holds s (record p { input = i; frames = c.add.new.self }) (added_state b core)) c.add.result
-    (λ t. added_held p core i c.skip_space.ensures c.add.new.self (c.add.ensures.added t) c.requires s none h)
+    (λ t. added_held p core i c.skip_space.ensures c.add.new.self (c.add.ensures.added t) c.requires s c.peek.result c.peek.ensures none h)
     (λ f. marks_held p core i c.skip_space.ensures c.add.new.self (c.add.ensures.unchanged f) s h)
 
 pub returns-clause-step : goal.returns-clause-step

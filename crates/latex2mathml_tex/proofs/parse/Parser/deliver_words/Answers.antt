@@ -3,6 +3,7 @@ use Rattle.latex2mathml_tex_grammar.specs.Refusal.{UnclosedBrace, refusal_at}
 use Rattle.latex2mathml_tex_grammar.specs.Starts.{is_close}
 use Rattle.latex2mathml_tex_grammar.specs.Units.{End, Next, Stop}
 use Rattle.latex2mathml_tex_units.specs.{Errors.refusal_of, Left.put_back, Left.unit_count, Left.units_at, Left.units_behind, Taking.kind_of, Taking.piece_of, Taking.unit_of}
+use Rattle.latex2mathml_tex_units.proofs.Nexts.{passed}
 use Rattle.latex2mathml_tex.specs.Steps.{left_of}
 use Rattle.latex2mathml_tex.specs.declared.parse.frames.Frame.TheVariants as frame
 use Rattle.latex2mathml_tex.proofs.Rows.{step_within}
@@ -36,7 +37,7 @@ returns-in-Close-clause-holds c = λ s h.
     let frames = c.take-in-Close.new.self in
     let braces = frame.Words c.in-Words.place c.in-Words.alphabet in
     let inner = taken_innermost p.style p.frames.stack.items c.in-Words.ensures.0 frames.stack.items braces c.take-in-Close.result c.in-Words.ensures.1 c.take-in-Close.ensures in
-    let stands : left_of p ≡ Next (unit_of c.in-Unit.unit) (units_at i) = c.advance.ensures ∙ ap (λ n. put_back n (units_at i)) c.in-Unit.is in
+    let stands : left_of p ≡ Next (unit_of c.in-Unit.unit) (units_at i) = passed c.peek.result p.input i c.peek.ensures c.advance.ensures ∙ ap (λ n. put_back n (units_at i)) c.in-Unit.is in
     let close = ap (λ piece. is_close (piece_of piece)) c.in-Close.is in
     braces_closed s p c.args.words c.in-Words.place c.in-Words.alphabet frames.stack.items inner h i frames (unit_of c.in-Unit.unit) refl stands close
 
@@ -45,7 +46,7 @@ returns-in-Close-clause-step c =
     let p = c.args.self.now in
     let i = c.advance.new.self in
     let frames = c.take-in-Close.new.self in
-    let stands : left_of p ≡ Next (unit_of c.in-Unit.unit) (units_at i) = c.advance.ensures ∙ ap (λ n. put_back n (units_at i)) c.in-Unit.is in
+    let stands : left_of p ≡ Next (unit_of c.in-Unit.unit) (units_at i) = passed c.peek.result p.input i c.peek.ensures c.advance.ensures ∙ ap (λ n. put_back n (units_at i)) c.in-Unit.is in
     let less : unit_count (left_of p) ≡ suc (unit_count (units_at i)) = ap unit_count stands in
     let braces = frame.Words c.in-Words.place c.in-Words.alphabet in
     let inner = taken_innermost p.style p.frames.stack.items c.in-Words.ensures.0 frames.stack.items braces c.take-in-Close.result c.in-Words.ensures.1 c.take-in-Close.ensures in
@@ -56,7 +57,7 @@ returns-in_default-piece c =
     let p = c.args.self.now in
     let u = c.in-Unit.unit in
     let others = units_behind p.input in
-    let stands : left_of p ≡ Next (unit_of u) others = ap (λ n. put_back n others) c.in-Unit.is in
+    let stands : left_of p ≡ Next (unit_of u) others = c.peek.ensures ∙ ap (λ n. put_back n others) c.in-Unit.is in
     record {
       holds = λ s h. c.word.ensures.holds s (word_behind s p c.args.words c.in-Words.place c.in-Words.alphabet c.in-Words.ensures.0 c.in-Words.ensures.1 h (unit_of u) others stands (other_piece u.piece c.in_default-piece.not-Close));
       step = step_within p p c.word.new.self c.word.result 1 2 (omega arith) c.word.ensures.step;
@@ -67,7 +68,7 @@ returns-in-End-clause-holds c = λ s h.
     let p = c.args.self.now in
     let q = c.refuse.new.self in
     let reason : refusal_of q.refusal ≡ Some (refusal_at UnclosedBrace c.in-Words.place) = rw c.refuse.ensures.parser refl in
-    let stands : left_of p ≡ End c.in-End.field-0 = ap (λ n. put_back n (units_behind p.input)) c.in-End.is in
+    let stands : left_of p ≡ End c.in-End.field-0 = c.peek.ensures ∙ ap (λ n. put_back n (units_behind p.input)) c.in-End.is in
     rw c.refuse.ensures.state
     (braces_unended s p c.args.words c.in-Words.place c.in-Words.alphabet c.in-Words.ensures.0 c.in-Words.ensures.1 h q c.in-End.field-0 stands (rw c.refuse.ensures.parser refl) reason)
 
@@ -75,5 +76,5 @@ pub returns-in-Fault-clause-holds : goal.returns-in-Fault-clause-holds
 returns-in-Fault-clause-holds c = λ s h.
     let p = c.args.self.now in
     let r = refusal_at (kind_of c.in-Fault.field-0) c.in-Fault.field-1 in
-    let stands : left_of p ≡ Stop r = ap (λ n. put_back n (units_behind p.input)) c.in-Fault.is in
+    let stands : left_of p ≡ Stop r = c.peek.ensures ∙ ap (λ n. put_back n (units_behind p.input)) c.in-Fault.is in
     word_stops s p c.args.words c.in-Words.place c.in-Words.alphabet c.in-Words.ensures.0 c.in-Words.ensures.1 h r stands

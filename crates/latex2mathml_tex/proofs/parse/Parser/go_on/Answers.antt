@@ -4,7 +4,7 @@ use Rattle.latex2mathml_tex_units.specs.{Left.put_back, Left.unit_count, Left.un
 use Rattle.latex2mathml_tex.specs.Steps.{left_of}
 use Rattle.latex2mathml_tex_units.specs.declared.unit.Unit.{Unit}
 use Rattle.latex2mathml_tex_units.specs.declared.unit.Next.TheVariants as next
-use Rattle.latex2mathml_tex_units.proofs.Nexts.{no_more_past_space}
+use Rattle.latex2mathml_tex_units.proofs.Nexts.{no_more_past_space, passed}
 use Rattle.latex2mathml_tex.proofs.Rows.{scripts_made, step_within}
 use Rattle.latex2mathml_tex.proofs.Spaced.{made_spaced}
 use Rattle.latex2mathml_tex.proofs.parse.Parser.go_on.Goals as goal
@@ -14,7 +14,7 @@ pub returns-in-Some-clause-step : goal.returns-in-Some-clause-step
 returns-in-Some-clause-step c =
     let p = c.args.self.now in
     let behind = units_at c.advance.new.self in
-    let taken : past_space (left_of p) ≡ put_back c.skip_space.new.self.next behind = sym c.skip_space.ensures ∙ c.advance.ensures in
+    let taken : past_space (left_of p) ≡ put_back c.peek.result behind = sym c.skip_space.ensures ∙ passed c.peek.result c.skip_space.new.self c.advance.new.self c.peek.ensures c.advance.ensures in
     let one : unit_count (past_space (left_of p)) ≡ suc (unit_count behind) = ap unit_count (taken ∙ ap (λ n. put_back n behind) c.in-Unit.is) in
     let space = no_more_past_space (left_of p) in
     step_within p (record p { input = c.advance.new.self }) c.take_mark.new.self c.take_mark.result 13 2 (omega (arith, one, space)) c.take_mark.ensures.step
@@ -29,11 +29,11 @@ returns-clause-step c =
 pub returns-clause-holds : goal.returns-clause-holds
 returns-clause-holds c = λ s g.
     let p = c.args.self.now in
-    let none : (u : Unit) → c.skip_space.new.self.next ≡ next.Unit u → mark_of (piece_of u.piece) ≡ None = λ u e. elim c.match-self.branch [
+    let none : (u : Unit) → c.peek.result ≡ next.Unit u → mark_of (piece_of u.piece) ≡ None = λ u e. elim c.match-peek.branch [
       | in-Unit+in_default w ↦ (let same : u ≡ w.in-Unit.unit = cc (e, w.in-Unit.is) in ap (λ x. mark_of (piece_of x.piece)) same ∙ sym w.in_default.ensures)
       | in-End w ↦ elim w.in-End.is [
         | inl is ↦ (let other = is.1 in absurd (cc (other, e)))
         | inr is ↦ (let other = is.2 in absurd (cc (other, e)))
       ]
     ] in
-    c.put.ensures.holds s (made_spaced s (record p { builder = c.scripted.new.builder }) c.in_ok-core.core c.skip_space.new.self c.skip_space.ensures (scripts_made s p c.scripted.new.builder c.args.core c.in_ok-core.core c.args.scripts c.innermost.result c.context-style.result c.skip_space.new.self.next _ c.context-style.ensures c.innermost.ensures (sym c.skip_space.ensures) none c.in_ok-core.ensures.atom c.in_ok-core.ensures.below g))
+    c.put.ensures.holds s (made_spaced s (record p { builder = c.scripted.new.builder }) c.in_ok-core.core c.skip_space.new.self c.skip_space.ensures (scripts_made s p c.scripted.new.builder c.args.core c.in_ok-core.core c.args.scripts c.innermost.result c.context-style.result c.peek.result _ c.context-style.ensures c.innermost.ensures (sym c.skip_space.ensures ∙ c.peek.ensures) none c.in_ok-core.ensures.atom c.in_ok-core.ensures.below g))
