@@ -137,7 +137,7 @@ module _ (P : Level → Type 0) (s : Start) (place : ℕ) (on : (c : RuleContext
   in_operand f xs l e = absurd (cc)
 
 -- what holds at any level where an operand is due holds at this one
-at_operand : (P : Level → Type 0) (s : Start) (p : Parser) (place : ℕ) → s.style ≡ style_of p.style → AwaitsOperand place p → ((c : RuleContext) (K : Outcome Operand → Type 0) → P (levels.operand place c K)) → P (level 0 s p)
+pub at_operand : (P : Level → Type 0) (s : Start) (p : Parser) (place : ℕ) → s.style ≡ style_of p.style → AwaitsOperand place p → ((c : RuleContext) (K : Outcome Operand → Type 0) → P (levels.operand place c K)) → P (level 0 s p)
 at_operand P s p place style due on = out_of_frame P s p.style style p.frames.stack.items due.1.0 due.0 (elements_of p) due.1.1 (in_operand P s place on due.0 (elements_of p) _ due.2)
 
 module _ (s : Start) (p : Parser) (place : ℕ) (due : AwaitsOperand place p) (g : Holds s p state.Next) where

@@ -100,7 +100,7 @@ takes_operand c (frame.First one place d) e = search
 takes_operand c (frame.Script base scripts on place d) e = search
 takes_operand c f e = absurd e
 
-innermost_takes : (style : CodeStyle) (fs others : List Frame) (f : Frame) (c : Context) → IsInnermost style fs f others → WaitsIn c f → IsTrue (first_accepts operand_made (reverse fs))
+pub innermost_takes : (style : CodeStyle) (fs others : List Frame) (f : Frame) (c : Context) → IsInnermost style fs f others → WaitsIn c f → IsTrue (first_accepts operand_made (reverse fs))
 innermost_takes style fs others f c (none_begun h k g) e = let no : ⊥ = rw g at e in absurd no
 innermost_takes style fs others f c (on_top h) e = rw h (subst (λ l. IsTrue (first_accepts operand_made l)) (sym (reverse-append others (f ∷ []))) (takes_operand c f e))
 

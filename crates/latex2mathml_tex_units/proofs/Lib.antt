@@ -7,6 +7,7 @@ pub mod Grouping
 pub mod Hexadecimal
 pub mod Letters
 pub mod Listings
+pub mod Lone
 pub mod Names
 pub mod Nexts
 pub mod Parameters

@@ -39,6 +39,11 @@ TakesNext tests text old new = next_are tests (units_at old) ≡ Some (text, uni
 abbrev pub TakesNone : List (units.Piece → Option (List ℕ)) → Input → Input → Type 0
 TakesNone tests old new = (next_are tests (units_at old) ≡ None) × (units_at new ≡ units_at old)
 
+-- this character came next, by itself or in braces, and was taken
+pub data TakesLone (c : ℕ) : Units → Units → Type 0 where
+  by_itself : {u : units.Unit} {l : Units} → u.piece ≡ units.Character c → TakesLone c (units.Next u l) l
+  in_braces : {u v w : units.Unit} {l : Units} → u.piece ≡ units.Open → v.piece ≡ units.Character c → w.piece ≡ units.Close → TakesLone c (units.Next u (units.Next v (units.Next w l))) l
+
 -- how many units there are
 abbrev pub unit_count : Units → ℕ
 unit_count (units.Next u l) = suc (unit_count l)

@@ -1,9 +1,10 @@
 //! The units that are left.
-ghost use Rattle.std.specs.Prelude.{◌≡◌, ◌∷◌, [], false, IsTrue, MatchBool, MatchOption, None, Some};
+ghost use Rattle.std.specs.Prelude.{◌≡◌, ◌∷◌, [], false, IfSome, IsTrue, MatchBool, MatchOption, None, Some};
+ghost use Rattle.std.specs.Char.{is_ascii_alphanumeric};
 ghost use Rattle.latex2mathml_tex_grammar.specs.Delimiters.{delimiter_of, negated_of};
 ghost use Rattle.latex2mathml_tex_grammar.specs.{Dots.centers_dots, Next.follows, Next.past_space};
 ghost use Rattle.latex2mathml_tex_grammar.specs.Rules.{a_character, a_digit, in_brackets};
-ghost use Rattle.latex2mathml_tex_units.specs.{Left.TakesNext, Left.TakesNone, Left.put_back, Left.units_at, Left.units_behind, Left.units_end, Whole.whole_units};
+ghost use Rattle.latex2mathml_tex_units.specs.{Left.TakesLone, Left.TakesNext, Left.TakesNone, Left.put_back, Left.units_at, Left.units_behind, Left.units_end, Whole.whole_units};
 ghost use Rattle.latex2mathml_tex_grammar.specs.Units as units;
 ghost use Rattle.latex2mathml_tex_commands.specs.Delimiters.{delimiter_text};
 
@@ -176,6 +177,34 @@ impl<'a> Input<'a> {
             return true;
         }
         false
+    }
+
+    /// Takes the ASCII letter or digit that comes next, by itself or in braces. If none does, takes nothing.
+    #[inline(always)]
+    pub fn take_lone(&mut self) -> Option<char>
+        ensures taken { MatchOption result (self.new ≡ self.old)
+            (λ c. TakesLone c (units_at self.old) (units_at self.new)) }
+        ensures kind { IfSome result (λ c. IsTrue (is_ascii_alphanumeric c)) }
+    {
+        if let [first, rest @ ..] = self.rest
+            && let Piece::Character(c) = first.piece
+        {
+            if !c.is_ascii_alphanumeric() {
+                return None;
+            }
+            self.rest = rest;
+            return Some(c);
+        }
+        if let [first, second, third, rest @ ..] = self.rest
+            && let Piece::Open = first.piece
+            && let Piece::Character(c) = second.piece
+            && let Piece::Close = third.piece
+            && c.is_ascii_alphanumeric()
+        {
+            self.rest = rest;
+            return Some(c);
+        }
+        None
     }
 
     /// Takes a digit, if one comes next.

@@ -13,6 +13,7 @@ ghost use Rattle.latex2mathml_tex.specs.Steps.{AwaitsCore, AwaitsOperand, Begins
 
 use crate::parse::frames::{Ending, First, Frame, Last};
 use crate::parse::leaves::{begin_number, number};
+use crate::parse::operands::put_symbol_operand;
 use crate::parse::symbols::put_letter;
 use crate::parse::{Parser, State};
 use latex2mathml_attributes::attributes::{Attributes, Size};
@@ -28,8 +29,22 @@ use latex2mathml_tex_units::unit::{Next, Piece, Unit};
 use std::alloc::AllocError;
 
 impl<'a> Parser<'a> {
-    /// Begins the operand that this place takes.
+    /// Begins the operand that this place takes. If it is a letter or a digit, gives it to the innermost frame.
     pub(crate) fn next_operand(&mut self, place: usize) -> Result<State, AllocError>
+        requires ready { Ready self.old State.Next }
+        requires due { AwaitsOperand place self.old }
+        ensures holds { LeadsOn (HoldsIn State.Next) self.old self.new result }
+        ensures step { Advances 1 self.old self.new result }
+    {
+        let context = self.frames.innermost(self.style).context();
+        if let Some(operand) = put_symbol_operand(&mut self.input, &mut self.builder, context)? {
+            return self.deliver_operand(operand);
+        }
+        self.other_operand(place)
+    }
+
+    /// Begins the operand that this place takes, whatever it is.
+    fn other_operand(&mut self, place: usize) -> Result<State, AllocError>
         requires ready { Ready self.old State.Next }
         requires due { AwaitsOperand place self.old }
         ensures holds { LeadsOn (HoldsIn State.Next) self.old self.new result }

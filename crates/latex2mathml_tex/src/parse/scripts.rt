@@ -125,7 +125,7 @@ impl<'a> Parser<'a> {
         }
     }
 
-    /// Begins the operand of a script in this context. Most operands are a letter or a digit: for these, no frame is opened.
+    /// Begins the operand of a script in this context.
     fn begin_script(
         &mut self,
         core: Core,
@@ -142,8 +142,8 @@ impl<'a> Parser<'a> {
             → IfOk result (Holds s self.new) }
         ensures step { Advances 6 self.old self.new result }
     {
-        let is_put = put_symbol_operand(&mut self.input, &mut self.builder, context)?;
-        if is_put {
+        let put = put_symbol_operand(&mut self.input, &mut self.builder, context)?;
+        if let Some(_) = put {
             return self.with_script(core, scripts, side);
         }
         self.open(Frame::Script(core, scripts, side, place, context))
