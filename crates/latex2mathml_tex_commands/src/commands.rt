@@ -4,7 +4,7 @@ ghost use Rattle.std.specs.{Cmp.Lexicographic.slice_cmp, List.AllPass, List.list
 ghost use Rattle.latex2mathml_tokens.specs.Keys.{is_key};
 ghost use Rattle.latex2mathml_tex_grammar.specs.{Commands.entry_meaning, Commands.meaning_of, Sorted.ascending};
 ghost use Rattle.latex2mathml_tex_commands.specs.Meanings;
-ghost use Rattle.latex2mathml_tex_commands.specs.{Meanings.entry_of, Keys.IsCandidate, Keys.MeansIfNamed, Keys.has_key, Parts.entries_in, Parts.part_of};
+ghost use Rattle.latex2mathml_tex_commands.specs.{Meanings.entry_of, Keys.IsCandidate, Keys.MeansIfNamed, Keys.has_key, Parts.entries_in, Parts.part_of, Parts.part_with};
 
 mod a_and_b;
 mod before_a;
@@ -39,7 +39,8 @@ pub fn find(name: &str) -> Option<&'static Meaning>
     find_long(name, entry)
 }
 
-/// Returns what the command with this name means, if there is one. This entry has the key of the name.
+/// Returns what the command with this name means, if there is one. This entry has the key of the name. So may others, if the
+/// name is long.
 #[inline(never)]
 fn find_long(name: &str, entry: &'static Entry) -> Option<&'static Meaning>
     requires { MeansIfNamed entry.now name.now }
@@ -53,18 +54,52 @@ fn find_long(name: &str, entry: &'static Entry) -> Option<&'static Meaning>
 }
 
 /// Returns the part of the table in which this name is looked up.
+#[inline(always)]
 fn part_for(name: &str) -> &'static [Entry]
     ensures part { map entry_of result.now ≡ entries_in (part_of name.now) }
     ensures keyed { IsTrue (list_all has_key result.now) }
 {
     match name.as_bytes() {
-        [c, ..] if *c >= b't' => from_t::entries(),
-        [c, ..] if *c >= b'r' => r_and_s::entries(),
-        [c, ..] if *c >= b'm' => m_to_q::entries(),
-        [c, ..] if *c >= b'f' => f_to_l::entries(),
-        [c, ..] if *c >= b'c' => c_to_e::entries(),
-        [c, ..] if *c >= b'a' => a_and_b::entries(),
-        _ => before_a::entries(),
+        [first, ..] => part_with(*first),
+        [] => before_a::entries(),
+    }
+}
+
+/// Returns the part of the names that begin with this byte.
+#[inline(always)]
+fn part_with(first: u8) -> &'static [Entry]
+    ensures part { map entry_of result.now ≡ entries_in (part_with first) }
+    ensures keyed { IsTrue (list_all has_key result.now) }
+{
+    match first {
+        b'a' => a_and_b::letter_a(),
+        b'b' => a_and_b::letter_b(),
+        b'c' => c_to_e::letter_c(),
+        b'd' => c_to_e::letter_d(),
+        b'e' => c_to_e::letter_e(),
+        b'f' => f_to_l::letter_f(),
+        b'g' => f_to_l::letter_g(),
+        b'h' => f_to_l::letter_h(),
+        b'i' => f_to_l::letter_i(),
+        b'j' => f_to_l::letter_j(),
+        b'k' => f_to_l::letter_k(),
+        b'l' => f_to_l::letter_l(),
+        b'm' => m_to_q::letter_m(),
+        b'n' => m_to_q::letter_n(),
+        b'o' => m_to_q::letter_o(),
+        b'p' => m_to_q::letter_p(),
+        b'q' => m_to_q::letter_q(),
+        b'r' => r_and_s::letter_r(),
+        b's' => r_and_s::letter_s(),
+        b't' => from_t::letter_t(),
+        b'u' => from_t::letter_u(),
+        b'v' => from_t::letter_v(),
+        b'w' => from_t::letter_w(),
+        b'x' => from_t::letter_x(),
+        b'y' => from_t::letter_y(),
+        b'z' => from_t::letter_z(),
+        _ if first < b'a' => before_a::entries(),
+        _ => from_t::after_z(),
     }
 }
 

@@ -8,17 +8,17 @@ use crate::meaning::{
 };
 use latex2mathml_attributes::attributes::{Side, Size, Stretch};
 
-/// Returns the entries.
+/// Returns the entries of the names that begin with a.
 #[tactic(auto, unfolding(crate::specs::Parts::entries_in, latex2mathml_tex_grammar::specs::Commands::command_entries, latex2mathml_tex_grammar::specs::CommandsUpToL::commands_up_to_l, latex2mathml_tex_grammar::specs::CommandsFromM::commands_from_m))]
-pub(crate) fn entries() -> &'static [Entry]
+pub(crate) fn letter_a() -> &'static [Entry]
     ensures part { map entry_of result.now ≡ entries_in 1 }
     ensures keyed { IsTrue (list_all has_key result.now) }
 {
-    &A_AND_B
+    &LETTER_A
 }
 
 #[rattlefmt::skip]
-static A_AND_B: [Entry; 83] = [
+static LETTER_A: [Entry; 22] = [
     Entry { name: "a", key: 0x6100000000000000, meaning: Meaning::Shows(Symbol::UprightLetter('å')) },
     Entry { name: "acute", key: 0x6163757465000000, meaning: Meaning::Accent(Side::Above, '´', Stretch::Rigid) },
     Entry { name: "ae", key: 0x6165000000000000, meaning: Meaning::Shows(Symbol::UprightLetter('æ')) },
@@ -41,6 +41,19 @@ static A_AND_B: [Entry; 83] = [
     Entry { name: "astrosun", key: 0x617374726f73756e, meaning: Meaning::Shows(Symbol::Sign(Class::Ordinary, '☉')) },
     Entry { name: "asymp", key: 0x6173796d70000000, meaning: Meaning::Shows(Symbol::Sign(Class::Relation, '≍')) },
     Entry { name: "atop", key: 0x61746f7000000000, meaning: Meaning::Changes(Change::Divides(FractionRule::Bare)) },
+];
+
+/// Returns the entries of the names that begin with b.
+#[tactic(auto, unfolding(crate::specs::Parts::entries_in, latex2mathml_tex_grammar::specs::Commands::command_entries, latex2mathml_tex_grammar::specs::CommandsUpToL::commands_up_to_l, latex2mathml_tex_grammar::specs::CommandsFromM::commands_from_m))]
+pub(crate) fn letter_b() -> &'static [Entry]
+    ensures part { map entry_of result.now ≡ entries_in 2 }
+    ensures keyed { IsTrue (list_all has_key result.now) }
+{
+    &LETTER_B
+}
+
+#[rattlefmt::skip]
+static LETTER_B: [Entry; 61] = [
     Entry { name: "backepsilon", key: 0x6261636b65707369, meaning: Meaning::Shows(Symbol::Sign(Class::Relation, '∍')) },
     Entry { name: "backprime", key: 0x6261636b7072696d, meaning: Meaning::Shows(Symbol::Sign(Class::Ordinary, '‵')) },
     Entry { name: "backsim", key: 0x6261636b73696d00, meaning: Meaning::Shows(Symbol::Sign(Class::Relation, '∽')) },

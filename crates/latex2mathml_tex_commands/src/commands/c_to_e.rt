@@ -8,17 +8,17 @@ use crate::meaning::{
 };
 use latex2mathml_attributes::attributes::{Side, Stretch};
 
-/// Returns the entries.
+/// Returns the entries of the names that begin with c.
 #[tactic(auto, unfolding(crate::specs::Parts::entries_in, latex2mathml_tex_grammar::specs::Commands::command_entries, latex2mathml_tex_grammar::specs::CommandsUpToL::commands_up_to_l, latex2mathml_tex_grammar::specs::CommandsFromM::commands_from_m))]
-pub(crate) fn entries() -> &'static [Entry]
-    ensures part { map entry_of result.now ≡ entries_in 2 }
+pub(crate) fn letter_c() -> &'static [Entry]
+    ensures part { map entry_of result.now ≡ entries_in 3 }
     ensures keyed { IsTrue (list_all has_key result.now) }
 {
-    &C_TO_E
+    &LETTER_C
 }
 
 #[rattlefmt::skip]
-static C_TO_E: [Entry; 108] = [
+static LETTER_C: [Entry; 47] = [
     Entry { name: "cal", key: 0x63616c0000000000, meaning: Meaning::Changes(Change::ToAlphabet(Alphabet::Calligraphic)) },
     Entry { name: "cancel", key: 0x63616e63656c0000, meaning: Meaning::Boxed(OperandBox::StrikeUp) },
     Entry { name: "cap", key: 0x6361700000000000, meaning: Meaning::Shows(Symbol::Sign(Class::Binary, '∩')) },
@@ -66,6 +66,19 @@ static C_TO_E: [Entry; 108] = [
     Entry { name: "curlywedge", key: 0x6375726c79776564, meaning: Meaning::Shows(Symbol::Sign(Class::Binary, '⋏')) },
     Entry { name: "curvearrowleft", key: 0x6375727665617272, meaning: Meaning::Shows(Symbol::Sign(Class::Relation, '↶')) },
     Entry { name: "curvearrowright", key: 0x6375727665617272, meaning: Meaning::Shows(Symbol::Sign(Class::Relation, '↷')) },
+];
+
+/// Returns the entries of the names that begin with d.
+#[tactic(auto, unfolding(crate::specs::Parts::entries_in, latex2mathml_tex_grammar::specs::Commands::command_entries, latex2mathml_tex_grammar::specs::CommandsUpToL::commands_up_to_l, latex2mathml_tex_grammar::specs::CommandsFromM::commands_from_m))]
+pub(crate) fn letter_d() -> &'static [Entry]
+    ensures part { map entry_of result.now ≡ entries_in 4 }
+    ensures keyed { IsTrue (list_all has_key result.now) }
+{
+    &LETTER_D
+}
+
+#[rattlefmt::skip]
+static LETTER_D: [Entry; 41] = [
     Entry { name: "dag", key: 0x6461670000000000, meaning: Meaning::Shows(Symbol::Sign(Class::Ordinary, '†')) },
     Entry { name: "dagger", key: 0x6461676765720000, meaning: Meaning::Shows(Symbol::Sign(Class::Binary, '†')) },
     Entry { name: "daleth", key: 0x64616c6574680000, meaning: Meaning::Shows(Symbol::UprightLetter('ℸ')) },
@@ -107,6 +120,19 @@ static C_TO_E: [Entry; 108] = [
     Entry { name: "downdownarrows", key: 0x646f776e646f776e, meaning: Meaning::Shows(Symbol::Sign(Class::Relation, '⇊')) },
     Entry { name: "downharpoonleft", key: 0x646f776e68617270, meaning: Meaning::Shows(Symbol::Sign(Class::Relation, '⇃')) },
     Entry { name: "downharpoonright", key: 0x646f776e68617270, meaning: Meaning::Shows(Symbol::Sign(Class::Relation, '⇂')) },
+];
+
+/// Returns the entries of the names that begin with e.
+#[tactic(auto, unfolding(crate::specs::Parts::entries_in, latex2mathml_tex_grammar::specs::Commands::command_entries, latex2mathml_tex_grammar::specs::CommandsUpToL::commands_up_to_l, latex2mathml_tex_grammar::specs::CommandsFromM::commands_from_m))]
+pub(crate) fn letter_e() -> &'static [Entry]
+    ensures part { map entry_of result.now ≡ entries_in 5 }
+    ensures keyed { IsTrue (list_all has_key result.now) }
+{
+    &LETTER_E
+}
+
+#[rattlefmt::skip]
+static LETTER_E: [Entry; 20] = [
     Entry { name: "earth", key: 0x6561727468000000, meaning: Meaning::Shows(Symbol::Sign(Class::Ordinary, '♁')) },
     Entry { name: "ell", key: 0x656c6c0000000000, meaning: Meaning::Shows(Symbol::Letter('ℓ')) },
     Entry { name: "emph", key: 0x656d706800000000, meaning: Meaning::Words(Some(Alphabet::Italic)) },

@@ -8,17 +8,17 @@ use crate::meaning::{
 };
 use latex2mathml_attributes::attributes::{Side, Stretch};
 
-/// Returns the entries.
+/// Returns the entries of the names that begin with f.
 #[tactic(auto, unfolding(crate::specs::Parts::entries_in, latex2mathml_tex_grammar::specs::Commands::command_entries, latex2mathml_tex_grammar::specs::CommandsUpToL::commands_up_to_l, latex2mathml_tex_grammar::specs::CommandsFromM::commands_from_m))]
-pub(crate) fn entries() -> &'static [Entry]
-    ensures part { map entry_of result.now ≡ entries_in 3 }
+pub(crate) fn letter_f() -> &'static [Entry]
+    ensures part { map entry_of result.now ≡ entries_in 6 }
     ensures keyed { IsTrue (list_all has_key result.now) }
 {
-    &F_TO_L
+    &LETTER_F
 }
 
 #[rattlefmt::skip]
-static F_TO_L: [Entry; 131] = [
+static LETTER_F: [Entry; 7] = [
     Entry { name: "fallingdotseq", key: 0x66616c6c696e6764, meaning: Meaning::Shows(Symbol::Sign(Class::Relation, '≒')) },
     Entry { name: "flat", key: 0x666c617400000000, meaning: Meaning::Shows(Symbol::Sign(Class::Ordinary, '♭')) },
     Entry { name: "forall", key: 0x666f72616c6c0000, meaning: Meaning::Shows(Symbol::Sign(Class::Ordinary, '∀')) },
@@ -26,6 +26,19 @@ static F_TO_L: [Entry; 131] = [
     Entry { name: "frak", key: 0x6672616b00000000, meaning: Meaning::Styled(Alphabet::Fraktur) },
     Entry { name: "from", key: 0x66726f6d00000000, meaning: Meaning::Shows(Symbol::Sign(Class::Relation, '⌢')) },
     Entry { name: "frown", key: 0x66726f776e000000, meaning: Meaning::Shows(Symbol::Sign(Class::Relation, '⌢')) },
+];
+
+/// Returns the entries of the names that begin with g.
+#[tactic(auto, unfolding(crate::specs::Parts::entries_in, latex2mathml_tex_grammar::specs::Commands::command_entries, latex2mathml_tex_grammar::specs::CommandsUpToL::commands_up_to_l, latex2mathml_tex_grammar::specs::CommandsFromM::commands_from_m))]
+pub(crate) fn letter_g() -> &'static [Entry]
+    ensures part { map entry_of result.now ≡ entries_in 7 }
+    ensures keyed { IsTrue (list_all has_key result.now) }
+{
+    &LETTER_G
+}
+
+#[rattlefmt::skip]
+static LETTER_G: [Entry; 24] = [
     Entry { name: "gamma", key: 0x67616d6d61000000, meaning: Meaning::Shows(Symbol::Letter('γ')) },
     Entry { name: "gcd", key: 0x6763640000000000, meaning: Meaning::FunctionName(LimitPlace::ByStyle, "gcd") },
     Entry { name: "ge", key: 0x6765000000000000, meaning: Meaning::Shows(Symbol::Sign(Class::Relation, '≥')) },
@@ -50,6 +63,19 @@ static F_TO_L: [Entry; 131] = [
     Entry { name: "gtreqqless", key: 0x6774726571716c65, meaning: Meaning::Shows(Symbol::Sign(Class::Relation, '⪌')) },
     Entry { name: "gtrless", key: 0x6774726c65737300, meaning: Meaning::Shows(Symbol::Sign(Class::Relation, '≷')) },
     Entry { name: "gtrsim", key: 0x67747273696d0000, meaning: Meaning::Shows(Symbol::Sign(Class::Relation, '≳')) },
+];
+
+/// Returns the entries of the names that begin with h.
+#[tactic(auto, unfolding(crate::specs::Parts::entries_in, latex2mathml_tex_grammar::specs::Commands::command_entries, latex2mathml_tex_grammar::specs::CommandsUpToL::commands_up_to_l, latex2mathml_tex_grammar::specs::CommandsFromM::commands_from_m))]
+pub(crate) fn letter_h() -> &'static [Entry]
+    ensures part { map entry_of result.now ≡ entries_in 8 }
+    ensures keyed { IsTrue (list_all has_key result.now) }
+{
+    &LETTER_H
+}
+
+#[rattlefmt::skip]
+static LETTER_H: [Entry; 11] = [
     Entry { name: "hat", key: 0x6861740000000000, meaning: Meaning::Accent(Side::Above, 'ˆ', Stretch::Rigid) },
     Entry { name: "hbar", key: 0x6862617200000000, meaning: Meaning::Shows(Symbol::Letter('ℏ')) },
     Entry { name: "hbox", key: 0x68626f7800000000, meaning: Meaning::Words(None) },
@@ -61,6 +87,19 @@ static F_TO_L: [Entry; 131] = [
     Entry { name: "hskip", key: 0x68736b6970000000, meaning: Meaning::Skip },
     Entry { name: "hslash", key: 0x68736c6173680000, meaning: Meaning::Shows(Symbol::Letter('ℏ')) },
     Entry { name: "hspace", key: 0x6873706163650000, meaning: Meaning::SkipInBraces },
+];
+
+/// Returns the entries of the names that begin with i.
+#[tactic(auto, unfolding(crate::specs::Parts::entries_in, latex2mathml_tex_grammar::specs::Commands::command_entries, latex2mathml_tex_grammar::specs::CommandsUpToL::commands_up_to_l, latex2mathml_tex_grammar::specs::CommandsFromM::commands_from_m))]
+pub(crate) fn letter_i() -> &'static [Entry]
+    ensures part { map entry_of result.now ≡ entries_in 9 }
+    ensures keyed { IsTrue (list_all has_key result.now) }
+{
+    &LETTER_I
+}
+
+#[rattlefmt::skip]
+static LETTER_I: [Entry; 17] = [
     Entry { name: "iff", key: 0x6966660000000000, meaning: Meaning::Shows(Symbol::Sign(Class::Relation, '⟺')) },
     Entry { name: "iiiint", key: 0x696969696e740000, meaning: Meaning::Shows(Symbol::Integral('⨌')) },
     Entry { name: "iiint", key: 0x6969696e74000000, meaning: Meaning::Shows(Symbol::Integral('∭')) },
@@ -78,11 +117,50 @@ static F_TO_L: [Entry; 131] = [
     Entry { name: "intop", key: 0x696e746f70000000, meaning: Meaning::Shows(Symbol::BigOperator('∫')) },
     Entry { name: "iota", key: 0x696f746100000000, meaning: Meaning::Shows(Symbol::Letter('ι')) },
     Entry { name: "it", key: 0x6974000000000000, meaning: Meaning::Changes(Change::ToAlphabet(Alphabet::Italic)) },
+];
+
+/// Returns the entries of the names that begin with j.
+#[tactic(auto, unfolding(crate::specs::Parts::entries_in, latex2mathml_tex_grammar::specs::Commands::command_entries, latex2mathml_tex_grammar::specs::CommandsUpToL::commands_up_to_l, latex2mathml_tex_grammar::specs::CommandsFromM::commands_from_m))]
+pub(crate) fn letter_j() -> &'static [Entry]
+    ensures part { map entry_of result.now ≡ entries_in 10 }
+    ensures keyed { IsTrue (list_all has_key result.now) }
+{
+    &LETTER_J
+}
+
+#[rattlefmt::skip]
+static LETTER_J: [Entry; 2] = [
     Entry { name: "jmath", key: 0x6a6d617468000000, meaning: Meaning::Shows(Symbol::Letter('ȷ')) },
     Entry { name: "jupiter", key: 0x6a75706974657200, meaning: Meaning::Shows(Symbol::Sign(Class::Ordinary, '♃')) },
+];
+
+/// Returns the entries of the names that begin with k.
+#[tactic(auto, unfolding(crate::specs::Parts::entries_in, latex2mathml_tex_grammar::specs::Commands::command_entries, latex2mathml_tex_grammar::specs::CommandsUpToL::commands_up_to_l, latex2mathml_tex_grammar::specs::CommandsFromM::commands_from_m))]
+pub(crate) fn letter_k() -> &'static [Entry]
+    ensures part { map entry_of result.now ≡ entries_in 11 }
+    ensures keyed { IsTrue (list_all has_key result.now) }
+{
+    &LETTER_K
+}
+
+#[rattlefmt::skip]
+static LETTER_K: [Entry; 3] = [
     Entry { name: "kappa", key: 0x6b61707061000000, meaning: Meaning::Shows(Symbol::Letter('κ')) },
     Entry { name: "ker", key: 0x6b65720000000000, meaning: Meaning::FunctionName(LimitPlace::Beside, "ker") },
     Entry { name: "kern", key: 0x6b65726e00000000, meaning: Meaning::Skip },
+];
+
+/// Returns the entries of the names that begin with l.
+#[tactic(auto, unfolding(crate::specs::Parts::entries_in, latex2mathml_tex_grammar::specs::Commands::command_entries, latex2mathml_tex_grammar::specs::CommandsUpToL::commands_up_to_l, latex2mathml_tex_grammar::specs::CommandsFromM::commands_from_m))]
+pub(crate) fn letter_l() -> &'static [Entry]
+    ensures part { map entry_of result.now ≡ entries_in 12 }
+    ensures keyed { IsTrue (list_all has_key result.now) }
+{
+    &LETTER_L
+}
+
+#[rattlefmt::skip]
+static LETTER_L: [Entry; 67] = [
     Entry { name: "l", key: 0x6c00000000000000, meaning: Meaning::Shows(Symbol::UprightLetter('ł')) },
     Entry { name: "lVert", key: 0x6c56657274000000, meaning: Meaning::Shows(Symbol::Sign(Class::Opening, '∥')) },
     Entry { name: "lambda", key: 0x6c616d6264610000, meaning: Meaning::Shows(Symbol::Letter('λ')) },

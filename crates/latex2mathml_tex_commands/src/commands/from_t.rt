@@ -8,17 +8,17 @@ use crate::meaning::{
 };
 use latex2mathml_attributes::attributes::{Side, Stretch};
 
-/// Returns the entries.
+/// Returns the entries of the names that begin with t.
 #[tactic(auto, unfolding(crate::specs::Parts::entries_in, latex2mathml_tex_grammar::specs::Commands::command_entries, latex2mathml_tex_grammar::specs::CommandsUpToL::commands_up_to_l, latex2mathml_tex_grammar::specs::CommandsFromM::commands_from_m))]
-pub(crate) fn entries() -> &'static [Entry]
-    ensures part { map entry_of result.now ≡ entries_in 6 }
+pub(crate) fn letter_t() -> &'static [Entry]
+    ensures part { map entry_of result.now ≡ entries_in 20 }
     ensures keyed { IsTrue (list_all has_key result.now) }
 {
-    &FROM_T
+    &LETTER_T
 }
 
 #[rattlefmt::skip]
-static FROM_T: [Entry; 113] = [
+static LETTER_T: [Entry; 40] = [
     Entry { name: "tan", key: 0x74616e0000000000, meaning: Meaning::FunctionName(LimitPlace::Beside, "tan") },
     Entry { name: "tanh", key: 0x74616e6800000000, meaning: Meaning::FunctionName(LimitPlace::Beside, "tanh") },
     Entry { name: "tau", key: 0x7461750000000000, meaning: Meaning::Shows(Symbol::Letter('τ')) },
@@ -59,6 +59,19 @@ static FROM_T: [Entry; 113] = [
     Entry { name: "tt", key: 0x7474000000000000, meaning: Meaning::Changes(Change::ToAlphabet(Alphabet::Monospace)) },
     Entry { name: "twoheadleftarrow", key: 0x74776f686561646c, meaning: Meaning::Shows(Symbol::Sign(Class::Relation, '↞')) },
     Entry { name: "twoheadrightarrow", key: 0x74776f6865616472, meaning: Meaning::Shows(Symbol::Sign(Class::Relation, '↠')) },
+];
+
+/// Returns the entries of the names that begin with u.
+#[tactic(auto, unfolding(crate::specs::Parts::entries_in, latex2mathml_tex_grammar::specs::Commands::command_entries, latex2mathml_tex_grammar::specs::CommandsUpToL::commands_up_to_l, latex2mathml_tex_grammar::specs::CommandsFromM::commands_from_m))]
+pub(crate) fn letter_u() -> &'static [Entry]
+    ensures part { map entry_of result.now ≡ entries_in 21 }
+    ensures keyed { IsTrue (list_all has_key result.now) }
+{
+    &LETTER_U
+}
+
+#[rattlefmt::skip]
+static LETTER_U: [Entry; 20] = [
     Entry { name: "ulcorner", key: 0x756c636f726e6572, meaning: Meaning::Shows(Symbol::Sign(Class::Opening, '⌜')) },
     Entry { name: "underbar", key: 0x756e646572626172, meaning: Meaning::Accent(Side::Below, '\u{332}', Stretch::Stretching) },
     Entry { name: "underbrace", key: 0x756e646572627261, meaning: Meaning::Brace(Side::Below, '⏟') },
@@ -79,6 +92,19 @@ static FROM_T: [Entry; 113] = [
     Entry { name: "upuparrows", key: 0x757075706172726f, meaning: Meaning::Shows(Symbol::Sign(Class::Relation, '⇈')) },
     Entry { name: "uranus", key: 0x7572616e75730000, meaning: Meaning::Shows(Symbol::Sign(Class::Ordinary, '♅')) },
     Entry { name: "urcorner", key: 0x7572636f726e6572, meaning: Meaning::Shows(Symbol::Sign(Class::Closing, '⌝')) },
+];
+
+/// Returns the entries of the names that begin with v.
+#[tactic(auto, unfolding(crate::specs::Parts::entries_in, latex2mathml_tex_grammar::specs::Commands::command_entries, latex2mathml_tex_grammar::specs::CommandsUpToL::commands_up_to_l, latex2mathml_tex_grammar::specs::CommandsFromM::commands_from_m))]
+pub(crate) fn letter_v() -> &'static [Entry]
+    ensures part { map entry_of result.now ≡ entries_in 22 }
+    ensures keyed { IsTrue (list_all has_key result.now) }
+{
+    &LETTER_V
+}
+
+#[rattlefmt::skip]
+static LETTER_V: [Entry; 22] = [
     Entry { name: "vDash", key: 0x7644617368000000, meaning: Meaning::Shows(Symbol::Sign(Class::Relation, '⊨')) },
     Entry { name: "varepsilon", key: 0x766172657073696c, meaning: Meaning::Shows(Symbol::Letter('ε')) },
     Entry { name: "varkappa", key: 0x7661726b61707061, meaning: Meaning::Shows(Symbol::UprightLetter('ϰ')) },
@@ -101,11 +127,37 @@ static FROM_T: [Entry; 113] = [
     Entry { name: "venus", key: 0x76656e7573000000, meaning: Meaning::Shows(Symbol::Sign(Class::Ordinary, '♀')) },
     Entry { name: "vert", key: 0x7665727400000000, meaning: Meaning::Shows(Symbol::Sign(Class::Ordinary, '∣')) },
     Entry { name: "vphantom", key: 0x767068616e746f6d, meaning: Meaning::Boxed(OperandBox::PhantomHeight) },
+];
+
+/// Returns the entries of the names that begin with w.
+#[tactic(auto, unfolding(crate::specs::Parts::entries_in, latex2mathml_tex_grammar::specs::Commands::command_entries, latex2mathml_tex_grammar::specs::CommandsUpToL::commands_up_to_l, latex2mathml_tex_grammar::specs::CommandsFromM::commands_from_m))]
+pub(crate) fn letter_w() -> &'static [Entry]
+    ensures part { map entry_of result.now ≡ entries_in 23 }
+    ensures keyed { IsTrue (list_all has_key result.now) }
+{
+    &LETTER_W
+}
+
+#[rattlefmt::skip]
+static LETTER_W: [Entry; 5] = [
     Entry { name: "wedge", key: 0x7765646765000000, meaning: Meaning::Shows(Symbol::Sign(Class::Binary, '∧')) },
     Entry { name: "widecheck", key: 0x7769646563686563, meaning: Meaning::Accent(Side::Above, 'ˇ', Stretch::Stretching) },
     Entry { name: "widehat", key: 0x7769646568617400, meaning: Meaning::Accent(Side::Above, '\u{302}', Stretch::Stretching) },
     Entry { name: "widetilde", key: 0x7769646574696c64, meaning: Meaning::Accent(Side::Above, '~', Stretch::Stretching) },
     Entry { name: "wr", key: 0x7772000000000000, meaning: Meaning::Shows(Symbol::Sign(Class::Binary, '≀')) },
+];
+
+/// Returns the entries of the names that begin with x.
+#[tactic(auto, unfolding(crate::specs::Parts::entries_in, latex2mathml_tex_grammar::specs::Commands::command_entries, latex2mathml_tex_grammar::specs::CommandsUpToL::commands_up_to_l, latex2mathml_tex_grammar::specs::CommandsFromM::commands_from_m))]
+pub(crate) fn letter_x() -> &'static [Entry]
+    ensures part { map entry_of result.now ≡ entries_in 24 }
+    ensures keyed { IsTrue (list_all has_key result.now) }
+{
+    &LETTER_X
+}
+
+#[rattlefmt::skip]
+static LETTER_X: [Entry; 21] = [
     Entry { name: "xLeftarrow", key: 0x784c656674617272, meaning: Meaning::Arrow('⇐') },
     Entry { name: "xLeftrightarrow", key: 0x784c656674726967, meaning: Meaning::Arrow('⇔') },
     Entry { name: "xRightarrow", key: 0x7852696768746172, meaning: Meaning::Arrow('⇒') },
@@ -127,8 +179,47 @@ static FROM_T: [Entry; 113] = [
     Entry { name: "xtofrom", key: 0x78746f66726f6d00, meaning: Meaning::Arrow('⇄') },
     Entry { name: "xtwoheadleftarrow", key: 0x7874776f68656164, meaning: Meaning::Arrow('↞') },
     Entry { name: "xtwoheadrightarrow", key: 0x7874776f68656164, meaning: Meaning::Arrow('↠') },
+];
+
+/// Returns the entries of the names that begin with y.
+#[tactic(auto, unfolding(crate::specs::Parts::entries_in, latex2mathml_tex_grammar::specs::Commands::command_entries, latex2mathml_tex_grammar::specs::CommandsUpToL::commands_up_to_l, latex2mathml_tex_grammar::specs::CommandsFromM::commands_from_m))]
+pub(crate) fn letter_y() -> &'static [Entry]
+    ensures part { map entry_of result.now ≡ entries_in 25 }
+    ensures keyed { IsTrue (list_all has_key result.now) }
+{
+    &LETTER_Y
+}
+
+#[rattlefmt::skip]
+static LETTER_Y: [Entry; 1] = [
     Entry { name: "yen", key: 0x79656e0000000000, meaning: Meaning::Shows(Symbol::Sign(Class::Ordinary, '¥')) },
+];
+
+/// Returns the entries of the names that begin with z.
+#[tactic(auto, unfolding(crate::specs::Parts::entries_in, latex2mathml_tex_grammar::specs::Commands::command_entries, latex2mathml_tex_grammar::specs::CommandsUpToL::commands_up_to_l, latex2mathml_tex_grammar::specs::CommandsFromM::commands_from_m))]
+pub(crate) fn letter_z() -> &'static [Entry]
+    ensures part { map entry_of result.now ≡ entries_in 26 }
+    ensures keyed { IsTrue (list_all has_key result.now) }
+{
+    &LETTER_Z
+}
+
+#[rattlefmt::skip]
+static LETTER_Z: [Entry; 1] = [
     Entry { name: "zeta", key: 0x7a65746100000000, meaning: Meaning::Shows(Symbol::Letter('ζ')) },
+];
+
+/// Returns the entries of the names that begin after z: with signs.
+#[tactic(auto, unfolding(crate::specs::Parts::entries_in, latex2mathml_tex_grammar::specs::Commands::command_entries, latex2mathml_tex_grammar::specs::CommandsUpToL::commands_up_to_l, latex2mathml_tex_grammar::specs::CommandsFromM::commands_from_m))]
+pub(crate) fn after_z() -> &'static [Entry]
+    ensures part { map entry_of result.now ≡ entries_in 27 }
+    ensures keyed { IsTrue (list_all has_key result.now) }
+{
+    &AFTER_Z
+}
+
+#[rattlefmt::skip]
+static AFTER_Z: [Entry; 3] = [
     Entry { name: "{", key: 0x7b00000000000000, meaning: Meaning::Shows(Symbol::Sign(Class::Opening, '{')) },
     Entry { name: "|", key: 0x7c00000000000000, meaning: Meaning::Shows(Symbol::Sign(Class::Ordinary, '∥')) },
     Entry { name: "}", key: 0x7d00000000000000, meaning: Meaning::Shows(Symbol::Sign(Class::Closing, '}')) },

@@ -8,17 +8,17 @@ use crate::meaning::{
 };
 use latex2mathml_attributes::attributes::{Side, Stretch};
 
-/// Returns the entries.
+/// Returns the entries of the names that begin with m.
 #[tactic(auto, unfolding(crate::specs::Parts::entries_in, latex2mathml_tex_grammar::specs::Commands::command_entries, latex2mathml_tex_grammar::specs::CommandsUpToL::commands_up_to_l, latex2mathml_tex_grammar::specs::CommandsFromM::commands_from_m))]
-pub(crate) fn entries() -> &'static [Entry]
-    ensures part { map entry_of result.now ≡ entries_in 4 }
+pub(crate) fn letter_m() -> &'static [Entry]
+    ensures part { map entry_of result.now ≡ entries_in 13 }
     ensures keyed { IsTrue (list_all has_key result.now) }
 {
-    &M_TO_Q
+    &LETTER_M
 }
 
 #[rattlefmt::skip]
-static M_TO_Q: [Entry; 146] = [
+static LETTER_M: [Entry; 48] = [
     Entry { name: "maltese", key: 0x6d616c7465736500, meaning: Meaning::Shows(Symbol::Sign(Class::Ordinary, '✠')) },
     Entry { name: "mapsto", key: 0x6d617073746f0000, meaning: Meaning::Shows(Symbol::Sign(Class::Relation, '↦')) },
     Entry { name: "mars", key: 0x6d61727300000000, meaning: Meaning::Shows(Symbol::Sign(Class::Ordinary, '♂')) },
@@ -67,6 +67,19 @@ static M_TO_Q: [Entry; 146] = [
     Entry { name: "mspace", key: 0x6d73706163650000, meaning: Meaning::SkipInBraces },
     Entry { name: "mu", key: 0x6d75000000000000, meaning: Meaning::Shows(Symbol::Letter('μ')) },
     Entry { name: "multimap", key: 0x6d756c74696d6170, meaning: Meaning::Shows(Symbol::Sign(Class::Relation, '⊸')) },
+];
+
+/// Returns the entries of the names that begin with n.
+#[tactic(auto, unfolding(crate::specs::Parts::entries_in, latex2mathml_tex_grammar::specs::Commands::command_entries, latex2mathml_tex_grammar::specs::CommandsUpToL::commands_up_to_l, latex2mathml_tex_grammar::specs::CommandsFromM::commands_from_m))]
+pub(crate) fn letter_n() -> &'static [Entry]
+    ensures part { map entry_of result.now ≡ entries_in 14 }
+    ensures keyed { IsTrue (list_all has_key result.now) }
+{
+    &LETTER_N
+}
+
+#[rattlefmt::skip]
+static LETTER_N: [Entry; 49] = [
     Entry { name: "nLeftarrow", key: 0x6e4c656674617272, meaning: Meaning::Shows(Symbol::Sign(Class::Relation, '⇍')) },
     Entry { name: "nLeftrightarrow", key: 0x6e4c656674726967, meaning: Meaning::Shows(Symbol::Sign(Class::Relation, '⇎')) },
     Entry { name: "nRightarrow", key: 0x6e52696768746172, meaning: Meaning::Shows(Symbol::Sign(Class::Relation, '⇏')) },
@@ -116,6 +129,19 @@ static M_TO_Q: [Entry; 146] = [
     Entry { name: "nvDash", key: 0x6e76446173680000, meaning: Meaning::Shows(Symbol::Sign(Class::Relation, '⊭')) },
     Entry { name: "nvdash", key: 0x6e76646173680000, meaning: Meaning::Shows(Symbol::Sign(Class::Relation, '⊬')) },
     Entry { name: "nwarrow", key: 0x6e776172726f7700, meaning: Meaning::Shows(Symbol::Sign(Class::Relation, '↖')) },
+];
+
+/// Returns the entries of the names that begin with o.
+#[tactic(auto, unfolding(crate::specs::Parts::entries_in, latex2mathml_tex_grammar::specs::Commands::command_entries, latex2mathml_tex_grammar::specs::CommandsUpToL::commands_up_to_l, latex2mathml_tex_grammar::specs::CommandsFromM::commands_from_m))]
+pub(crate) fn letter_o() -> &'static [Entry]
+    ensures part { map entry_of result.now ≡ entries_in 15 }
+    ensures keyed { IsTrue (list_all has_key result.now) }
+{
+    &LETTER_O
+}
+
+#[rattlefmt::skip]
+static LETTER_O: [Entry; 24] = [
     Entry { name: "o", key: 0x6f00000000000000, meaning: Meaning::Shows(Symbol::UprightLetter('ø')) },
     Entry { name: "odot", key: 0x6f646f7400000000, meaning: Meaning::Shows(Symbol::Sign(Class::Binary, '⊙')) },
     Entry { name: "oe", key: 0x6f65000000000000, meaning: Meaning::Shows(Symbol::UprightLetter('œ')) },
@@ -140,6 +166,19 @@ static M_TO_Q: [Entry; 146] = [
     Entry { name: "overrightarrow", key: 0x6f76657272696768, meaning: Meaning::Accent(Side::Above, '→', Stretch::Stretching) },
     Entry { name: "overset", key: 0x6f76657273657400, meaning: Meaning::Stack(Side::Above) },
     Entry { name: "owns", key: 0x6f776e7300000000, meaning: Meaning::Shows(Symbol::Sign(Class::Relation, '∋')) },
+];
+
+/// Returns the entries of the names that begin with p.
+#[tactic(auto, unfolding(crate::specs::Parts::entries_in, latex2mathml_tex_grammar::specs::Commands::command_entries, latex2mathml_tex_grammar::specs::CommandsUpToL::commands_up_to_l, latex2mathml_tex_grammar::specs::CommandsFromM::commands_from_m))]
+pub(crate) fn letter_p() -> &'static [Entry]
+    ensures part { map entry_of result.now ≡ entries_in 16 }
+    ensures keyed { IsTrue (list_all has_key result.now) }
+{
+    &LETTER_P
+}
+
+#[rattlefmt::skip]
+static LETTER_P: [Entry; 23] = [
     Entry { name: "parallel", key: 0x706172616c6c656c, meaning: Meaning::Shows(Symbol::Sign(Class::Relation, '∥')) },
     Entry { name: "partial", key: 0x7061727469616c00, meaning: Meaning::Shows(Symbol::Sign(Class::Ordinary, '∂')) },
     Entry { name: "perp", key: 0x7065727000000000, meaning: Meaning::Shows(Symbol::Sign(Class::Relation, '⊥')) },
@@ -163,6 +202,19 @@ static M_TO_Q: [Entry; 146] = [
     Entry { name: "projlim", key: 0x70726f6a6c696d00, meaning: Meaning::FunctionName(LimitPlace::ByStyle, "proj\u{2009}lim") },
     Entry { name: "propto", key: 0x70726f70746f0000, meaning: Meaning::Shows(Symbol::Sign(Class::Relation, '∝')) },
     Entry { name: "psi", key: 0x7073690000000000, meaning: Meaning::Shows(Symbol::Letter('ψ')) },
+];
+
+/// Returns the entries of the names that begin with q.
+#[tactic(auto, unfolding(crate::specs::Parts::entries_in, latex2mathml_tex_grammar::specs::Commands::command_entries, latex2mathml_tex_grammar::specs::CommandsUpToL::commands_up_to_l, latex2mathml_tex_grammar::specs::CommandsFromM::commands_from_m))]
+pub(crate) fn letter_q() -> &'static [Entry]
+    ensures part { map entry_of result.now ≡ entries_in 17 }
+    ensures keyed { IsTrue (list_all has_key result.now) }
+{
+    &LETTER_Q
+}
+
+#[rattlefmt::skip]
+static LETTER_Q: [Entry; 2] = [
     Entry { name: "qquad", key: 0x7171756164000000, meaning: Meaning::Spacing(36) },
     Entry { name: "quad", key: 0x7175616400000000, meaning: Meaning::Spacing(18) },
 ];

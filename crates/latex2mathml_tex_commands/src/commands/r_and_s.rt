@@ -5,17 +5,17 @@ ghost use Rattle.latex2mathml_tex_commands.specs.{Keys.has_key, Meanings.entry_o
 
 use crate::meaning::{Alphabet, Change, Class, Entry, LimitPlace, Meaning, Style, Symbol};
 
-/// Returns the entries.
+/// Returns the entries of the names that begin with r.
 #[tactic(auto, unfolding(crate::specs::Parts::entries_in, latex2mathml_tex_grammar::specs::Commands::command_entries, latex2mathml_tex_grammar::specs::CommandsUpToL::commands_up_to_l, latex2mathml_tex_grammar::specs::CommandsFromM::commands_from_m))]
-pub(crate) fn entries() -> &'static [Entry]
-    ensures part { map entry_of result.now ≡ entries_in 5 }
+pub(crate) fn letter_r() -> &'static [Entry]
+    ensures part { map entry_of result.now ≡ entries_in 18 }
     ensures keyed { IsTrue (list_all has_key result.now) }
 {
-    &R_AND_S
+    &LETTER_R
 }
 
 #[rattlefmt::skip]
-static R_AND_S: [Entry; 93] = [
+static LETTER_R: [Entry; 30] = [
     Entry { name: "rVert", key: 0x7256657274000000, meaning: Meaning::Shows(Symbol::Sign(Class::Closing, '∥')) },
     Entry { name: "raisemath", key: 0x72616973656d6174, meaning: Meaning::Raise },
     Entry { name: "rangle", key: 0x72616e676c650000, meaning: Meaning::Shows(Symbol::Sign(Class::Closing, '⟩')) },
@@ -46,6 +46,19 @@ static R_AND_S: [Entry; 93] = [
     Entry { name: "rule", key: 0x72756c6500000000, meaning: Meaning::Rectangle },
     Entry { name: "rupee", key: 0x7275706565000000, meaning: Meaning::Shows(Symbol::Sign(Class::Ordinary, '₹')) },
     Entry { name: "rvert", key: 0x7276657274000000, meaning: Meaning::Shows(Symbol::Sign(Class::Closing, '∣')) },
+];
+
+/// Returns the entries of the names that begin with s.
+#[tactic(auto, unfolding(crate::specs::Parts::entries_in, latex2mathml_tex_grammar::specs::Commands::command_entries, latex2mathml_tex_grammar::specs::CommandsUpToL::commands_up_to_l, latex2mathml_tex_grammar::specs::CommandsFromM::commands_from_m))]
+pub(crate) fn letter_s() -> &'static [Entry]
+    ensures part { map entry_of result.now ≡ entries_in 19 }
+    ensures keyed { IsTrue (list_all has_key result.now) }
+{
+    &LETTER_S
+}
+
+#[rattlefmt::skip]
+static LETTER_S: [Entry; 63] = [
     Entry { name: "saturn", key: 0x73617475726e0000, meaning: Meaning::Shows(Symbol::Sign(Class::Ordinary, '♄')) },
     Entry { name: "scriptscriptstyle", key: 0x7363726970747363, meaning: Meaning::Changes(Change::ToStyle(Style::InScript)) },
     Entry { name: "scriptstyle", key: 0x7363726970747374, meaning: Meaning::Changes(Change::ToStyle(Style::InScript)) },
