@@ -37,7 +37,8 @@ impl<'a> Parser<'a> {
         ensures step { Advances 1 self.old self.new result }
     {
         let context = self.frames.innermost(self.style).context();
-        if let Some(operand) = put_symbol_operand(&mut self.input, &mut self.builder, context)? {
+        let put = put_symbol_operand(&mut self.input, &mut self.builder, context)?;
+        if let Some(operand) = put {
             return self.deliver_operand(operand);
         }
         self.other_operand(place)

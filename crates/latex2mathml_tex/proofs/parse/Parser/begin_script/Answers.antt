@@ -9,4 +9,4 @@ returns-in-Some-clause-holds c = λ s style leads.
 pub returns-clause-holds : goal.returns-clause-holds
 returns-clause-holds c = λ s style leads.
     let same = rw c.in_default.is at c.in_ok-put.ensures in
-    c.open.ensures.holds s (rw (same.0, same.1) leads)
+    c.open.ensures.holds s style (rw (same.0, same.1) leads)
