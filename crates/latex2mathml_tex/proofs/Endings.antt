@@ -1,6 +1,5 @@
 -- How rows end.
-use Rattle.std.proofs.Common.{◌≡◌, ◌∙◌, ℕ, zero, suc, ◌+◌, ◌≤◌, Bool, true, false, List, [], ◌∷◌, Option, Some, None, drop, length, map, not, take, refl, sym, ap, arith, reverse, sum_by}
-use Rattle.std.proofs.lemmas.List.Sums.{sum_by_push}
+use Rattle.std.proofs.Common.{◌≡◌, ◌∙◌, ℕ, zero, suc, ◌+◌, Bool, true, false, List, [], ◌∷◌, Option, Some, None, drop, length, map, not, take, refl, sym, ap, arith, reverse}
 use Rattle.std.proofs.lemmas.List.{length-drop}
 use Rattle.latex2mathml_elements.specs.Element.{Element}
 use Rattle.latex2mathml_builder.specs.Built.{Built, elements_in}
@@ -11,19 +10,14 @@ use Rattle.latex2mathml_tex_grammar.specs.Rows.{row_element}
 use Rattle.latex2mathml_tex_grammar.specs.Rules.{gives}
 use Rattle.latex2mathml_tex_commands.specs.{Delimiters.delimiter_text, Meanings.style_of}
 use Rattle.latex2mathml_tex_units.specs.{Errors.refusal_of, Left.units_at}
-use Rattle.latex2mathml_tex_atoms.specs.{Models.core_with, Models.row_count, Models.row_with, Models.top, Shapes.mapped_first}
-use Rattle.latex2mathml_tex.specs.Frames.{Start, element_count}
-use Rattle.latex2mathml_tex.specs.Innermost.{IsInnermost, none_begun, on_top}
-use Rattle.latex2mathml_tex_atoms.specs.Models.{empty_row}
-use Rattle.latex2mathml_tex.specs.Steps.{CanMake, ClosesRow, Follows, HasElements, Holds, InnermostIs, core_made, elements_of, left_of, level, to_do}
+use Rattle.latex2mathml_tex_atoms.specs.{Models.core_with, Models.row_with, Models.top, Shapes.mapped_first}
+use Rattle.latex2mathml_tex.specs.Frames.{Start}
+use Rattle.latex2mathml_tex.specs.Steps.{CanMake, ClosesRow, Follows, Holds, core_made, elements_of, left_of, level, to_do}
 use Rattle.latex2mathml_tex_units.specs.declared.input.Input.{Input}
-use Rattle.latex2mathml_tex_commands.specs.declared.meaning.Style.{Style}
-use Rattle.latex2mathml_tex_atoms.specs.declared.{atoms.Context.Context, atoms.Core.Core as CodeCore, atoms.Row.Row as CodeRow}
+use Rattle.latex2mathml_tex_atoms.specs.declared.{atoms.Core.Core as CodeCore, atoms.Row.Row as CodeRow}
 use Rattle.latex2mathml_tex.specs.declared.parse.Parser.{Parser}
 use Rattle.latex2mathml_tex.specs.declared.parse.State.TheVariants as state
-use Rattle.latex2mathml_tex.specs.declared.parse.frames.{Ending.Ending, Frame.Frame}
 use Rattle.latex2mathml_tex.specs.declared.parse.frames.Ending.TheVariants as ending
-use Rattle.latex2mathml_tex.specs.declared.parse.frames.Frame.TheVariants as frame
 use Rattle.latex2mathml_tex.proofs.Leading.{delimited, given, undelimited}
 use Rattle.latex2mathml_tex_units.proofs.Nexts.{no_more_past_space, no_more_taken}
 use Rattle.latex2mathml_tex.proofs.Marks.{all_refuse, core_refuses}

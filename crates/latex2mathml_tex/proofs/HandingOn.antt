@@ -7,7 +7,7 @@ use Rattle.latex2mathml_tex_grammar.specs.Rules.{Rule, with_value}
 use Rattle.latex2mathml_tex_grammar.specs.Scanning.{Spot}
 use Rattle.latex2mathml_tex_units.specs.HandedOn.{Stops}
 use Rattle.latex2mathml_tex.specs.{Frames.Start, TakenBy.TookBy}
-use Rattle.latex2mathml_tex.specs.Steps.{Begins, CanBegin, Follows, HasElements, Holds, Advances, NoValue, TookValue, frame_weight, has_none, is_missing, left_of, level, to_do}
+use Rattle.latex2mathml_tex.specs.Steps.{Begins, Follows, HasElements, Holds, Advances, NoValue, TookValue, frame_weight, has_none, is_missing, left_of, level, to_do}
 use Rattle.latex2mathml_tex.specs.declared.{parse.Parser.Parser, parse.State.State}
 use Rattle.latex2mathml_tex.specs.declared.parse.State.TheVariants as state
 use Rattle.latex2mathml_tex_units.proofs.Scanned.{no_more_scanned}

@@ -2,14 +2,14 @@
 use Rattle.std.proofs.Common.{Bool, true, false, ◌≡◌, ℕ, IsTrue, IsFalse, List, [], ◌∷◌, Option, Some, None, refl}
 use Rattle.latex2mathml_elements.specs.Element.{Element}
 use Rattle.latex2mathml_tex_grammar.specs.{Atoms.Atom, Delimiters.delimiter_of}
-use Rattle.latex2mathml_tex_grammar.specs.Makes.{Core, number, divider, Scripts, no_scripts, scripted}
+use Rattle.latex2mathml_tex_grammar.specs.Makes.{Core, number, Scripts, no_scripts, scripted}
 use Rattle.latex2mathml_tex_grammar.specs.{Meaning.Beside, Meaning.Change, Next.past_space, Next.follows, Next.next_are, Next.digits_next, Next.refusal_here}
-use Rattle.latex2mathml_tex_grammar.specs.Reading.{Outcome, Read, Refused, ReadsRule, rule_gives, rule_refuses, operand_read, operand_refused, core_read, core_refused, core_missing, core_stopped, atoms_read, atoms_refused, words_read, words_refused, units_taken, units_missing, unit_follows, no_unit_follows, digits_taken, delimiter_taken, delimiter_missing, group_operand, group_refused, digit_operand, other_operand, other_refused, no_operand, operand_at_end, operand_stopped, scripts_end, mark_taken, script_read, script_refused, mark_refused, ReadsAtom, divider_read, divider_refused, on_empty_row, base_read, base_refused, text_ends, never_ended, atoms_stopped, atoms_end, atom_read, atom_refused, rest_read, change_refused, word_stands, group_of_words, formula_read, formula_refused, words_in_alphabet, no_word, word_missing, word_at_end, word_stopped, words_end, words_never_ended, words_stopped, word_read, word_refused, found_taken, found_refused, passed_over, rows_read, rows_refused, ReadsRows, rows_to_end}
+use Rattle.latex2mathml_tex_grammar.specs.Reading.{Outcome, Read, Refused, ReadsRule, rule_gives, rule_refuses, operand_read, operand_refused, core_read, core_refused, core_missing, core_stopped, atoms_read, atoms_refused, words_read, words_refused, units_taken, units_missing, unit_follows, no_unit_follows, digits_taken, delimiter_taken, delimiter_missing, group_operand, group_refused, digit_operand, other_operand, other_refused, no_operand, operand_at_end, operand_stopped, scripts_end, mark_taken, script_read, script_refused, mark_refused, ReadsAtom, on_empty_row, base_read, base_refused, text_ends, never_ended, atoms_stopped, atoms_end, atom_read, atom_refused, rest_read, change_refused, word_stands, group_of_words, formula_read, formula_refused, words_in_alphabet, no_word, word_missing, word_at_end, word_stopped, words_end, words_never_ended, words_stopped, word_read, word_refused, found_taken, found_refused, passed_over, rows_read, rows_refused, ReadsRows, rows_to_end}
 use Rattle.latex2mathml_tex_grammar.specs.Refusal.{Kind, MissingArgument, UnclosedBrace, MissingDelimiter, Refusal, refusal_at}
 use Rattle.latex2mathml_tex_grammar.specs.Rests.{Rest, GoesOnIn, NoRest, finished, rest_of}
 use Rattle.latex2mathml_tex_grammar.specs.Rows.{Operand, Row, empty_row, single}
 use Rattle.latex2mathml_tex_grammar.specs.Rules.{Context, in_context, styled, Ending, InBraces, InDollars, Rule, gives, refuses, reads_operand, reads_core, reads_atoms, reads_words, takes_if, if_follows, takes_digits, takes_delimiter, rule, takes_found, passes_over, reads_rows, TableEnd}
-use Rattle.latex2mathml_tex_grammar.specs.Starts.{ChangeStart, DividerStart, ScriptStart, RuleStart, NoStart, GroupStart, DigitStart, OtherStart, atom_start, operand_start, mark_of, GoesOn, TakesOperand, Forbidden, step_of_mark, step_next, empty_base, ends, unended, is_close, left_behind}
+use Rattle.latex2mathml_tex_grammar.specs.Starts.{ChangeStart, ScriptStart, RuleStart, NoStart, GroupStart, DigitStart, OtherStart, atom_start, operand_start, mark_of, GoesOn, TakesOperand, Forbidden, step_of_mark, step_next, empty_base, ends, unended, is_close, left_behind}
 use Rattle.latex2mathml_elements.specs.Columns.{Columns}
 use Rattle.latex2mathml_tex_grammar.specs.Scanning.{Spot, BeforeRow, Given, Missing, past, scan}
 use Rattle.latex2mathml_tex_grammar.specs.Tables.{Lines}

@@ -1,5 +1,5 @@
 -- A letter or a digit as an operand, by itself or in braces.
-use Rattle.std.proofs.Common.{◌≡◌, ◌∙◌, ℕ, ◌+◌, ◌≤◌, ◌<◌, true, false, suc, List, [], ◌∷◌, None, Option, Some, drop, length, option_map, ap, arith, refl, subst, sym}
+use Rattle.std.proofs.Common.{◌≡◌, ◌∙◌, ℕ, ◌+◌, ◌≤◌, ◌<◌, true, false, suc, List, [], ◌∷◌, None, Some, drop, length, option_map, ap, arith, refl, subst, sym}
 use Rattle.std.proofs.lemmas.Bool.Decides.{nat_tests}
 use Rattle.std.specs.Char.{is_ascii_alphabetic, is_ascii_alphanumeric, is_ascii_digit}
 use Rattle.latex2mathml_elements.specs.Element.{Element}
@@ -7,7 +7,7 @@ use Rattle.latex2mathml_builder.specs.Built.{Built, elements_in}
 use Rattle.latex2mathml_tex_grammar.specs.Atoms.{Atom, Plain, atom}
 use Rattle.latex2mathml_tex_grammar.specs.Makes.{core, letter, no_scripts, number}
 use Rattle.latex2mathml_tex_grammar.specs.{Next.digits_next, Next.past_space, Symbols.Ordinary}
-use Rattle.latex2mathml_tex_grammar.specs.Reading.{Read, ReadsAtom, ReadsAtoms, ReadsOperand, ReadsRule, atom_read, atoms_end, base_read, digit_operand, digits_taken, group_operand, other_operand, rule_gives, scripts_end, units_missing}
+use Rattle.latex2mathml_tex_grammar.specs.Reading.{Read, ReadsAtom, ReadsOperand, ReadsRule, atom_read, atoms_end, base_read, digit_operand, digits_taken, group_operand, other_operand, rule_gives, scripts_end, units_missing}
 use Rattle.latex2mathml_tex_grammar.specs.Makes as makes
 use Rattle.latex2mathml_tex_grammar.specs.Rows.{empty_row, single, with_atom}
 use Rattle.latex2mathml_tex_grammar.specs.Rows as rows
@@ -18,7 +18,7 @@ use Rattle.latex2mathml_tex_grammar.specs.Units.{Character, Close, Next, Open, U
 use Rattle.latex2mathml_tex_commands.specs.Meanings.{alphabet_of, style_of}
 use Rattle.latex2mathml_tex_units.specs.{Left.TakesLone, Left.by_itself, Left.in_braces, Left.unit_count, Left.units_at}
 use Rattle.latex2mathml_tex_units.specs.declared.input.Input.{Input}
-use Rattle.latex2mathml_tex_atoms.specs.{Models.context_of, Models.core_with, Models.operand_with, Models.row_with, Models.script_count, Models.top, Shapes.IsPut}
+use Rattle.latex2mathml_tex_atoms.specs.{Models.context_of, Models.core_with, Models.row_with, Models.script_count, Models.top, Shapes.IsPut}
 use Rattle.latex2mathml_tex_atoms.specs.declared.atoms.{Context.Context, Core.Core, Operand.Operand, Row.Row, Scripts.Scripts}
 use Rattle.latex2mathml_tex.specs.RowCharacters.{ends_or_marks}
 use Rattle.latex2mathml_tex.specs.SymbolOperands.{TookOperand}

@@ -1,4 +1,3 @@
-use Rattle.std.proofs.Common.{◌∙◌}
 use Rattle.latex2mathml_tex.proofs.Answering.{expands_so, reading_of, refuses_text}
 use Rattle.latex2mathml_tex.proofs.convert.Converter.read.Goals as goal
 

@@ -1,8 +1,6 @@
-use Rattle.std.proofs.Common.{◌≡◌, [], IsTrue, ap, arith, refl, reverse, subst, sum_by, sym}
-use Rattle.latex2mathml_tex.specs.{Frames.element_count, declared.parse.Parser.Parser}
-use Rattle.latex2mathml_tex.specs.Steps.{Holds, Ready, are_nested, core_made, first_accepts, start_of}
+use Rattle.std.proofs.Common.{subst, sym}
+use Rattle.latex2mathml_tex.specs.Steps.{Holds, Ready, start_of}
 use Rattle.latex2mathml_tex.specs.declared.parse.Form.TheVariants as form
-use Rattle.latex2mathml_tex.specs.declared.parse.State.TheVariants as state
 use Rattle.latex2mathml_tex.proofs.Answering.{begins, begins_rows}
 use Rattle.latex2mathml_tex.proofs.parse.Parser.finish.Goals as goal
 use Rattle.latex2mathml_tex.proofs.parse.Parser.finish.Goals.{in-Atoms+in_ok-state-in-Atoms, in-Rows+in_ok-state-in-Rows}
