@@ -6,6 +6,7 @@ pub mod ColoredBoxes
 pub mod Commanded
 pub mod Digits
 pub mod Endings
+pub mod Finished
 pub mod HandingOn
 pub mod Leading
 pub mod Making

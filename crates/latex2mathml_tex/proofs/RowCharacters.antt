@@ -1,17 +1,17 @@
 -- Characters that begin atoms in every row.
-use Rattle.std.proofs.Common.{◌≡◌, ◌∙◌, ◌==◌, ◌||◌, ℕ, Bool, true, false, Some, ap, arith, refl, suc, sym}
+use Rattle.std.proofs.Common.{◌≡◌, ◌∙◌, ◌∷◌, ◌==◌, ◌||◌, [], ℕ, Bool, true, false, Some, ap, arith, refl, subst, suc, sym}
 use Rattle.std.proofs.lemmas.Bool.Decides.{nat_tests}
 use Rattle.latex2mathml_builder.specs.Built.{Built, elements_in}
 use Rattle.std.specs.Prelude.{not}
 use Rattle.std.specs.Char.{is_ascii_alphabetic, is_ascii_digit}
 use Rattle.std.specs.Str.{byte}
-use Rattle.latex2mathml_tex_grammar.specs.{Next.past_space, Rules.a_number, Rules.character_rule}
+use Rattle.latex2mathml_tex_grammar.specs.{Next.digits_next, Next.past_space, Rules.a_number, Rules.character_rule}
 use Rattle.latex2mathml_tex_grammar.specs.Rules as rules
 use Rattle.latex2mathml_tex_grammar.specs.Rules.{WholeText, InBraces, InBrackets, InDollars, InDelimiters, InCell, ByName, ByBrace, ByText}
 use Rattle.latex2mathml_tex_grammar.specs.Starts.{RuleStart, atom_start, ends}
 use Rattle.latex2mathml_tex_grammar.specs.Units.{Character, Next, Open}
 use Rattle.latex2mathml_tex_atoms.specs.Models.{context_of, empty_row}
-use Rattle.latex2mathml_tex_units.specs.{Left.unit_count, Left.units_at, Left.units_behind, Taking.unit_of}
+use Rattle.latex2mathml_tex_units.specs.{Left.EndsNumber, Left.unit_count, Left.units_at, Left.units_behind, Taking.unit_of}
 use Rattle.latex2mathml_tex_units.specs.declared.{input.Input.Input, unit.Unit.Unit}
 use Rattle.latex2mathml_tex_units.specs.declared.unit.Piece.TheVariants as piece
 use Rattle.latex2mathml_tex_grammar.specs.{Commands.symbol_of, Makes.core, Makes.takes_limits, Rules.gives, Symbols.Symbol}
@@ -27,7 +27,7 @@ use Rattle.latex2mathml_tex.specs.declared.parse.State.TheVariants as state
 use Rattle.latex2mathml_tex.specs.Levels.{Leads}
 use Rattle.latex2mathml_tex.specs.declared.parse.frames.Ending.TheVariants as ending
 use Rattle.latex2mathml_tex.specs.declared.parse.frames.Frame.TheVariants as frame
-use Rattle.latex2mathml_tex.proofs.{Beginning.group_begins, Beginning.unit_begins, Beginnings.rule_begun, Operands.core_in_row, Putting.put_held, RowAwaits.row_awaits}
+use Rattle.latex2mathml_tex.proofs.{Beginning.group_begins, Beginning.unit_begins, Beginnings.rule_begun, Operands.core_in_row, Putting.past_digits, Putting.past_none, Putting.put_held, RowAwaits.row_awaits}
 
 -- none of six tests
 record None6 (a b c d e f : Bool) : Type 0 where
@@ -205,3 +205,10 @@ module _ (k : rules.Context) (c place : ℕ) (no_digit : is_ascii_digit c ≡ fa
   symbol_rule symbol no_letter plain is =
       let each = symbol_tests c plain in
       rw (no_digit, no_letter, each.first, each.second, each.third, each.fourth, each.fifth, each.sixth, each.seventh, each.eighth, is) refl
+
+-- a number of one digit begins, where no digit and no point come next
+pub lone_digit_begins : (s : Start) (p : Parser) (k : rules.Context) (digit : ℕ) → EndsNumber (left_of p) → Begins (a_number k digit) 0 s p → Begins (gives (core (Makes.number k.alphabet (digit ∷ [])))) 0 s p
+lone_digit_begins s p k digit (none, no_point) g =
+    let one : Begins (rules.after_digits k (digit ∷ (digits_next (left_of p)).0)) 0 s p = past_digits s p p.input (λ more. rules.after_digits k (digit ∷ more)) (rw none refl) g in
+    let whole : Begins (rules.after_digits k (digit ∷ [])) 0 s p = subst (λ d. Begins (rules.after_digits k (digit ∷ d.0)) 0 s p) none one in
+    past_none s p p.input (gives (core (Makes.number k.alphabet (digit ∷ [])))) no_point refl whole

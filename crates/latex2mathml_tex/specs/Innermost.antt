@@ -1,8 +1,8 @@
 -- The innermost frame of a stack of frames.
-use Rattle.std.specs.Prelude.{◌≡◌, ℕ, List, [], ◌∷◌, ◌++◌, None}
+use Rattle.std.specs.Prelude.{◌≡◌, ℕ, Bool, true, false, List, [], ◌∷◌, ◌++◌, None}
 use Rattle.latex2mathml_tex_atoms.specs.Adding.{IsAdded}
 use Rattle.latex2mathml_tex_atoms.specs.declared.atoms.{Context.Context, Core.Core, Row.Row}
-use Rattle.latex2mathml_tex_atoms.specs.Models.{empty_row}
+use Rattle.latex2mathml_tex_atoms.specs.Models.{IsFinished, empty_row}
 use Rattle.latex2mathml_tex_commands.specs.declared.meaning.Style.{Style}
 use Rattle.latex2mathml_tex_commands.specs.declared.meaning.Style.TheVariants as style
 use Rattle.latex2mathml_tex.specs.declared.parse.frames.{Ending.Ending, Frame.Frame}
@@ -43,3 +43,15 @@ pub record IsLonger (core : Core) (old new : List Frame) : Type 0 where
   pub before : old ≡ others ++ frame.Row ending place context row ∷ []
   pub after : new ≡ others ++ frame.Row ending place context longer ∷ []
   pub added : IsAdded context.style core row longer
+
+-- The innermost of these frames was a row with this ending, in which nothing is left to be finished. It was taken off.
+pub record TookRow (ending : Ending) (row : Row) (old new : List Frame) : Type 0 where
+  pub place : ℕ
+  pub context : Context
+  pub before : old ≡ new ++ frame.Row ending place context row ∷ []
+  pub finished : IsFinished row
+
+-- the ending of a row in braces: of an operand, or else of a group
+abbrev pub braced_ending : Bool → Ending
+braced_ending true = ending.Operand
+braced_ending false = ending.Group

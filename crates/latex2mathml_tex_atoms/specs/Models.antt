@@ -1,6 +1,6 @@
 -- What the parser's values are in the definitions. A value holds no elements: its elements are the first of a list that is
 -- given with it, the top one first.
-use Rattle.std.specs.Prelude.{ℕ, ◌+◌, Bool, true, false, List, [], ◌∷◌, drop, option_map, Option, Some, None, take}
+use Rattle.std.specs.Prelude.{◌≡◌, ℕ, ◌+◌, Bool, true, false, List, [], ◌∷◌, drop, option_map, Option, Some, None, take}
 use Rattle.latex2mathml_elements.specs.Element.{Element}
 use Rattle.latex2mathml_attributes.specs.Arounds.{color_of}
 use Rattle.latex2mathml_builder.specs.Stacks.{no_element}
@@ -78,6 +78,10 @@ row_rest row = settled_count row.restyled row.settled + under_count row.under
 -- how many elements a row has
 abbrev pub row_count : Row → ℕ
 row_count row = row.count + row_rest row
+
+-- A row that is whole at its end: no style or color was changed in it, and it is not the lower part of a fraction.
+abbrev pub IsFinished : Row → Type 0
+IsFinished row = (row.restyled ≡ None) × (row.under ≡ None)
 
 -- a row without atoms
 abbrev pub empty_row : Row

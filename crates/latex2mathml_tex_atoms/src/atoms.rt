@@ -5,7 +5,7 @@ ghost use Rattle.latex2mathml_tex_grammar.specs.Atoms;
 ghost use Rattle.latex2mathml_tex_grammar.specs.Makes;
 ghost use Rattle.latex2mathml_tex_grammar.specs.Rows;
 ghost use Rattle.latex2mathml_tex_commands.specs.Meanings.{class_of, limit_place_of, style_of};
-ghost use Rattle.latex2mathml_tex_atoms.specs.Models.{has_script, empty_row, before_of, kind_of};
+ghost use Rattle.latex2mathml_tex_atoms.specs.Models.{IsFinished, has_script, empty_row, before_of, kind_of};
 ghost use Rattle.latex2mathml_tex_atoms.specs.Adding.{IsAdded};
 
 use crate::signs::is_put_as_it_is;
@@ -263,6 +263,15 @@ impl Row {
             settled: 0,
             under: None,
         }
+    }
+
+    /// Whether the row needs no [`finish`](crate::rests::finish): no style or color was changed in it, and it is not the lower
+    /// part of a fraction.
+    #[inline(always)]
+    pub fn is_finished(&self) -> bool
+        ensures { IsTrue result → IsFinished self.now }
+    {
+        self.restyled.is_none() && self.under.is_none()
     }
 
     /// Adds an atom after the others, if its element stays as it is there and no space precedes it. Returns whether the atom was

@@ -104,7 +104,7 @@ pub fn replies<'a>(
     Ok(replies)
 }
 
-/// Appends the reply to the formula that a text holds. The contents of the reply are first written to `room`.
+/// Appends the reply to the formula that a text holds. The reply is first written to `room`.
 fn append_reply<'a>(
     converter: &mut Converter<'a>,
     room: &mut String,
@@ -118,8 +118,13 @@ fn append_reply<'a>(
         × (string_bytes replies.new ≡ string_bytes replies.old ++ reply))) }
 {
     room.clear();
+    room.push_str("mathml\n")?;
     match append_markup(converter, room, macros, text, format) {
-        Ok(()) => append_said(replies, "mathml\n", room.as_str()),
+        Ok(()) => {
+            room.push('\0')?;
+            replies.push_str(room.as_str())?;
+            Ok(())
+        }
         Err(error) => append_refusal(replies, &error, room),
     }
 }

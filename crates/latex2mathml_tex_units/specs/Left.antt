@@ -1,7 +1,7 @@
 -- The units that are left.
-use Rattle.std.specs.Prelude.{◌≡◌, ℕ, suc, List, Option, Some, None, drop, map}
+use Rattle.std.specs.Prelude.{◌≡◌, ℕ, suc, List, [], ◌∷◌, Option, Some, None, drop, map}
 use Rattle.std.specs.Str.{chars}
-use Rattle.latex2mathml_tex_grammar.specs.{Cutting.units_of, Macros.before, Next.next_are, Refusal.refusal_at, Units.Units}
+use Rattle.latex2mathml_tex_grammar.specs.{Cutting.units_of, Macros.before, Next.digits_next, Next.next_are, Refusal.refusal_at, Rules.a_character, Rules.a_digit, Units.Units}
 use Rattle.latex2mathml_tex_grammar.specs.Units as units
 use Rattle.latex2mathml_tex_units.specs.Taking.{kind_of, unit_of}
 use Rattle.latex2mathml_tex_units.specs.declared.{input.Input.Input, macros.whole.End.End, lexer.Lexer.Lexer, unit.Next.Next}
@@ -43,6 +43,10 @@ TakesNone tests old new = (next_are tests (units_at old) ≡ None) × (units_at 
 pub data TakesLone (c : ℕ) : Units → Units → Type 0 where
   by_itself : {u : units.Unit} {l : Units} → u.piece ≡ units.Character c → TakesLone c (units.Next u l) l
   in_braces : {u v w : units.Unit} {l : Units} → u.piece ≡ units.Open → v.piece ≡ units.Character c → w.piece ≡ units.Close → TakesLone c (units.Next u (units.Next v (units.Next w l))) l
+
+-- neither a digit comes next, nor a point and a digit, nor white space before them
+abbrev pub EndsNumber : Units → Type 0
+EndsNumber l = (digits_next l ≡ ([], l)) × (next_are (a_character 46 ∷ a_digit ∷ []) l ≡ None)
 
 -- how many units there are
 abbrev pub unit_count : Units → ℕ

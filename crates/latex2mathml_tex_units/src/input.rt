@@ -4,7 +4,7 @@ ghost use Rattle.std.specs.Char.{is_ascii_alphanumeric};
 ghost use Rattle.latex2mathml_tex_grammar.specs.Delimiters.{delimiter_of, negated_of};
 ghost use Rattle.latex2mathml_tex_grammar.specs.{Dots.centers_dots, Next.follows, Next.past_space};
 ghost use Rattle.latex2mathml_tex_grammar.specs.Rules.{a_character, a_digit, in_brackets};
-ghost use Rattle.latex2mathml_tex_units.specs.{Left.TakesLone, Left.TakesNext, Left.TakesNone, Left.put_back, Left.units_at, Left.units_behind, Left.units_end, Whole.whole_units};
+ghost use Rattle.latex2mathml_tex_units.specs.{Left.EndsNumber, Left.TakesLone, Left.TakesNext, Left.TakesNone, Left.put_back, Left.units_at, Left.units_behind, Left.units_end, Whole.whole_units};
 ghost use Rattle.latex2mathml_tex_grammar.specs.Units as units;
 ghost use Rattle.latex2mathml_tex_commands.specs.Delimiters.{delimiter_text};
 
@@ -205,6 +205,21 @@ impl<'a> Input<'a> {
             return Some(c);
         }
         None
+    }
+
+    /// Whether a number may go on: whether white space, a digit or a point comes next.
+    #[inline(always)]
+    pub fn may_continue_number(&self) -> bool
+        ensures { result ≡ false → EndsNumber (units_at self.now) }
+    {
+        match self.peek() {
+            Next::Unit(unit) => match unit.piece {
+                Piece::Space => true,
+                Piece::Character(c) => c == '.' || c.is_ascii_digit(),
+                Piece::Open | Piece::Close | Piece::Command(_) => false,
+            },
+            Next::End(_) | Next::Fault(_, _) => false,
+        }
     }
 
     /// Takes a digit, if one comes next.

@@ -9,7 +9,7 @@ ghost use Rattle.latex2mathml_tex_units.specs.Errors.{kind_of_error};
 ghost use Rattle.latex2mathml_tex_commands.specs.Meanings.{style_of};
 ghost use Rattle.latex2mathml_tex_atoms.specs.Models.{before_of};
 ghost use Rattle.latex2mathml_tex.specs.Tables.{style_in, table_end};
-ghost use Rattle.latex2mathml_tex.specs.Innermost.{IsInnermost, IsLonger, begun_row, frame_context, frame_row};
+ghost use Rattle.latex2mathml_tex.specs.Innermost.{IsInnermost, IsLonger, TookRow, begun_row, braced_ending, frame_context, frame_row};
 ghost use Rattle.latex2mathml_tex.specs.RowCharacters.{IsRowInnermost};
 ghost use Rattle.latex2mathml_tex_atoms.specs.Models.{empty_row};
 ghost use Rattle.latex2mathml_tex_units.specs.Taking.{piece_of};
@@ -357,6 +357,37 @@ impl Frames {
             Frame::Row(_, _, _, row) => row.add(style, core),
             _ => false,
         }
+    }
+
+    /// Takes off the row of the whole formula and returns it, if it is the innermost frame on the stack and is finished.
+    #[inline(always)]
+    pub(crate) fn take_formula(&mut self) -> Option<Row>
+        ensures { MatchOption result (self.new ≡ self.old)
+            (λ row. TookRow Ending.Text row self.old.stack.items self.new.stack.items) }
+    {
+        let row = match self.stack.as_slice().last() {
+            Some(Frame::Row(Ending::Text, _, _, row)) if row.is_finished() => *row,
+            _ => return None,
+        };
+        self.stack.truncate(self.stack.as_slice().len() - 1);
+        Some(row)
+    }
+
+    /// Takes off the row of a group or an operand in braces, if it is the innermost frame and is finished. Returns whether it is
+    /// an operand, and the row.
+    #[inline(always)]
+    pub(crate) fn take_braced(&mut self) -> Option<(bool, Row)>
+        ensures { MatchOption result (self.new ≡ self.old)
+            (λ braced. TookRow (braced_ending braced.0) braced.1
+            self.old.stack.items self.new.stack.items) }
+    {
+        let braced = match self.stack.as_slice().last() {
+            Some(Frame::Row(Ending::Group, _, _, row)) if row.is_finished() => (false, *row),
+            Some(Frame::Row(Ending::Operand, _, _, row)) if row.is_finished() => (true, *row),
+            _ => return None,
+        };
+        self.stack.truncate(self.stack.as_slice().len() - 1);
+        Some(braced)
     }
 
     /// Takes off the innermost frame, in a formula of this style.

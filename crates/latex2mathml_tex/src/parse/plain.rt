@@ -4,9 +4,12 @@ ghost use Rattle.std.specs.Prelude.{◌≡◌, ◌+◌, IfOk};
 ghost use Rattle.latex2mathml_tex_commands.specs.Meanings.{meaning_of};
 ghost use Rattle.latex2mathml_tex.specs.{Frames.Start, RowCharacters.IsRowInnermost, RowCharacters.ends_or_marks, RowCharacters.is_symbol, RowCommands.begins_atoms};
 ghost use Rattle.latex2mathml_tex.specs.RowSymbols.{IsCommandNext, IsInRow, IsNext, added_state, lone_scripts};
-ghost use Rattle.latex2mathml_tex.specs.Steps.{Advances, Follows, Holds, HoldsIn, LeadsOn, Ready, to_do};
+ghost use Rattle.latex2mathml_tex_grammar.specs.Units as units;
+ghost use Rattle.latex2mathml_tex_units.specs.{Left.units_behind, Taking.unit_of};
+ghost use Rattle.latex2mathml_tex.specs.Steps.{Advances, Follows, Holds, HoldsIn, LeadsOn, Ready, left_of, to_do};
 
 use crate::parse::frames::{Ending, Frame};
+use crate::parse::leaves::{begin_number, number};
 use crate::parse::scripts::mark_of;
 use crate::parse::symbols::{put_letter, put_symbol};
 use crate::parse::{Parser, State};
@@ -14,7 +17,7 @@ use latex2mathml_tex_atoms::atoms::{Context, Core, Row};
 use latex2mathml_tex_commands::commands;
 use latex2mathml_tex_commands::meaning::Meaning;
 use latex2mathml_tex_commands::signs::symbol_of;
-use latex2mathml_tex_units::unit::{Next, Piece};
+use latex2mathml_tex_units::unit::{Next, Piece, Unit};
 use std::alloc::AllocError;
 
 /// What comes next in the innermost row.
@@ -58,8 +61,12 @@ impl<'a> Parser<'a> {
     {
         if c.is_ascii_digit() {
             self.input.advance();
-            let number = self.number(context.alphabet, c)?;
-            return Ok(InRow::Symbol(number));
+            if self.input.may_continue_number() {
+                let number = self.number(context.alphabet, c)?;
+                return Ok(InRow::Symbol(number));
+            }
+            begin_number(&mut self.builder, context.alphabet, c)?;
+            return Ok(InRow::Symbol(number()));
         }
         if c.is_ascii_alphabetic() {
             self.input.advance();
@@ -113,17 +120,34 @@ impl<'a> Parser<'a> {
         self.next_part()
     }
 
-    /// Begins what comes next in the innermost frame. In a row, no frame is copied for a character or a group that begins an
-    /// atom in each row.
+    /// Begins or ends what comes next in the innermost frame. No frame is copied for a character or a group that begins an atom
+    /// in each row, nor where a finished row ends with a brace or with the text.
     #[inline(never)]
     pub(crate) fn begin_next(&mut self) -> Result<State, AllocError>
         requires { Ready self.old State.Next }
         ensures holds { LeadsOn (HoldsIn State.Next) self.old self.new result }
         ensures step { Advances 1 self.old self.new result }
     {
-        if let Some(context) = self.frames.row_context(self.style)
-            && let Next::Unit(unit) = self.input.peek()
-        {
+        match self.input.peek() {
+            Next::Unit(unit) => self.begin_unit(unit),
+            Next::End(at) => self.end_in_row(at),
+            Next::Fault(_, _) => self.next_part(),
+        }
+    }
+
+    /// Begins or ends what this unit, which comes next, begins or ends in the innermost frame.
+    #[inline(always)]
+    fn begin_unit(&mut self, unit: Unit<'a>) -> Result<State, AllocError>
+        requires ready { Ready self.old State.Next }
+        requires next { left_of self.old
+            ≡ units.Next (unit_of unit) (units_behind self.old.input) }
+        ensures holds { LeadsOn (HoldsIn State.Next) self.old self.new result }
+        ensures step { Advances 1 self.old self.new result }
+    {
+        if let Piece::Close = unit.piece {
+            return self.close_brace(unit);
+        }
+        if let Some(context) = self.frames.row_context(self.style) {
             match unit.piece {
                 Piece::Character(c) if !ends_or_marks(c) => {
                     self.input.advance();
@@ -138,6 +162,39 @@ impl<'a> Parser<'a> {
             }
         }
         self.next_part()
+    }
+
+    /// Ends the innermost frame with this closing brace, which comes next.
+    #[inline(always)]
+    fn close_brace(&mut self, unit: Unit<'a>) -> Result<State, AllocError>
+        requires ready { Ready self.old State.Next }
+        requires next { left_of self.old
+            ≡ units.Next (unit_of unit) (units_behind self.old.input) }
+        requires is { unit.piece ≡ Piece.Close }
+        ensures holds { LeadsOn (HoldsIn State.Next) self.old self.new result }
+        ensures step { Advances 1 self.old self.new result }
+    {
+        match self.frames.take_braced() {
+            Some((is_operand, row)) => {
+                self.input.advance();
+                self.close_braces(is_operand, row)
+            }
+            None => self.next_part(),
+        }
+    }
+
+    /// Ends the innermost frame where the text ends.
+    #[inline(always)]
+    fn end_in_row(&mut self, at: usize) -> Result<State, AllocError>
+        requires ready { Ready self.old State.Next }
+        requires end { left_of self.old ≡ units.End at }
+        ensures holds { LeadsOn (HoldsIn State.Next) self.old self.new result }
+        ensures step { Advances 1 self.old self.new result }
+    {
+        match self.frames.take_formula() {
+            Some(row) => Ok(State::End(row.count)),
+            None => self.next_part(),
+        }
     }
 
     /// Adds an atom without scripts, whose element is uppermost, to the innermost row in place, unless a mark comes next or the

@@ -1,9 +1,9 @@
 //! Rows: how each of their atoms begins, how it is put after the others, and how a row ends.
-ghost use Rattle.std.specs.Prelude.{◌≡◌, ◌≢◌, ◌+◌, ◌≤◌, ℕ, false, option_map};
+ghost use Rattle.std.specs.Prelude.{◌≡◌, ◌≢◌, ◌+◌, ◌≤◌, ℕ, false, IfOk, option_map};
 ghost use Rattle.latex2mathml_tex_grammar.specs.{Makes.no_scripts, Meaning.Beside, Rules.character_rule, Rules.meaning_rule, Starts.change_meant, Starts.empty_base, Starts.ends};
 ghost use Rattle.latex2mathml_tex_commands.specs.Meanings.{change_of, meaning_of};
 ghost use Rattle.latex2mathml_tex_units.specs.Taking.{piece_of};
-ghost use Rattle.latex2mathml_tex.specs.Frames.{ending_count, ending_of, Start};
+ghost use Rattle.latex2mathml_tex.specs.{Frames.Start, Frames.ending_count, Frames.ending_of, Innermost.braced_ending};
 ghost use Rattle.latex2mathml_tex_atoms.specs.Models.{context_of, row_count};
 ghost use Rattle.latex2mathml_tex.specs.{RowCharacters.IsRowInnermost, RowCharacters.ends_or_marks, RowCharacters.is_symbol, RowCommands.begins_atoms};
 ghost use Rattle.latex2mathml_tex.specs.Steps.{Awaits, AwaitsAtom, BeginsDivider, BeginsIn, BeginsRest, CanBegin, CanMake, ClosesRow, EndsFormula, EndsRow, EndsText, EndsWithText, HasElements, HoldsIn, InnermostIs, Advances, LeadsOn, MadeAtom, Ready, Took, TookMark, TookUnmarked, atom_made, core_made, ending_weight, level, row_makes, Closes, Follows, Holds, to_do};
@@ -288,17 +288,8 @@ impl<'a> Parser<'a> {
         match ending {
             Ending::Text => unreachable!(),
             Ending::Cell(table) => self.close_cell(table, place, row, unit),
-            Ending::Group => {
-                put_row(&mut self.builder, row.count)?;
-                Ok(State::Core(Core::new(Kind::Plain(Class::Ordinary), row.high)))
-            }
-            Ending::Operand => {
-                put_row(&mut self.builder, row.count)?;
-                Ok(State::Operand(Operand {
-                    class: row.class,
-                    high: row.high,
-                }))
-            }
+            Ending::Group => self.close_braces(false, row),
+            Ending::Operand => self.close_braces(true, row),
             Ending::Degree => {
                 put_row(&mut self.builder, row.count)?;
                 let context = self.frames.innermost(self.style).context();
@@ -321,6 +312,25 @@ impl<'a> Parser<'a> {
                 }))
             }
         }
+    }
+
+    /// Ends a finished row of an operand or a group, whose closing brace was taken.
+    #[inline(always)]
+    pub(crate) fn close_braces(&mut self, is_operand: bool, row: Row) -> Result<State, AllocError>
+        requires { CanMake (row_makes (braced_ending is_operand)) (row.count + 0) self.old }
+        ensures holds { (s : Start) (place : ℕ)
+            → ClosesRow (braced_ending is_operand) place row s self.old
+            → IfOk result (Holds s self.new) }
+        ensures step { Advances 13 self.old self.new result }
+    {
+        put_row(&mut self.builder, row.count)?;
+        if is_operand {
+            return Ok(State::Operand(Operand {
+                class: row.class,
+                high: row.high,
+            }));
+        }
+        Ok(State::Core(Core::new(Kind::Plain(Class::Ordinary), row.high)))
     }
 
     /// Ends a row between delimiters, whose `\right` was taken.

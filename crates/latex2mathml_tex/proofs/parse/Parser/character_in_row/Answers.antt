@@ -1,4 +1,4 @@
-use Rattle.std.proofs.Common.{◌≡◌, ◌∙◌, arith, false, option_map, refl, subst, sym, true}
+use Rattle.std.proofs.Common.{◌≡◌, ◌∙◌, ◌∷◌, [], arith, false, option_map, refl, subst, sym, true}
 use Rattle.std.specs.Char.{is_ascii_alphabetic, is_ascii_digit}
 use Rattle.latex2mathml_tex_grammar.specs.Makes
 use Rattle.latex2mathml_tex_grammar.specs.Makes.{core}
@@ -6,12 +6,12 @@ use Rattle.latex2mathml_tex_commands.specs.Meanings.{alphabet_of, symbol_of}
 use Rattle.latex2mathml_tex_atoms.specs.Models.{context_of}
 use Rattle.latex2mathml_tex.specs.{RowSymbols.lone_scripts, RowCharacters.is_symbol, Steps.Begins}
 use Rattle.latex2mathml_tex.specs.declared.parse.Parser.{Parser}
-use Rattle.latex2mathml_tex.proofs.RowCharacters.{digit_is_plain, digit_rule, letter_is_plain, letter_rule, one_less, scripts_due, scripts_follow, still_innermost, symbol_begins, symbol_is_plain, symbol_put, symbol_rule}
+use Rattle.latex2mathml_tex.proofs.RowCharacters.{digit_is_plain, digit_rule, lone_digit_begins, letter_is_plain, letter_rule, one_less, scripts_due, scripts_follow, still_innermost, symbol_begins, symbol_is_plain, symbol_put, symbol_rule}
 use Rattle.latex2mathml_tex.proofs.RuleSteps.{begun}
 use Rattle.latex2mathml_tex.proofs.parse.Parser.character_in_row.Goals as goal
 
-pub returns-then-is_ascii_digit : goal.returns-then-is_ascii_digit
-returns-then-is_ascii_digit c =
+pub returns-then-may_continue_number : goal.returns-then-may_continue_number
+returns-then-may_continue_number c =
     let p = c.args.self.now in
     let k = c.args.context in
     let i = c.advance.new.self in
@@ -29,6 +29,20 @@ returns-then-is_ascii_digit c =
           scripts_follow new k row number (lone_scripts number) refl s held;
       step = record { ready = due.ready; falls = omega (arith, due.falls, one_less p i u there c.advance.ensures) };
     }
+
+pub returns-then-is_ascii_digit : goal.returns-then-is_ascii_digit
+returns-then-is_ascii_digit c =
+    let p = c.args.self.now in
+    let k = c.args.context in
+    let i = c.advance.new.self in
+    let q : Parser = record p { input = i } in
+    let (u, there, is) = c.requires.next in
+    let digit : is_ascii_digit c.args.c ≡ true = sym c.is_ascii_digit.ensures.value ∙ c.if-is_ascii_digit.true in
+    let made = core (Makes.number (option_map alphabet_of k.alphabet) (c.args.c ∷ [])) in
+    symbol_put p i c.begin_number.new.builder k c.requires.row (one_less p i u there c.advance.ensures) c.number-then-is_ascii_digit.result made
+    (record { element = c.in_ok-begin_number.ensures; is = c.number-then-is_ascii_digit.ensures _ })
+    (λ s h. lone_digit_begins s q (context_of k) c.args.c (c.may_continue_number.ensures c.if-may_continue_number.false) (subst (λ r. Begins r 0 s q) (digit_rule (context_of k) c.args.c u.place digit) (begun (symbol_begins p i u c.args.c there is c.advance.ensures s k c.requires.row (digit_is_plain c.args.c digit) h))))
+    c.requires.ready
 
 pub returns-then-is_ascii_alphabetic : goal.returns-then-is_ascii_alphabetic
 returns-then-is_ascii_alphabetic c =

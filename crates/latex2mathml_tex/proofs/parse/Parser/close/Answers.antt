@@ -1,18 +1,20 @@
 use Rattle.std.proofs.Common.{arith, refl}
 use Rattle.latex2mathml_tex.specs.Steps.{ClosesRow, core_made}
 use Rattle.latex2mathml_tex.specs.declared.parse.frames.Ending.TheVariants as ending
-use Rattle.latex2mathml_tex.proofs.Closing.{arrow_closed, closed_can, core_closed_step, degree_closed, formula_closed, group_closed, operand_closed_step, words_closed_step}
+use Rattle.latex2mathml_tex.proofs.Closing.{arrow_closed, closed_can, degree_closed, formula_closed, words_closed_step}
 use Rattle.latex2mathml_tex.proofs.Rows.{step_within}
 use Rattle.latex2mathml_tex.proofs.parse.Parser.close.Goals as goal
 
-pub returns-in_ok-put_row-in-Group-clause-holds : goal.returns-in_ok-put_row-in-Group-clause-holds
-returns-in_ok-put_row-in-Group-clause-holds c = λ s g.
-    group_closed s c.args.self.now c.put_row.new.builder c.args.place c.args.row c.in_ok-put_row-in-Group.ensures c.new.result (λ x. rw c.new.ensures refl) (rw c.in-Group.is at g)
+pub returns-in-Group-clause-holds : goal.returns-in-Group-clause-holds
+returns-in-Group-clause-holds c = λ s g. c.close_braces.ensures.holds s c.args.place (rw c.in-Group.is at g)
+
+pub returns-in-Operand-clause-holds : goal.returns-in-Operand-clause-holds
+returns-in-Operand-clause-holds c = λ s g. c.close_braces-in-Operand.ensures.holds s c.args.place (rw c.in-Operand.is at g)
 
 pub returns-in_ok-put_row-in-Degree-clause-holds : goal.returns-in_ok-put_row-in-Degree-clause-holds
 returns-in_ok-put_row-in-Degree-clause-holds c = λ s g.
     let h : ClosesRow ending.Degree c.args.place c.args.row s c.args.self.now = rw c.in-Degree.is at g in
-    let due = degree_closed s c.args.self.now c.put_row-in-Degree.new.builder c.args.place c.args.row c.in_ok-put_row-in-Degree.ensures c.innermost.result c.context-context.result c.innermost.ensures c.context-context.ensures h in
+    let due = degree_closed s c.args.self.now c.put_row.new.builder c.args.place c.args.row c.in_ok-put_row-in-Degree.ensures c.innermost.result c.context-context.result c.innermost.ensures c.context-context.ensures h in
     c.open.ensures.holds s h.style due
 
 pub returns-in_ok-put_row-in-BelowArrow-clause-holds : goal.returns-in_ok-put_row-in-BelowArrow-clause-holds
@@ -25,20 +27,12 @@ pub returns-in_ok-put_row-in-Formula-clause-holds : goal.returns-in_ok-put_row-i
 returns-in_ok-put_row-in-Formula-clause-holds c = λ s g.
     formula_closed s c.args.self.now c.put_row-in-Formula.new.builder c.args.place c.args.row c.in_ok-put_row-in-Formula.ensures c.in-Formula.words (rw c.in-Formula.is at g)
 
-pub returns-in_ok-put_row-in-Group-clause-step : goal.returns-in_ok-put_row-in-Group-clause-step
-returns-in_ok-put_row-in-Group-clause-step c =
-    core_closed_step c.args.self.now c.put_row.new.builder c.args.row c.in_ok-put_row-in-Group.ensures c.new.result (rw c.in-Group.is at c.requires.can)
-
-pub returns-in_ok-put_row-in-Operand-clause-step : goal.returns-in_ok-put_row-in-Operand-clause-step
-returns-in_ok-put_row-in-Operand-clause-step c =
-    operand_closed_step c.args.self.now c.put_row-in-Operand.new.builder c.args.row c.in_ok-put_row-in-Operand.ensures _ (rw c.in-Operand.is at c.requires.can)
-
 pub returns-in_ok-put_row-in-Formula-clause-step : goal.returns-in_ok-put_row-in-Formula-clause-step
 returns-in_ok-put_row-in-Formula-clause-step c =
     words_closed_step c.args.self.now c.put_row-in-Formula.new.builder c.args.row c.in_ok-put_row-in-Formula.ensures c.in-Formula.words.count (rw c.in-Formula.is at c.requires.can)
 
 pub open-requires-clause-can : goal.open-requires-clause-can
-open-requires-clause-can c = closed_can c.args.self.now c.put_row-in-Degree.new.builder c.args.row c.in_ok-put_row-in-Degree.ensures core_made 0 (rw c.in-Degree.is at c.requires.can)
+open-requires-clause-can c = closed_can c.args.self.now c.put_row.new.builder c.args.row c.in_ok-put_row-in-Degree.ensures core_made 0 (rw c.in-Degree.is at c.requires.can)
 
 pub open-requires-in-BelowArrow-clause-can : goal.open-requires-in-BelowArrow-clause-can
 open-requires-in-BelowArrow-clause-can c = closed_can c.args.self.now c.put_row-in-BelowArrow.new.builder c.args.row c.in_ok-put_row-in-BelowArrow.ensures core_made 1 (rw c.in-BelowArrow.is at c.requires.can)
@@ -46,7 +40,7 @@ open-requires-in-BelowArrow-clause-can c = closed_can c.args.self.now c.put_row-
 pub returns-in_ok-put_row-in-Degree-clause-step : goal.returns-in_ok-put_row-in-Degree-clause-step
 returns-in_ok-put_row-in-Degree-clause-step c =
     let p = c.args.self.now in
-    step_within p (record p { builder = c.put_row-in-Degree.new.builder }) c.open.new.self c.open.result 6 13 (omega arith) c.open.ensures.step
+    step_within p (record p { builder = c.put_row.new.builder }) c.open.new.self c.open.result 6 13 (omega arith) c.open.ensures.step
 
 pub returns-in_ok-put_row-in-BelowArrow-clause-step : goal.returns-in_ok-put_row-in-BelowArrow-clause-step
 returns-in_ok-put_row-in-BelowArrow-clause-step c =

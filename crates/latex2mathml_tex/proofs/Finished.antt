@@ -1,0 +1,53 @@
+-- Rows that end as they are: nothing in them is left to be finished.
+use Rattle.std.proofs.Common.{◌≡◌, ◌∙◌, ◌+◌, ◌++◌, ◌∷◌, [], ℕ, Bool, true, false, None, List, arith, drop, refl, sym, ap, subst}
+use Rattle.latex2mathml_elements.specs.Element.{Element}
+use Rattle.latex2mathml_tex_grammar.specs.{Next.past_space, Rests.finished}
+use Rattle.latex2mathml_tex_grammar.specs.Reading.{Read}
+use Rattle.latex2mathml_tex_grammar.specs.Starts.{ends}
+use Rattle.latex2mathml_tex_grammar.specs.Units.{Next, End}
+use Rattle.latex2mathml_tex_units.specs.{Left.units_at, Taking.piece_of, Taking.unit_of}
+use Rattle.latex2mathml_tex_commands.specs.Meanings.{style_of}
+use Rattle.latex2mathml_tex.specs.Frames.{Start, Whole, ending_of}
+use Rattle.latex2mathml_tex.specs.Innermost.{IsInnermost, TookRow, braced_ending, on_top}
+use Rattle.latex2mathml_tex_atoms.specs.Models.{IsFinished, row_count, row_with}
+use Rattle.latex2mathml_tex.specs.Steps.{ClosesRow, EndsText, Holds, elements_of, left_of}
+use Rattle.latex2mathml_tex_units.specs.declared.{input.Input.Input, unit.Unit.Unit}
+use Rattle.latex2mathml_tex_units.specs.declared.unit.Piece.TheVariants as piece
+use Rattle.latex2mathml_tex_commands.specs.declared.meaning.Style.{Style}
+use Rattle.latex2mathml_tex_atoms.specs.declared.atoms.Row.{Row}
+use Rattle.latex2mathml_tex.specs.declared.parse.Parser.{Parser}
+use Rattle.latex2mathml_tex.specs.declared.parse.State.TheVariants as state
+use Rattle.latex2mathml_tex.specs.declared.parse.frames.Frames.{Frames}
+use Rattle.latex2mathml_tex.specs.declared.parse.frames.Ending.TheVariants as ending
+use Rattle.latex2mathml_tex.specs.declared.parse.frames.Frame.TheVariants as frame
+use Rattle.latex2mathml_tex.proofs.{NoAtom.row_closed, NoAtom.text_ended, Resting.row_finished}
+
+module _ (style : Style) (row : Row) (xs : List Element) (is : IsFinished row) where
+  as_it_is : row_with row xs ≡ finished (style_of style) (row_with row xs)
+  as_it_is = rw (is.0, is.1) refl
+
+  own_elements : drop row.count xs ≡ drop (row_count row) xs
+  own_elements = let count : row_count row ≡ row.count = rw (is.0, is.1) (omega arith) in rw count refl
+
+module _ (p : Parser) (fr : Frames) (row : Row) (s : Start) (h : Holds s p state.Next) where
+  -- a group or an operand ends with a closing brace
+  pub braces_closed : (is_operand : Bool) (took : TookRow (braced_ending is_operand) row p.frames.stack.items fr.stack.items) (i : Input) (u : Unit) → past_space (left_of p) ≡ Next (unit_of u) (units_at i) → u.piece ≡ piece.Close → ClosesRow (braced_ending is_operand) took.place row s (record p { input = i; frames = fr })
+  braces_closed true took i u next is =
+      let f = frame.Row ending.Operand took.place took.context row in
+      let inner : IsInnermost p.style p.frames.stack.items f fr.stack.items = on_top took.before in
+      let ended = row_closed p ending.Operand took.place row took.context fr.stack.items inner s h i fr f u inner next (rw is refl) in
+      row_finished s (record p { input = i; frames = fr }) p.builder took.context.style row row (as_it_is took.context.style row (elements_of p) took.finished) (own_elements took.context.style row (elements_of p) took.finished) ending.Operand took.place u ended
+  braces_closed false took i u next is =
+      let f = frame.Row ending.Group took.place took.context row in
+      let inner : IsInnermost p.style p.frames.stack.items f fr.stack.items = on_top took.before in
+      let ended = row_closed p ending.Group took.place row took.context fr.stack.items inner s h i fr f u inner next (rw is refl) in
+      row_finished s (record p { input = i; frames = fr }) p.builder took.context.style row row (as_it_is took.context.style row (elements_of p) took.finished) (own_elements took.context.style row (elements_of p) took.finished) ending.Group took.place u ended
+
+  -- the formula ends with the text
+  pub formula_ended : TookRow ending.Text row p.frames.stack.items fr.stack.items → (at : ℕ) → left_of p ≡ End at → Holds s (record p { frames = fr }) (state.End row.count)
+  formula_ended took at end =
+      let f = frame.Row ending.Text took.place took.context row in
+      let inner : IsInnermost p.style p.frames.stack.items f fr.stack.items = on_top took.before in
+      let ended : EndsText ending.Text took.place took.context.style row at s (record p { frames = fr }) = text_ended p ending.Text took.place row took.context fr.stack.items inner s h p.input fr f at inner (ap past_space end) end in
+      let whole = subst (λ r. Whole s (Read r (End at))) (sym (as_it_is took.context.style row (elements_of p) took.finished)) (ended.ends refl).leads in
+      record { style = h.style; claims = (row_with row (elements_of p), at, refl, whole) }
