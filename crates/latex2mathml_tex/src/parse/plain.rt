@@ -165,7 +165,7 @@ impl<'a> Parser<'a> {
     }
 
     /// Ends the innermost frame with this closing brace, which comes next.
-    #[inline(always)]
+    #[inline(never)]
     fn close_brace(&mut self, unit: Unit<'a>) -> Result<State, AllocError>
         requires ready { Ready self.old State.Next }
         requires next { left_of self.old
