@@ -1,5 +1,5 @@
 //! The open frames, and how much of each was read.
-ghost use Rattle.std.specs.Prelude.{◌≡◌, ℕ, ◌∷◌, ◌++◌, [], false, IfSome, IsTrue, List, MatchOption, None, OnOk, if◌then◌else◌, option_map};
+ghost use Rattle.std.specs.Prelude.{◌≡◌, ℕ, ◌∷◌, ◌++◌, [], false, IfSome, IsTrue, List, MatchOption, None, OnOk, Some, if◌then◌else◌, option_map};
 ghost use Rattle.latex2mathml_tex_grammar.specs.Starts.{DividerStart, atom_start, change_by, ends, mark_of, start_of_mark};
 ghost use Rattle.latex2mathml_tex_grammar.specs.{Refusal.refusal_at, Starts.unended, Environments.before_cell, Rules.InCell};
 ghost use Rattle.latex2mathml_elements.specs.Columns.{column_at};
@@ -10,7 +10,7 @@ ghost use Rattle.latex2mathml_tex_commands.specs.Meanings.{style_of};
 ghost use Rattle.latex2mathml_tex_atoms.specs.Models.{before_of};
 ghost use Rattle.latex2mathml_tex.specs.Tables.{style_in, table_end};
 ghost use Rattle.latex2mathml_tex.specs.Innermost.{IsInnermost, IsLonger, TookRow, begun_row, braced_ending, frame_context, frame_row};
-ghost use Rattle.latex2mathml_tex.specs.RowCharacters.{IsRowInnermost};
+ghost use Rattle.latex2mathml_tex.specs.{RowCharacters.IsRowInnermost, Steps.operand_place};
 ghost use Rattle.latex2mathml_tex_atoms.specs.Models.{empty_row};
 ghost use Rattle.latex2mathml_tex_units.specs.Taking.{piece_of};
 
@@ -356,6 +356,23 @@ impl Frames {
         match &mut self.stack[len - 1] {
             Frame::Row(_, _, _, row) => row.add(style, core),
             _ => false,
+        }
+    }
+
+    /// Returns the place of the command or the mark that takes the operand for which the innermost frame waits, if it waits for
+    /// one.
+    #[inline(always)]
+    pub(crate) fn operand_place(&self) -> Option<usize>
+        ensures { IfSome result (λ place. (f : Frame) × (others : List Frame)
+            × (self.now.stack.items ≡ others ++ f ∷ []) × (operand_place f ≡ Some place)) }
+    {
+        match self.stack.as_slice().last() {
+            Some(
+                Frame::Last(_, place, _)
+                | Frame::First(_, place, _)
+                | Frame::Script(_, _, _, place, _),
+            ) => Some(*place),
+            _ => None,
         }
     }
 

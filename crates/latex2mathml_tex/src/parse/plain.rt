@@ -120,14 +120,17 @@ impl<'a> Parser<'a> {
         self.next_part()
     }
 
-    /// Begins or ends what comes next in the innermost frame. No frame is copied for a character or a group that begins an atom
-    /// in each row, nor where a finished row ends with a brace or with the text.
+    /// Begins or ends what comes next in the innermost frame. No frame is copied for an operand, for a character or a group that
+    /// begins an atom in each row, and where a finished row ends with a brace or with the text.
     #[inline(never)]
     pub(crate) fn begin_next(&mut self) -> Result<State, AllocError>
         requires { Ready self.old State.Next }
         ensures holds { LeadsOn (HoldsIn State.Next) self.old self.new result }
         ensures step { Advances 1 self.old self.new result }
     {
+        if let Some(place) = self.frames.operand_place() {
+            return self.next_operand(place);
+        }
         match self.input.peek() {
             Next::Unit(unit) => self.begin_unit(unit),
             Next::End(at) => self.end_in_row(at),
