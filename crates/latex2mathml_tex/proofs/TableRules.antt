@@ -54,7 +54,7 @@ took_some bytes place spot p q text taken is h = subst (λ t. TookText place spo
 
 module _ (p q : Parser) (place : ℕ) (spot : Spot) where
   pub text_refused : (s : Start) (n : ℕ) (then : List ℕ → Rule) → TookText place spot p q None → s.style ≡ style_of p.style → RuleLeads (takes_found spot place then) (CoreMade (level n s p)) (left_of p) → Holds s q state.Refused
-  text_refused s n then (r, (same, (reported, missing))) style k =
+  text_refused s n then (r, (same, (reported, (fewer, missing)))) style k =
       refused_at s p q n r (ap (λ (x : Parser). x.style) same) reported style (core_refuses r (level n s p) (not_found missing k))
 
   module _ (text : List ℕ) (took : TookText place spot p q (Some text)) where

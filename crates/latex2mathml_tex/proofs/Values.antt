@@ -1,5 +1,5 @@
 -- What holds of the parser where a value is taken, or none is.
-use Rattle.std.proofs.Common.{◌≡◌, ℕ, ◌+◌, ◌<◌, ◌≤◌, List, Option, Some, None, Result, refl, sym, ap, subst, ◌∙◌, arith}
+use Rattle.std.proofs.Common.{◌≡◌, ℕ, ◌+◌, ◌<◌, ◌≤◌, List, Option, Some, None, Result, refl, sym, ap, subst}
 use Rattle.std.specs.declared.alloc.AllocError.{AllocError}
 use Rattle.latex2mathml_tex_grammar.specs.{Makes.Core, Reading.Outcome, Reading.Refused, Refusal.Refusal}
 use Rattle.latex2mathml_tex_grammar.specs.Rules.{Rule, takes_found, with_value}
@@ -49,10 +49,7 @@ module _ {A : Type 0} (value : List ℕ → Option A) (no_value : List ℕ → R
   -- a text was taken, or there is none
 
   pub value_missing : TookText place spot p q None → TookValue place spot value no_value p q None
-  value_missing (r, (same, (reported, missing))) =
-      let units : left_of q ≡ left_of p = ap left_of same in
-      let input : q.input ≡ p.input = ap (λ (x : Parser). x.input) same in
-      (r, (same ∙ ap (λ i. record p { input = i; refusal = q.refusal }) (sym input), (reported, (rw units (omega arith), is_missing missing))))
+  value_missing (r, (same, (reported, (fewer, missing)))) = (r, (same, (reported, (fewer, is_missing missing))))
 
   pub text_without_value : (text : List ℕ) (new : Parser) (error : TexError) → TookText place spot p q (Some text) → value text ≡ None → new ≡ record q { refusal = error } → refusal_of error ≡ Some (no_value text) → TookValue place spot value no_value p new None
   text_without_value text new error (same, is) none refuses reported =

@@ -339,10 +339,13 @@ pub record MakesTable (delimiters : Option (Option ℕ × Option ℕ)) (columns 
   pub are : take rows (elements_of p) ≡ lines.last ∷ lines.others
   pub leads : RuleLeads (gives (a_table (option_map delimiter_texts delimiters) (columns_of columns) (style_of own) (context_at (level rows s p)).style lines)) (CoreMade (level rows s p)) (left_of p)
 
--- A text was taken from this spot on, or what is there is refused, and then nothing was taken.
+-- A text was taken from this spot on, or what is there is refused, and then some of it may have been taken.
 abbrev pub TookText : ℕ → Spot → Parser → Parser → Option (List ℕ) → Type 0
 TookText place spot old new (Some text) = (new ≡ record old { input = new.input }) × (scan place (left_of old) spot ≡ Given text (left_of new))
-TookText place spot old new None = (r : Refusal) × ((new ≡ record old { refusal = new.refusal }) × ((refusal_of new.refusal ≡ Some r) × (scan place (left_of old) spot ≡ Missing r)))
+TookText place spot old new None =
+    (r : Refusal)
+    × ((new ≡ record old { input = new.input; refusal = new.refusal })
+    × ((refusal_of new.refusal ≡ Some r) × ((unit_count (left_of new) ≤ unit_count (left_of old)) × (scan place (left_of old) spot ≡ Missing r))))
 
 -- why nothing is taken: what is to be taken is not here, or its text has no value
 pub data NoValue {A : Type 0} (place : ℕ) (spot : Spot) (value : List ℕ → Option A) (no_value : List ℕ → Refusal) (l : Units) : Refusal → Type 0 where

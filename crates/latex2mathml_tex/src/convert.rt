@@ -4,18 +4,16 @@ ghost use Rattle.std.specs.Str.{chars};
 ghost use Rattle.latex2mathml_elements.specs.{Characters.IsAllowed, Dollars.IsDollarFree, Element.children};
 ghost use Rattle.latex2mathml_elements.specs.Annotated.{IsAnnotatedMathElement, alternative_start, annotated_print};
 ghost use Rattle.latex2mathml_elements.specs.Print.{formula_print, math_tag};
-ghost use Rattle.latex2mathml_builder.specs.Built.{elements_in, nothing, uppermost};
+ghost use Rattle.latex2mathml_builder.specs.Built.{elements_in, uppermost};
 ghost use Rattle.latex2mathml_trees.specs.MathSchema.{IsMathElement};
-ghost use Rattle.latex2mathml_tex_units.specs.{Errors.IfRefused, Errors.is_outside_error, MacroTables.AreDefined, MacroTables.Holding};
+ghost use Rattle.latex2mathml_tex_units.specs.{Errors.IfRefused, Errors.is_outside_error, Expanded.expanded_text, MacroTables.AreDefined, MacroTables.Holding};
 ghost use Rattle.latex2mathml_tex.specs.Answers.{IsAnswer, IsAnswerWithSource, IsRefusal, style_in};
-ghost use Rattle.latex2mathml_tex_units.specs.{Left.units_at, Whole.whole_units};
 ghost use Rattle.latex2mathml_tex_commands.specs.Meanings.{style_of};
 ghost use Rattle.latex2mathml_tex.specs.{Frames.ReadsAs, ReadRows.AreUppermost, ReadRows.HasRead, Steps.left_of};
 ghost use Rattle.latex2mathml_tex_atoms.specs.Models.{top};
-ghost use Rattle.latex2mathml_tex_grammar.specs.{Formulas.IsReading, Formulas.ReadsFormula, Formulas.source_text, Makes.is_display, Reading.Refused, Rows.Row};
+ghost use Rattle.latex2mathml_tex_grammar.specs.{Formulas.IsReading, Formulas.source_text, Makes.is_display, Reading.Refused, Rows.Row};
 
 use crate::annotation::{append_alternative, append_annotation};
-use crate::parse::frames::Frames;
 use crate::parse::{Form, Parser};
 use latex2mathml_builder::builder::Builder;
 use latex2mathml_builder::works::Works;
@@ -23,11 +21,8 @@ use latex2mathml_tex_atoms::shapes::put_row;
 use latex2mathml_tex_commands::meaning::Style;
 use latex2mathml_tex_units::error::{TexError, TexErrorKind};
 use latex2mathml_tex_units::macros::table::Macros;
-use latex2mathml_tex_units::macros::whole::Whole;
-use latex2mathml_tex_units::unit::Unit;
 use latex2mathml_tokens::DisplayStyle;
 use std::alloc::{AllocError, Global};
-use std::mem;
 
 /// Converts a formula in LaTeX to a `math` element.
 ///
@@ -115,10 +110,7 @@ pub fn tex_to_mathml_with_source<'a>(
 /// for one lifetime.
 #[derive(Drop)]
 pub struct Converter<'a> {
-    alloc: Global,
-    units: Vec<Unit<'a>>,
-    frames: Frames,
-    builder: Builder,
+    parser: Parser<'a>,
     works: Works,
 }
 
@@ -126,10 +118,7 @@ impl<'a> Converter<'a> {
     /// Creates a converter that has no working memory yet.
     pub fn new(alloc: Global) -> Converter<'a> {
         Converter {
-            alloc,
-            units: Vec::new(alloc),
-            frames: Frames::new(alloc),
-            builder: Builder::new(alloc),
+            parser: Parser::new(alloc),
             works: Works::new(alloc),
         }
     }
@@ -151,7 +140,7 @@ impl<'a> Converter<'a> {
         ensures unchanged { IfRefused result (λ r. string_bytes text.new ≡ string_bytes text.old) }
     {
         let count = self.read(macros, tex, display)?;
-        write_math(&self.builder, count, display, &mut self.works, text)?;
+        write_math(&self.parser.builder, count, display, &mut self.works, text)?;
         Ok(())
     }
 
@@ -171,12 +160,13 @@ impl<'a> Converter<'a> {
         ensures unchanged { IfRefused result (λ r. string_bytes text.new ≡ string_bytes text.old) }
     {
         let count = self.read(macros, tex, display)?;
-        put_row(&mut self.builder, count)?;
-        write_annotated_math(&self.builder, tex, display, &mut self.works, text)?;
+        put_row(&mut self.parser.builder, count)?;
+        write_annotated_math(&self.parser.builder, tex, display, &mut self.works, text)?;
         Ok(())
     }
 
-    /// Reads a formula. Its elements are then the uppermost ones of the builder. Returns how many there are.
+    /// Reads a formula. Its elements are then the uppermost ones of the builder. Returns how many there are. If `&` or `\\` is
+    /// outside of all tables, the formula is read once more, as rows.
     fn read(
         &mut self,
         macros: &Macros<'a>,
@@ -185,60 +175,34 @@ impl<'a> Converter<'a> {
     ) -> Result<usize, TexError>
         ensures reading { Holding macros.now (λ table. IfOk result (λ count. (row : Row)
             × IsReading table (chars tex.now) (style_in display) row
-            × AreUppermost row count (elements_in self.new.builder))) }
+            × AreUppermost row count (elements_in self.new.parser.builder))) }
         ensures refusal { Holding macros.now (λ table.
             IfRefused result (IsRefusal table tex.now (style_in display))) }
     {
-        let room = mem::replace(&mut self.units, Vec::new(self.alloc));
-        let whole = Whole::of_text(self.alloc, macros, tex, room)?;
-        let result = self.read_units(&whole, style_for(display));
-        self.units = whole.units;
-        result
-    }
-
-    /// Reads a formula that expands to these units. If `&` or `\\` is outside of all tables, the formula is read once more, as
-    /// rows.
-    fn read_units(&mut self, whole: &Whole, style: Style) -> Result<usize, TexError>
-        ensures reading { IfOk result (λ count.
-            HasRead (ReadsFormula (style_of style) (whole_units whole.now)) count
-            (elements_in self.new.builder)) }
-        ensures refusal { IfRefused result (λ r.
-            ReadsFormula (style_of style) (whole_units whole.now) (Refused r)) }
-    {
-        let result = self.read_as(Form::Atoms, whole, style);
+        let style = style_for(display);
+        let result = self.read_as(Form::Atoms, macros, tex, style);
         if is_outside_table(&result) {
-            return self.read_as(Form::Rows, whole, style);
+            return self.read_as(Form::Rows, macros, tex, style);
         }
         result
     }
 
-    /// Reads, in this form, a formula that expands to these units.
-    fn read_as(&mut self, form: Form, whole: &Whole, style: Style) -> Result<usize, TexError>
+    /// Reads a formula in this form.
+    fn read_as(
+        &mut self,
+        form: Form,
+        macros: &Macros<'a>,
+        tex: &'a str,
+        style: Style,
+    ) -> Result<usize, TexError>
         ensures reading { IfOk result (λ count.
-            HasRead (ReadsAs form (style_of style) (whole_units whole.now)) count
-            (elements_in self.new.builder)) }
+            HasRead (ReadsAs form (style_of style) (expanded_text macros.now (chars tex.now)))
+            count (elements_in self.new.parser.builder)) }
         ensures refusal { IfRefused result (λ r.
-            ReadsAs form (style_of style) (whole_units whole.now) (Refused r)) }
+            ReadsAs form (style_of style) (expanded_text macros.now (chars tex.now)) (Refused r)) }
     {
-        let mut parser = self.parser(whole, style);
-        let result = read_formula(&mut parser, form);
-        self.frames = mem::replace(&mut parser.frames, Frames::new(self.alloc));
-        self.builder = mem::replace(&mut parser.builder, Builder::new(self.alloc));
-        result
-    }
-
-    /// Returns a parser of these units, with the converter's working memory.
-    fn parser<'w>(&mut self, whole: &'w Whole<'w>, style: Style) -> Parser<'w>
-        ensures units { units_at result.input ≡ whole_units whole.now }
-        ensures style { result.style ≡ style }
-        ensures frames { result.frames.stack.items ≡ [] }
-        ensures builder { result.builder ≡ nothing }
-    {
-        self.frames.clear();
-        self.builder.clear();
-        let frames = mem::replace(&mut self.frames, Frames::new(self.alloc));
-        let builder = mem::replace(&mut self.builder, Builder::new(self.alloc));
-        Parser::new(self.alloc, whole, style, frames, builder)
+        self.parser.restart(macros, tex, style)?;
+        read_formula(&mut self.parser, form)
     }
 }
 

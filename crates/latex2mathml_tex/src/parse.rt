@@ -1,9 +1,11 @@
 //! From units to elements: one loop over a stack of frames. Each step is proved to lead to what the definitions say about the
 //! units that were left before it.
-ghost use Rattle.std.specs.Prelude.{◌≡◌, ◌≢◌, ◌+◌, ℕ, [], IfOk, IsTrue, Some};
+ghost use Rattle.std.specs.Prelude.{◌≡◌, ◌≢◌, ◌+◌, ℕ, [], IfOk, IsTrue, OnOk, Some};
+ghost use Rattle.std.specs.Str.{chars};
+ghost use Rattle.latex2mathml_builder.specs.Built.{nothing};
 ghost use Rattle.latex2mathml_tex_grammar.specs.{Next.past_space, Next.refusal_here};
 ghost use Rattle.latex2mathml_tex_grammar.specs.Refusal.{MissingDelimiter, refusal_at};
-ghost use Rattle.latex2mathml_tex_units.specs.{Errors.refusal_of, Left.units_at, Taking.kind_of, Whole.whole_units};
+ghost use Rattle.latex2mathml_tex_units.specs.{Errors.refusal_of, Expanded.expanded_text, Left.units_at, Taking.kind_of};
 ghost use Rattle.latex2mathml_tex_commands.specs.Meanings.{style_of};
 ghost use Rattle.latex2mathml_tex.specs.{Frames.Start, Frames.element_count, Levels.Leads};
 ghost use Rattle.latex2mathml_tex.specs.Steps.{CanMake, Holds, HoldsIn, Advances, LeadsOn, Ready, accepts, core_made, frame_weight, last_state, left_of, level_within, makes, start_of, state_weight};
@@ -33,7 +35,7 @@ use latex2mathml_tex_atoms::atoms::{Core, Operand, Scripts, Words};
 use latex2mathml_tex_commands::meaning::{Alphabet, Style};
 use latex2mathml_tex_units::error::{TexError, TexErrorKind};
 use latex2mathml_tex_units::input::Input;
-use latex2mathml_tex_units::macros::whole::Whole;
+use latex2mathml_tex_units::macros::table::Macros;
 use latex2mathml_tex_units::unit::{Fault, Next};
 use std::alloc::{AllocError, Global};
 use std::mem;
@@ -82,27 +84,37 @@ pub(crate) struct Parser<'a> {
 }
 
 impl<'a> Parser<'a> {
-    /// Creates a parser that has read none of these units, and works with these frames and this builder.
-    pub(crate) fn new(
-        alloc: Global,
-        whole: &'a Whole<'a>,
-        style: Style,
-        frames: Frames,
-        builder: Builder,
-    ) -> Parser<'a>
-        ensures units { units_at result.input ≡ whole_units whole.now }
-        ensures style { result.style ≡ style }
-        ensures frames { result.frames ≡ frames }
-        ensures builder { result.builder ≡ builder }
-    {
+    /// Creates a parser that has nothing to read yet.
+    pub(crate) fn new(alloc: Global) -> Parser<'a> {
         Parser {
             alloc,
-            input: Input::new(whole),
-            style,
-            frames,
-            builder,
+            input: Input::new(alloc),
+            style: Style::InText,
+            frames: Frames::new(alloc),
+            builder: Builder::new(alloc),
             refusal: TexError::out_of_memory(),
         }
+    }
+
+    /// Begins to read a formula in this style, in which these macros hold, whatever was read before. The working memory is used
+    /// again.
+    pub(crate) fn restart(
+        &mut self,
+        macros: &Macros<'a>,
+        tex: &'a str,
+        style: Style,
+    ) -> Result<(), AllocError>
+        ensures units { OnOk result (left_of self.new
+            ≡ expanded_text macros.now (chars tex.now)) }
+        ensures style { OnOk result (self.new.style ≡ style) }
+        ensures frames { OnOk result (self.new.frames.stack.items ≡ []) }
+        ensures builder { OnOk result (self.new.builder ≡ nothing) }
+    {
+        self.input.refill(self.alloc, macros, tex)?;
+        self.style = style;
+        self.frames.clear();
+        self.builder.clear();
+        Ok(())
     }
 
     /// Runs until the formula is read or refused. Returns how many elements it has, or `None` if it is refused.

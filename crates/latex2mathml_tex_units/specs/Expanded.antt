@@ -1,10 +1,14 @@
--- The expanded units that are left.
+-- The units that a text expands to, and those of them that are left.
 use Rattle.std.specs.Prelude.{◌≡◌, ℕ, Bool, true, false, List, Option, Some, None, Result, Ok, Err, ⊤}
-use Rattle.latex2mathml_tex_grammar.specs.{Expanding.expansion, Expansion.Turn, Expansion.Stays, Expansion.Turns, Expansion.Fails, Expansion.turn, Macros.SameMacros, Macros.Table, Refusal.refusal_at}
+use Rattle.latex2mathml_tex_grammar.specs.{Cutting.units_of, Expanding.expansion, Expansion.most_units, Expansion.most_uses, Expansion.Turn, Expansion.Stays, Expansion.Turns, Expansion.Fails, Expansion.turn, Macros.SameMacros, Macros.Table, Refusal.refusal_at}
 use Rattle.latex2mathml_tex_grammar.specs.Units as units
-use Rattle.latex2mathml_tex_units.specs.{Pending.pending_units, MacroTables.table_of, Taking.kind_of}
-use Rattle.latex2mathml_tex_units.specs.declared.{macros.expander.Expander.Expander, macros.halt.Halt.Halt, unit.Fault.Fault}
+use Rattle.latex2mathml_tex_units.specs.{Pending.pending_units, MacroTables.macros_in, MacroTables.table_of, Taking.kind_of}
+use Rattle.latex2mathml_tex_units.specs.declared.{macros.expander.Expander.Expander, macros.halt.Halt.Halt, macros.table.Macros.Macros, unit.Fault.Fault}
 use Rattle.latex2mathml_tex_units.specs.declared.macros.halt.Halt.TheVariants as halt
+
+-- the units that a text expands to, in which these macros hold
+abbrev pub expanded_text : Macros → List ℕ → units.Units
+expanded_text macros text = expansion (macros_in macros) most_uses most_units (units_of 0 text)
 
 -- only the refusal, if there was one; otherwise these units
 abbrev pub after_refusal : Option (Fault × ℕ) → units.Units → units.Units

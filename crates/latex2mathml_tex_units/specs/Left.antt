@@ -1,5 +1,5 @@
 -- The units that are left.
-use Rattle.std.specs.Prelude.{◌≡◌, ℕ, suc, List, [], ◌∷◌, Option, Some, None, drop, map}
+use Rattle.std.specs.Prelude.{◌≡◌, ℕ, suc, ◌+◌, List, [], ◌∷◌, Option, Some, None, drop, map}
 use Rattle.std.specs.Str.{chars}
 use Rattle.latex2mathml_tex_grammar.specs.{Cutting.units_of, Macros.before, Next.digits_next, Next.next_are, Refusal.refusal_at, Rules.a_character, Rules.a_digit, Units.Units}
 use Rattle.latex2mathml_tex_grammar.specs.Units as units
@@ -25,11 +25,15 @@ units_end (end.Fault fault place) = units.Stop (refusal_at (kind_of fault) place
 
 -- the units that an input has left
 abbrev pub units_at : Input → Units
-units_at i = before (map unit_of i.rest.now) (units_end i.end)
+units_at i = before (map unit_of (drop i.taken i.units.items)) (units_end i.end)
 
 -- the units that are left after the next one, if there is one
 abbrev pub units_behind : Input → Units
-units_behind i = before (map unit_of (drop 1 i.rest.now)) (units_end i.end)
+units_behind i = before (map unit_of (drop (i.taken + 1) i.units.items)) (units_end i.end)
+
+-- the inputs are of the same units, of which another number may have been taken
+abbrev pub SameUnits : Input → Input → Type 0
+SameUnits old new = (new.units ≡ old.units) × (new.end ≡ old.end)
 
 -- units that pass these tests came next and were taken: this is their text
 abbrev pub TakesNext : List (units.Piece → Option (List ℕ)) → List ℕ → Input → Input → Type 0

@@ -17,4 +17,3 @@ pub mod Standing
 pub mod Taking
 pub mod Texts
 pub mod TurningForms
-pub mod Whole

@@ -4,7 +4,7 @@ ghost use Rattle.latex2mathml_tex_grammar.specs.{Delimiters.delimiter_of, Next.n
 ghost use Rattle.latex2mathml_tex_grammar.specs.Refusal.{MissingDelimiter, refusal_at};
 ghost use Rattle.latex2mathml_tex_grammar.specs.Rules.{a_left_brace, a_right_brace, an_outer_delimiter, empty_braces};
 ghost use Rattle.latex2mathml_tex_commands.specs.Delimiters.{delimiter_text};
-ghost use Rattle.latex2mathml_tex_units.specs.Left.{unit_count, units_at};
+ghost use Rattle.latex2mathml_tex_units.specs.Left.{SameUnits, unit_count, units_at};
 ghost use Rattle.latex2mathml_tex_units.specs.HandedOn.{HandsOn, Stops};
 
 use crate::input::Input;
@@ -43,14 +43,14 @@ impl<'a> Input<'a> {
             (λ d. next_are (a_left_brace ∷ delimiter_of ∷ a_right_brace ∷ []) (units_at self.old)
             ≡ Some (delimiter_text d ++ [], units_at self.new)) }
     {
-        let mut ahead = *self;
-        if ahead.take_left_brace()
-            && let Some(delimiter) = ahead.take_delimiter()
-            && ahead.take_right_brace()
+        let start = self.taken;
+        if self.take_left_brace()
+            && let Some(delimiter) = self.take_delimiter()
+            && self.take_right_brace()
         {
-            *self = ahead;
             return Some(delimiter);
         }
+        self.taken = start;
         None
     }
 
@@ -61,49 +61,51 @@ impl<'a> Input<'a> {
             ((next_are empty_braces (units_at self.old) ≡ None)
             × (units_at self.new ≡ units_at self.old)) }
     {
-        let mut ahead = *self;
-        if ahead.take_left_brace() && ahead.take_right_brace() {
-            *self = ahead;
+        let start = self.taken;
+        if self.take_left_brace() && self.take_right_brace() {
             return true;
         }
+        self.taken = start;
         false
     }
 
     /// Takes an opening brace, if one comes next.
     fn take_left_brace(&mut self) -> bool
-        ensures { MatchBool result
+        ensures next { MatchBool result
             (next_are (a_left_brace ∷ []) (units_at self.old) ≡ Some ([], units_at self.new))
             ((next_are (a_left_brace ∷ []) (units_at self.old) ≡ None)
             × (units_at self.new ≡ units_at self.old)) }
+        ensures same { SameUnits self.old self.new }
     {
-        let mut ahead = *self;
-        ahead.skip_space();
-        if let Next::Unit(unit) = ahead.peek()
+        let start = self.taken;
+        self.skip_space();
+        if let Next::Unit(unit) = self.peek()
             && let Piece::Open = unit.piece
         {
-            ahead.advance();
-            *self = ahead;
+            self.advance();
             return true;
         }
+        self.taken = start;
         false
     }
 
     /// Takes a closing brace, if one comes next.
     fn take_right_brace(&mut self) -> bool
-        ensures { MatchBool result
+        ensures next { MatchBool result
             (next_are (a_right_brace ∷ []) (units_at self.old) ≡ Some ([], units_at self.new))
             ((next_are (a_right_brace ∷ []) (units_at self.old) ≡ None)
             × (units_at self.new ≡ units_at self.old)) }
+        ensures same { SameUnits self.old self.new }
     {
-        let mut ahead = *self;
-        ahead.skip_space();
-        if let Next::Unit(unit) = ahead.peek()
+        let start = self.taken;
+        self.skip_space();
+        if let Next::Unit(unit) = self.peek()
             && let Piece::Close = unit.piece
         {
-            ahead.advance();
-            *self = ahead;
+            self.advance();
             return true;
         }
+        self.taken = start;
         false
     }
 }

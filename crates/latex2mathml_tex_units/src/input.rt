@@ -1,22 +1,28 @@
 //! The units that are left.
-ghost use Rattle.std.specs.Prelude.{◌≡◌, ◌∷◌, [], false, IfSome, IsTrue, MatchBool, MatchOption, None, Some};
+ghost use Rattle.std.specs.Prelude.{◌≡◌, ◌∷◌, [], false, IfSome, IsTrue, MatchBool, MatchOption, None, OnOk, Some};
 ghost use Rattle.std.specs.Char.{is_ascii_alphanumeric};
+ghost use Rattle.std.specs.Str.{chars};
 ghost use Rattle.latex2mathml_tex_grammar.specs.Delimiters.{delimiter_of, negated_of};
 ghost use Rattle.latex2mathml_tex_grammar.specs.{Dots.centers_dots, Next.follows, Next.past_space};
 ghost use Rattle.latex2mathml_tex_grammar.specs.Rules.{a_character, a_digit, in_brackets};
-ghost use Rattle.latex2mathml_tex_units.specs.{Left.EndsNumber, Left.TakesLone, Left.TakesNext, Left.TakesNone, Left.put_back, Left.units_at, Left.units_behind, Left.units_end, Whole.whole_units};
+ghost use Rattle.latex2mathml_tex_units.specs.Left.{EndsNumber, SameUnits, TakesLone, TakesNext, TakesNone, put_back, units_at, units_behind, units_end};
+ghost use Rattle.latex2mathml_tex_units.specs.Expanded.{expanded_text};
 ghost use Rattle.latex2mathml_tex_grammar.specs.Units as units;
 ghost use Rattle.latex2mathml_tex_commands.specs.Delimiters.{delimiter_text};
 
 use crate::delimiters::{delimiter_of, negated_of};
 use crate::dots::centers_dots;
-use crate::macros::whole::{End, Whole};
+use crate::macros::table::Macros;
+use crate::macros::whole::{End, list_units};
 use crate::unit::{Next, Piece, Unit};
+use std::alloc::{AllocError, Global};
 
-/// The units that are left.
-#[derive(Clone, Copy)]
+/// The units of a formula, of which the first ones were taken. What is taken is only counted, so that it can be put back.
+#[derive(Drop)]
 pub struct Input<'a> {
-    rest: &'a [Unit<'a>],
+    units: Vec<Unit<'a>>,
+    /// How many units were taken.
+    pub(crate) taken: usize,
     /// How the units end.
     end: End,
 }
@@ -34,14 +40,30 @@ impl End {
 }
 
 impl<'a> Input<'a> {
-    /// Creates an input of all of these units.
-    pub fn new(whole: &'a Whole<'a>) -> Input<'a>
-        ensures { units_at result ≡ whole_units whole.now }
+    /// Creates an input of no units, as of an empty text.
+    pub fn new(alloc: Global) -> Input<'a>
+        ensures { units_at result ≡ units.End 0 }
     {
         Input {
-            rest: &whole.units,
-            end: whole.end,
+            units: Vec::new(alloc),
+            taken: 0,
+            end: End::Text(0),
         }
+    }
+
+    /// Replaces all units by those that a text expands to, in which these macros hold. The memory is used again. Fails only if
+    /// memory runs out.
+    pub fn refill(
+        &mut self,
+        alloc: Global,
+        macros: &Macros<'a>,
+        text: &'a str,
+    ) -> Result<(), AllocError>
+        ensures { OnOk result (units_at self.new ≡ expanded_text macros.now (chars text.now)) }
+    {
+        self.taken = 0;
+        self.end = list_units(alloc, macros, text, &mut self.units)?;
+        Ok(())
     }
 
     /// Returns what is next.
@@ -49,25 +71,27 @@ impl<'a> Input<'a> {
     pub fn peek(&self) -> Next<'a>
         ensures { units_at self.now ≡ put_back result (units_behind self.now) }
     {
-        match self.rest {
-            [unit, ..] => Next::Unit(*unit),
-            [] => self.end.next(),
+        match self.units.as_slice().get(self.taken) {
+            Some(unit) => Next::Unit(*unit),
+            None => self.end.next(),
         }
     }
 
     /// Skips the next unit, if there is one.
     #[inline(always)]
     pub fn advance(&mut self)
-        ensures { units_at self.new ≡ units_behind self.old }
+        ensures left { units_at self.new ≡ units_behind self.old }
+        ensures same { SameUnits self.old self.new }
     {
-        if let [_, rest @ ..] = self.rest {
-            self.rest = rest;
+        if self.taken < self.units.as_slice().len() {
+            self.taken += 1;
         }
     }
 
     /// Skips white space.
     pub fn skip_space(&mut self)
-        ensures { units_at self.new ≡ past_space (units_at self.old) }
+        ensures left { units_at self.new ≡ past_space (units_at self.old) }
+        ensures same { SameUnits self.old self.new }
     {
         'space: while let Next::Unit(
             Unit {
@@ -80,33 +104,37 @@ impl<'a> Input<'a> {
         }
     }
 
-    /// Whether dots before what comes next are in the middle of the line.
-    pub fn centers_dots(&self) -> bool
-        ensures { result ≡ follows centers_dots (units_at self.now) }
+    /// Whether dots before what comes next are in the middle of the line. Takes nothing.
+    pub fn centers_dots(&mut self) -> bool
+        ensures answer { result ≡ follows centers_dots (units_at self.old) }
+        ensures unchanged { self.new ≡ self.old }
     {
-        let mut ahead = *self;
-        ahead.skip_space();
-        match ahead.peek() {
+        let start = self.taken;
+        self.skip_space();
+        let centered = match self.peek() {
             Next::Unit(unit) => centers_dots(unit.piece),
             Next::End(_) | Next::Fault(_, _) => false,
-        }
+        };
+        self.taken = start;
+        centered
     }
 
     /// Takes a delimiter, if one comes next. Otherwise skips nothing.
     pub fn take_delimiter(&mut self) -> Option<Option<char>>
-        ensures { MatchOption result
+        ensures next { MatchOption result
             (TakesNone (delimiter_of ∷ []) self.old self.new)
             (λ d. TakesNext (delimiter_of ∷ []) (delimiter_text d) self.old self.new) }
+        ensures same { SameUnits self.old self.new }
     {
-        let mut ahead = *self;
-        ahead.skip_space();
-        if let Next::Unit(unit) = ahead.peek()
+        let start = self.taken;
+        self.skip_space();
+        if let Next::Unit(unit) = self.peek()
             && let Some(delimiter) = delimiter_of(unit.piece)
         {
-            ahead.advance();
-            *self = ahead;
+            self.advance();
             return Some(delimiter);
         }
+        self.taken = start;
         None
     }
 
@@ -116,23 +144,24 @@ impl<'a> Input<'a> {
             (TakesNone (negated_of ∷ []) self.old self.new)
             (λ c. TakesNext (negated_of ∷ []) (delimiter_text (Some c)) self.old self.new) }
     {
-        let mut ahead = *self;
-        ahead.skip_space();
-        if let Next::Unit(unit) = ahead.peek()
+        let start = self.taken;
+        self.skip_space();
+        if let Next::Unit(unit) = self.peek()
             && let Some(sign) = negated_of(unit.piece)
         {
-            ahead.advance();
-            *self = ahead;
+            self.advance();
             return Some(sign);
         }
+        self.taken = start;
         None
     }
 
     /// Takes this ASCII character, if it comes next.
     pub fn take_character(&mut self, c: char) -> bool
-        ensures { MatchBool result
+        ensures next { MatchBool result
             (TakesNext (a_character c ∷ []) (c ∷ []) self.old self.new)
             (TakesNone (a_character c ∷ []) self.old self.new) }
+        ensures same { SameUnits self.old self.new }
     {
         if let Next::Unit(unit) = self.peek()
             && let Piece::Character(d) = unit.piece
@@ -148,20 +177,21 @@ impl<'a> Input<'a> {
 
     /// Takes this ASCII character, if it comes next, possibly after white space.
     fn take_character_past_space(&mut self, c: char) -> bool
-        ensures { MatchBool result
+        ensures next { MatchBool result
             (TakesNext (a_character c ∷ []) (c ∷ []) self.old self.new)
             (TakesNone (a_character c ∷ []) self.old self.new) }
+        ensures same { SameUnits self.old self.new }
     {
-        let mut ahead = *self;
-        ahead.skip_space();
-        if let Next::Unit(unit) = ahead.peek()
+        let start = self.taken;
+        self.skip_space();
+        if let Next::Unit(unit) = self.peek()
             && let Piece::Character(d) = unit.piece
             && c == d
         {
-            ahead.advance();
-            *self = ahead;
+            self.advance();
             return true;
         }
+        self.taken = start;
         false
     }
 
@@ -171,11 +201,11 @@ impl<'a> Input<'a> {
             (TakesNext (in_brackets c) (91 ∷ c ∷ 93 ∷ []) self.old self.new)
             (TakesNone (in_brackets c) self.old self.new) }
     {
-        let mut ahead = *self;
-        if ahead.take_character('[') && ahead.take_character(c) && ahead.take_character(']') {
-            *self = ahead;
+        let start = self.taken;
+        if self.take_character('[') && self.take_character(c) && self.take_character(']') {
             return true;
         }
+        self.taken = start;
         false
     }
 
@@ -186,22 +216,25 @@ impl<'a> Input<'a> {
             (λ c. TakesLone c (units_at self.old) (units_at self.new)) }
         ensures kind { IfSome result (λ c. IsTrue (is_ascii_alphanumeric c)) }
     {
-        if let [first, rest @ ..] = self.rest
-            && let Piece::Character(c) = first.piece
-        {
+        let units = self.units.as_slice();
+        let taken = self.taken;
+        if taken >= units.len() {
+            return None;
+        }
+        if let Piece::Character(c) = units[taken].piece {
             if !c.is_ascii_alphanumeric() {
                 return None;
             }
-            self.rest = rest;
+            self.taken = taken + 1;
             return Some(c);
         }
-        if let [first, second, third, rest @ ..] = self.rest
-            && let Piece::Open = first.piece
-            && let Piece::Character(c) = second.piece
-            && let Piece::Close = third.piece
+        if units.len() - taken >= 3
+            && let Piece::Open = units[taken].piece
+            && let Piece::Character(c) = units[taken + 1].piece
+            && let Piece::Close = units[taken + 2].piece
             && c.is_ascii_alphanumeric()
         {
-            self.rest = rest;
+            self.taken = taken + 3;
             return Some(c);
         }
         None
@@ -225,9 +258,10 @@ impl<'a> Input<'a> {
     /// Takes a digit, if one comes next.
     #[inline(always)]
     pub fn take_digit(&mut self) -> Option<char>
-        ensures { MatchOption result
+        ensures next { MatchOption result
             (TakesNone (a_digit ∷ []) self.old self.new)
             (λ c. TakesNext (a_digit ∷ []) (c ∷ []) self.old self.new) }
+        ensures same { SameUnits self.old self.new }
     {
         if let Next::Unit(unit) = self.peek()
             && let Piece::Character(c) = unit.piece
@@ -243,20 +277,21 @@ impl<'a> Input<'a> {
 
     /// Takes a digit, if one comes next, possibly after white space.
     fn take_digit_past_space(&mut self) -> Option<char>
-        ensures { MatchOption result
+        ensures next { MatchOption result
             (TakesNone (a_digit ∷ []) self.old self.new)
             (λ c. TakesNext (a_digit ∷ []) (c ∷ []) self.old self.new) }
+        ensures same { SameUnits self.old self.new }
     {
-        let mut ahead = *self;
-        ahead.skip_space();
-        if let Next::Unit(unit) = ahead.peek()
+        let start = self.taken;
+        self.skip_space();
+        if let Next::Unit(unit) = self.peek()
             && let Piece::Character(c) = unit.piece
             && c.is_ascii_digit()
         {
-            ahead.advance();
-            *self = ahead;
+            self.advance();
             return Some(c);
         }
+        self.taken = start;
         None
     }
 
@@ -272,13 +307,13 @@ impl<'a> Input<'a> {
         {
             return None;
         }
-        let mut ahead = *self;
-        if ahead.take_character('.')
-            && let Some(digit) = ahead.take_digit()
+        let start = self.taken;
+        if self.take_character('.')
+            && let Some(digit) = self.take_digit()
         {
-            *self = ahead;
             return Some(digit);
         }
+        self.taken = start;
         None
     }
 }

@@ -1,7 +1,7 @@
 //! Names, columns and lengths, which are found among the units that are left and taken or skipped.
-ghost use Rattle.std.specs.Prelude.{◌≡◌, IfOk, OnOk, string_bytes};
+ghost use Rattle.std.specs.Prelude.{◌≡◌, ◌≤◌, IfOk, OnOk, string_bytes};
 ghost use Rattle.latex2mathml_tex_grammar.specs.Scanning.{past, past_break, scan};
-ghost use Rattle.latex2mathml_tex_units.specs.{Left.units_at, Scans.IsFound, Scans.behind_text, Scans.spot_of};
+ghost use Rattle.latex2mathml_tex_units.specs.{Left.SameUnits, Left.unit_count, Left.units_at, Scans.IsFound, Scans.behind_text, Scans.spot_of};
 
 use crate::error::{TexError, TexErrorKind};
 use crate::input::Input;
@@ -18,9 +18,11 @@ impl<'a> Input<'a> {
         spot: Spot,
         text: &mut String,
     ) -> Result<Option<TexError>, AllocError>
-        ensures { IfOk result (λ error. IsFound error (string_bytes text.new) (units_at self.new)
-            (behind_text (string_bytes text.old)
+        ensures found { IfOk result (λ error. IsFound error (string_bytes text.new)
+            (units_at self.new) (behind_text (string_bytes text.old)
             (scan place (units_at self.old) (spot_of spot)))) }
+        ensures fewer { unit_count (units_at self.new) ≤ unit_count (units_at self.old) }
+        ensures same { SameUnits self.old self.new }
     {
         let mut spot = spot;
         'units: loop {
@@ -63,10 +65,10 @@ impl<'a> Input<'a> {
     pub fn pass(&mut self, alloc: Global, spot: Spot) -> Result<(), AllocError>
         ensures { OnOk result (units_at self.new ≡ past (spot_of spot) (units_at self.old)) }
     {
-        let mut ahead = *self;
+        let start = self.taken;
         let mut text = String::new(alloc);
-        if ahead.scan(0, spot, &mut text)?.is_none() {
-            *self = ahead;
+        if self.scan(0, spot, &mut text)?.is_some() {
+            self.taken = start;
         }
         Ok(())
     }

@@ -40,7 +40,7 @@ enum CellEnd {
 
 impl<'a> Parser<'a> {
     /// Takes the text that is found from this spot on. If it is not here, the formula is refused and `None` is
-    /// returned.
+    /// returned: a part of it may then have been taken.
     pub(crate) fn take_text(
         &mut self,
         place: usize,
@@ -50,12 +50,10 @@ impl<'a> Parser<'a> {
             (option_map string_bytes text)) }
     {
         let mut text = String::new(self.alloc);
-        let mut ahead = self.input;
-        if let Some(error) = ahead.scan(place, spot, &mut text)? {
+        if let Some(error) = self.input.scan(place, spot, &mut text)? {
             self.refusal = error;
             return Ok(None);
         }
-        self.input = ahead;
         Ok(Some(text))
     }
 

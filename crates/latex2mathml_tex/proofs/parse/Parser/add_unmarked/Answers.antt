@@ -11,11 +11,11 @@ use Rattle.latex2mathml_tex.proofs.parse.Parser.add_unmarked.Goals.{in-Unit+in_d
 
 pub returns-in-Some-clause-holds : goal.returns-in-Some-clause-holds
 returns-in-Some-clause-holds c = λ s h.
-    marks_held c.args.self.now c.args.core c.skip_space.new.self c.skip_space.ensures c.args.self.now.frames refl s h
+    marks_held c.args.self.now c.args.core c.skip_space.new.self c.skip_space.ensures.left c.args.self.now.frames refl s h
 
 pub returns-in-Some-clause-step : goal.returns-in-Some-clause-step
 returns-in-Some-clause-step c =
-    marks_follow c.args.self.now c.args.core c.skip_space.new.self c.skip_space.ensures c.args.self.now.frames refl c.requires
+    marks_follow c.args.self.now c.args.core c.skip_space.new.self c.skip_space.ensures.left c.args.self.now.frames refl c.requires
 
 pub returns-clause-holds : goal.returns-clause-holds
 returns-clause-holds c = λ s h.
@@ -30,8 +30,8 @@ returns-clause-holds c = λ s h.
       ]
     ] in
     by_test (λ b. Holds s (record p { input = i; frames = c.add.new.self }) (added_state b core)) c.add.result
-    (λ t. added_held p core i c.skip_space.ensures c.add.new.self (c.add.ensures.added t) c.requires s c.peek.result c.peek.ensures none h)
-    (λ f. marks_held p core i c.skip_space.ensures c.add.new.self (c.add.ensures.unchanged f) s h)
+    (λ t. added_held p core i c.skip_space.ensures.left c.add.new.self (c.add.ensures.added t) c.requires s c.peek.result c.peek.ensures none h)
+    (λ f. marks_held p core i c.skip_space.ensures.left c.add.new.self (c.add.ensures.unchanged f) s h)
 
 pub returns-clause-step : goal.returns-clause-step
 returns-clause-step c =
@@ -39,5 +39,5 @@ returns-clause-step c =
     let core = c.args.core in
     let i = c.skip_space.new.self in
     by_test (λ b. Follows (to_do p + 3) (record p { input = i; frames = c.add.new.self }) (added_state b core)) c.add.result
-    (λ t. added_follow p core i c.skip_space.ensures c.add.new.self (c.add.ensures.added t) c.requires)
-    (λ f. marks_follow p core i c.skip_space.ensures c.add.new.self (c.add.ensures.unchanged f) c.requires)
+    (λ t. added_follow p core i c.skip_space.ensures.left c.add.new.self (c.add.ensures.added t) c.requires)
+    (λ f. marks_follow p core i c.skip_space.ensures.left c.add.new.self (c.add.ensures.unchanged f) c.requires)

@@ -24,7 +24,7 @@ returns-then-take_character-clause-holds c = λ s g.
     let place = c.args.place in
     let sign = c.args.sign in
     let small = styled (context_of c.args.context) InScript in
-    let below = past_units s p i (λ bracket. reads_atoms (InBrackets place) small (λ row. of_one place small (λ x. arrow sign (Some (row_element row.elements)) x.element))) (91 ∷ []) c.if-take_character.ensures (begun g) in
+    let below = past_units s p i (λ bracket. reads_atoms (InBrackets place) small (λ row. of_one place small (λ x. arrow sign (Some (row_element row.elements)) x.element))) (91 ∷ []) c.if-take_character.ensures.next (begun g) in
     let due = subst (λ (d : Context). Begins (reads_atoms (InBrackets place) small (λ row. of_one place (styled d InScript) (λ x. labeled_arrow (arrow_sign sign) (row_element row.elements) x.element))) 0 s (record p { input = i })) g.context below in
     c.open.ensures.holds s g.style (rw (c.in_ok-put_arrow.ensures, c.empty.ensures, c.styled-small.ensures) (row_due (λ row. of_one place (styled (context_at (level 0 s p)) InScript) (λ x. labeled_arrow (arrow_sign sign) (row_element row.elements) x.element)) due.leads))
 
@@ -32,7 +32,7 @@ pub returns-then-take_character-clause-step : goal.returns-then-take_character-c
 returns-then-take_character-clause-step c =
     let p = c.args.self.now in
     let i = c.take_character.new.self in
-    let less = no_more_taken (a_character 91 ∷ []) (left_of p) (units_at i) (91 ∷ []) c.if-take_character.ensures in
+    let less = no_more_taken (a_character 91 ∷ []) (left_of p) (units_at i) (91 ∷ []) c.if-take_character.ensures.next in
     step_within p (record p { input = i; builder = c.put_arrow.new.builder }) c.open.new.self c.open.result 6 13 (omega (arith, less)) c.open.ensures.step
 
 pub returns-clause-holds : goal.returns-clause-holds
@@ -41,11 +41,11 @@ returns-clause-holds c = λ s g.
     let i = c.take_character.new.self in
     let place = c.args.place in
     let small = styled (context_of c.args.context) InScript in
-    let above = past_none s p i (of_one place small (λ x. arrow c.args.sign None x.element)) c.if-take_character.ensures.0 c.if-take_character.ensures.1 (begun g) in
+    let above = past_none s p i (of_one place small (λ x. arrow c.args.sign None x.element)) c.if-take_character.ensures.next.0 c.if-take_character.ensures.next.1 (begun g) in
     c.open-2.ensures.holds s g.style (rw (c.in_ok-put_arrow-2.ensures, c.styled-small.ensures) (operand_due (λ x. gives (arrow c.args.sign None x.element)) above.leads))
 
 pub returns-clause-step : goal.returns-clause-step
 returns-clause-step c =
     let p = c.args.self.now in
     let i = c.take_character.new.self in
-    step_within p (record p { input = i; builder = c.put_arrow-2.new.builder }) c.open-2.new.self c.open-2.result 6 13 (rw c.if-take_character.ensures.1 (omega arith)) c.open-2.ensures.step
+    step_within p (record p { input = i; builder = c.put_arrow-2.new.builder }) c.open-2.new.self c.open-2.result 6 13 (rw c.if-take_character.ensures.next.1 (omega arith)) c.open-2.ensures.step

@@ -14,5 +14,5 @@ returns-clause-holds c = λ s h.
     let asked = c.requires.next in
     let seen : left_of p ≡ Next (unit_of u) (units_behind p.input) = c.peek.ensures ∙ ap (λ n. put_back n (units_behind p.input)) c.in-Unit.is in
     let is : piece_of u.piece ≡ Command asked.name = same_unit _ _ _ _ (sym seen ∙ asked.next) ∙ asked.is in
-    let there : left_of p ≡ Next (unit_of u) (units_at i) = seen ∙ ap (Next (unit_of u)) (sym c.advance.ensures) in
+    let there : left_of p ≡ Next (unit_of u) (units_at i) = seen ∙ ap (Next (unit_of u)) (sym c.advance.ensures.left) in
     c.meaning.ensures.holds s (command_begins p i u asked.name is s c.in-Some.context (meaning_of c.args.meaning.now) c.in-Some.ensures asked.means (sym c.begins_atoms.ensures ∙ c.if-begins_atoms.true) (command_next p i u asked.name is there) h)

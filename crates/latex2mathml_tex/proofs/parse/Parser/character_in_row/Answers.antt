@@ -24,10 +24,10 @@ returns-then-may_continue_number c =
     let due = scripts_due new k row number _ c.in_ok-number.ensures.step in
     record {
       holds = λ s h.
-          let begins = symbol_begins p i u c.args.c there is c.advance.ensures s k c.requires.row (digit_is_plain c.args.c digit) h in
+          let begins = symbol_begins p i u c.args.c there is c.advance.ensures.left s k c.requires.row (digit_is_plain c.args.c digit) h in
           let held = c.in_ok-number.ensures.holds s (k, refl, subst (λ r. Begins r 0 s q) (digit_rule (context_of k) c.args.c u.place digit) (begun begins)) in
           scripts_follow new k row number (lone_scripts number) refl s held;
-      step = record { ready = due.ready; falls = omega (arith, due.falls, one_less p i u there c.advance.ensures) };
+      step = record { ready = due.ready; falls = omega (arith, due.falls, one_less p i u there c.advance.ensures.left) };
     }
 
 pub returns-then-is_ascii_digit : goal.returns-then-is_ascii_digit
@@ -39,9 +39,9 @@ returns-then-is_ascii_digit c =
     let (u, there, is) = c.requires.next in
     let digit : is_ascii_digit c.args.c ≡ true = sym c.is_ascii_digit.ensures.value ∙ c.if-is_ascii_digit.true in
     let made = core (Makes.number (option_map alphabet_of k.alphabet) (c.args.c ∷ [])) in
-    symbol_put p i c.begin_number.new.builder k c.requires.row (one_less p i u there c.advance.ensures) c.number-then-is_ascii_digit.result made
+    symbol_put p i c.begin_number.new.builder k c.requires.row (one_less p i u there c.advance.ensures.left) c.number-then-is_ascii_digit.result made
     (record { element = c.in_ok-begin_number.ensures; is = c.number-then-is_ascii_digit.ensures _ })
-    (λ s h. lone_digit_begins s q (context_of k) c.args.c (c.may_continue_number.ensures c.if-may_continue_number.false) (subst (λ r. Begins r 0 s q) (digit_rule (context_of k) c.args.c u.place digit) (begun (symbol_begins p i u c.args.c there is c.advance.ensures s k c.requires.row (digit_is_plain c.args.c digit) h))))
+    (λ s h. lone_digit_begins s q (context_of k) c.args.c (c.may_continue_number.ensures c.if-may_continue_number.false) (subst (λ r. Begins r 0 s q) (digit_rule (context_of k) c.args.c u.place digit) (begun (symbol_begins p i u c.args.c there is c.advance.ensures.left s k c.requires.row (digit_is_plain c.args.c digit) h))))
     c.requires.ready
 
 pub returns-then-is_ascii_alphabetic : goal.returns-then-is_ascii_alphabetic
@@ -53,8 +53,8 @@ returns-then-is_ascii_alphabetic c =
     let no_digit : is_ascii_digit c.args.c ≡ false = sym c.is_ascii_digit.ensures.value ∙ c.if-is_ascii_digit.false in
     let alphabetic : is_ascii_alphabetic c.args.c ≡ true = sym c.is_ascii_alphabetic.ensures.value ∙ c.if-is_ascii_alphabetic.true in
     let drawn = core (Makes.letter (option_map alphabet_of k.alphabet) c.args.c) in
-    symbol_put p i c.put_letter.new.builder k c.requires.row (one_less p i u there c.advance-then-is_ascii_alphabetic.ensures) c.in_ok-letter.letter drawn c.in_ok-letter.ensures
-    (λ s h. subst (λ r. Begins r 0 s (record p { input = i })) (letter_rule (context_of k) c.args.c u.place no_digit alphabetic) (begun (symbol_begins p i u c.args.c there is c.advance-then-is_ascii_alphabetic.ensures s k c.requires.row (letter_is_plain c.args.c alphabetic) h)))
+    symbol_put p i c.put_letter.new.builder k c.requires.row (one_less p i u there c.advance-then-is_ascii_alphabetic.ensures.left) c.in_ok-letter.letter drawn c.in_ok-letter.ensures
+    (λ s h. subst (λ r. Begins r 0 s (record p { input = i })) (letter_rule (context_of k) c.args.c u.place no_digit alphabetic) (begun (symbol_begins p i u c.args.c there is c.advance-then-is_ascii_alphabetic.ensures.left s k c.requires.row (letter_is_plain c.args.c alphabetic) h)))
     c.requires.ready
 
 pub returns : goal.returns
@@ -68,6 +68,6 @@ returns c =
     let plain : is_symbol c.args.c ≡ true = sym c.is_symbol.ensures ∙ c.if-is_symbol.true in
     let symbol = symbol_of c.in-Some.symbol in
     let drawn = Makes.symbol (option_map alphabet_of k.alphabet) symbol in
-    symbol_put p i c.put_symbol.new.builder k c.requires.row (one_less p i u there c.advance-2.ensures) c.in_ok-sign.sign drawn c.in_ok-sign.ensures
-    (λ s h. subst (λ r. Begins r 0 s (record p { input = i })) (symbol_rule (context_of k) c.args.c u.place no_digit symbol no_letter plain c.in-Some.ensures) (begun (symbol_begins p i u c.args.c there is c.advance-2.ensures s k c.requires.row (symbol_is_plain c.args.c plain) h)))
+    symbol_put p i c.put_symbol.new.builder k c.requires.row (one_less p i u there c.advance-2.ensures.left) c.in_ok-sign.sign drawn c.in_ok-sign.ensures
+    (λ s h. subst (λ r. Begins r 0 s (record p { input = i })) (symbol_rule (context_of k) c.args.c u.place no_digit symbol no_letter plain c.in-Some.ensures) (begun (symbol_begins p i u c.args.c there is c.advance-2.ensures.left s k c.requires.row (symbol_is_plain c.args.c plain) h)))
     c.requires.ready

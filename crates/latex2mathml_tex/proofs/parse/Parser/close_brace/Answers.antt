@@ -10,6 +10,6 @@ returns-in-Some-clause-holds c = λ s h.
     let p = c.args.self.now in
     let i = c.advance.new.self in
     let u = c.args.unit in
-    let there : left_of p ≡ Next (unit_of u) (units_at i) = c.requires.next ∙ ap (Next (unit_of u)) (sym c.advance.ensures) in
+    let there : left_of p ≡ Next (unit_of u) (units_at i) = c.requires.next ∙ ap (Next (unit_of u)) (sym c.advance.ensures.left) in
     let past : past_space (left_of p) ≡ Next (unit_of u) (units_at i) = ap past_space there ∙ rw c.requires.is refl in
     c.close_braces.ensures.holds s _ (braces_closed p c.take_braced.new.self c.in-Some.row s h c.in-Some.is_operand c.in-Some.ensures i u past c.requires.is)

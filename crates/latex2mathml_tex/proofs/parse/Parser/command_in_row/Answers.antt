@@ -15,9 +15,9 @@ returns c =
     let (u, there, is) = c.requires.next in
     let name = c.args.name.now in
     let named : piece_of u.piece ≡ Command name = ap piece_of is in
-    let next : left_of p ≡ Next (unit_of u) (units_at i) = there ∙ ap (Next (unit_of u)) (sym c.advance.ensures) in
+    let next : left_of p ≡ Next (unit_of u) (units_at i) = there ∙ ap (Next (unit_of u)) (sym c.advance.ensures.left) in
     let drawn = Makes.symbol (option_map alphabet_of k.alphabet) (symbol_of c.in-Shows.symbol) in
-    symbol_put p i c.put_symbol.new.builder k c.requires.row (one_less p i u there c.advance.ensures) c.in_ok-sign.sign drawn c.in_ok-sign.ensures
+    symbol_put p i c.put_symbol.new.builder k c.requires.row (one_less p i u there c.advance.ensures.left) c.in_ok-sign.sign drawn c.in_ok-sign.ensures
     (λ s h. begun (rw c.in-Shows.is at (command_begins p i u name named s k (meaning_of c.in-Some.meaning.now) c.requires.row c.in-Some.ensures (rw c.in-Shows.is refl) (command_next p i u name named next) h)))
     c.requires.ready
 

@@ -37,7 +37,7 @@ returns-in-Close-clause-holds c = λ s h.
     let frames = c.take-in-Close.new.self in
     let braces = frame.Words c.in-Words.place c.in-Words.alphabet in
     let inner = taken_innermost p.style p.frames.stack.items c.in-Words.ensures.0 frames.stack.items braces c.take-in-Close.result c.in-Words.ensures.1 c.take-in-Close.ensures in
-    let stands : left_of p ≡ Next (unit_of c.in-Unit.unit) (units_at i) = passed c.peek.result p.input i c.peek.ensures c.advance.ensures ∙ ap (λ n. put_back n (units_at i)) c.in-Unit.is in
+    let stands : left_of p ≡ Next (unit_of c.in-Unit.unit) (units_at i) = passed c.peek.result p.input i c.peek.ensures c.advance.ensures.left ∙ ap (λ n. put_back n (units_at i)) c.in-Unit.is in
     let close = ap (λ piece. is_close (piece_of piece)) c.in-Close.is in
     braces_closed s p c.args.words c.in-Words.place c.in-Words.alphabet frames.stack.items inner h i frames (unit_of c.in-Unit.unit) refl stands close
 
@@ -46,7 +46,7 @@ returns-in-Close-clause-step c =
     let p = c.args.self.now in
     let i = c.advance.new.self in
     let frames = c.take-in-Close.new.self in
-    let stands : left_of p ≡ Next (unit_of c.in-Unit.unit) (units_at i) = passed c.peek.result p.input i c.peek.ensures c.advance.ensures ∙ ap (λ n. put_back n (units_at i)) c.in-Unit.is in
+    let stands : left_of p ≡ Next (unit_of c.in-Unit.unit) (units_at i) = passed c.peek.result p.input i c.peek.ensures c.advance.ensures.left ∙ ap (λ n. put_back n (units_at i)) c.in-Unit.is in
     let less : unit_count (left_of p) ≡ suc (unit_count (units_at i)) = ap unit_count stands in
     let braces = frame.Words c.in-Words.place c.in-Words.alphabet in
     let inner = taken_innermost p.style p.frames.stack.items c.in-Words.ensures.0 frames.stack.items braces c.take-in-Close.result c.in-Words.ensures.1 c.take-in-Close.ensures in

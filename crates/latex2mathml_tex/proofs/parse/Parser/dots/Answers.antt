@@ -1,4 +1,4 @@
-use Rattle.std.proofs.Common.{sym}
+use Rattle.std.proofs.Common.{subst, sym}
 use Rattle.latex2mathml_tex_grammar.specs.{Dots.centered_dots, Dots.centers_dots, Dots.low_dots, Makes.symbol, Rules.gives, Rules.if_follows}
 use Rattle.latex2mathml_tex_commands.specs.Meanings.{symbol_of}
 use Rattle.latex2mathml_tex_atoms.specs.Models.{context_of}
@@ -13,7 +13,7 @@ returns-clause-holds c = λ s g.
     let alphabet = (context_of c.args.context).alphabet in
     let begins : Begins (if_follows centers_dots (gives (symbol alphabet centered_dots)) (gives (symbol alphabet low_dots))) 0 s p = begun g in
     let due : Begins (gives (symbol alphabet (symbol_of c.if-centers_dots.dots))) 0 s p = elim c.if-centers_dots.branch [
-      | then-centers_dots w ↦ rw w.dots-is (before_unit s p {test = centers_dots} (sym w.if-centers_dots.ensures) begins)
-      | else-centers_dots w ↦ rw w.dots-is (before_none s p {test = centers_dots} (sym w.if-centers_dots.ensures) begins)
+      | then-centers_dots w ↦ rw w.dots-is (before_unit s p {test = centers_dots} (sym w.if-centers_dots.ensures.answer) begins)
+      | else-centers_dots w ↦ rw w.dots-is (before_none s p {test = centers_dots} (sym w.if-centers_dots.ensures.answer) begins)
     ] in
-    c.symbol.ensures.holds s due
+    c.symbol.ensures.holds s (subst (λ i. Begins (gives (symbol alphabet (symbol_of c.if-centers_dots.dots))) 0 s (record p { input = i })) (sym c.centers_dots.ensures.unchanged) due)

@@ -14,7 +14,7 @@ pub returns-in-Some-clause-step : goal.returns-in-Some-clause-step
 returns-in-Some-clause-step c =
     let p = c.args.self.now in
     let behind = units_at c.advance.new.self in
-    let taken : past_space (left_of p) ≡ put_back c.peek.result behind = sym c.skip_space.ensures ∙ passed c.peek.result c.skip_space.new.self c.advance.new.self c.peek.ensures c.advance.ensures in
+    let taken : past_space (left_of p) ≡ put_back c.peek.result behind = sym c.skip_space.ensures.left ∙ passed c.peek.result c.skip_space.new.self c.advance.new.self c.peek.ensures c.advance.ensures.left in
     let one : unit_count (past_space (left_of p)) ≡ suc (unit_count behind) = ap unit_count (taken ∙ ap (λ n. put_back n behind) c.in-Unit.is) in
     let space = no_more_past_space (left_of p) in
     step_within p (record p { input = c.advance.new.self }) c.take_mark.new.self c.take_mark.result 13 2 (omega (arith, one, space)) c.take_mark.ensures.step
@@ -23,7 +23,7 @@ pub returns-clause-step : goal.returns-clause-step
 returns-clause-step c =
     let p = c.args.self.now in
     let less = no_more_past_space (left_of p) in
-    let skipped : unit_count (units_at c.skip_space.new.self) ≡ unit_count (past_space (left_of p)) = ap unit_count c.skip_space.ensures in
+    let skipped : unit_count (units_at c.skip_space.new.self) ≡ unit_count (past_space (left_of p)) = ap unit_count c.skip_space.ensures.left in
     step_within p (record p { input = c.skip_space.new.self; builder = c.scripted.new.builder }) c.put.new.self c.put.result 2 2 (omega (arith, skipped, less)) c.put.ensures.step
 
 pub returns-clause-holds : goal.returns-clause-holds
@@ -36,4 +36,4 @@ returns-clause-holds c = λ s g.
         | inr is ↦ (let other = is.2 in absurd (cc (other, e)))
       ]
     ] in
-    c.put.ensures.holds s (made_spaced s (record p { builder = c.scripted.new.builder }) c.in_ok-core.core c.skip_space.new.self c.skip_space.ensures (scripts_made s p c.scripted.new.builder c.args.core c.in_ok-core.core c.args.scripts c.innermost.result c.context-style.result c.peek.result _ c.context-style.ensures c.innermost.ensures (sym c.skip_space.ensures ∙ c.peek.ensures) none c.in_ok-core.ensures.atom c.in_ok-core.ensures.below g))
+    c.put.ensures.holds s (made_spaced s (record p { builder = c.scripted.new.builder }) c.in_ok-core.core c.skip_space.new.self c.skip_space.ensures.left (scripts_made s p c.scripted.new.builder c.args.core c.in_ok-core.core c.args.scripts c.innermost.result c.context-style.result c.peek.result _ c.context-style.ensures c.innermost.ensures (sym c.skip_space.ensures.left ∙ c.peek.ensures) none c.in_ok-core.ensures.atom c.in_ok-core.ensures.below g))

@@ -15,8 +15,8 @@ returns-clause-holds c = λ s g.
     let i = c.take_character.new.self in
     let upright = in_context (style_of c.args.context.style) (Some Upright) in
     let due : Begins (of_one c.args.place upright (operator_name (limit_place_of c.if-take_character.limits))) 0 s (record p { input = i }) = elim c.if-take_character.branch [
-      | then-take_character w ↦ rw w.limits-is (past_units s p i (λ star. of_one c.args.place upright (operator_name ByStyle)) (42 ∷ []) w.if-take_character.ensures (begun g))
-      | else-take_character w ↦ rw w.limits-is (past_none s p i (of_one c.args.place upright (operator_name Beside)) w.if-take_character.ensures.0 w.if-take_character.ensures.1 (begun g))
+      | then-take_character w ↦ rw w.limits-is (past_units s p i (λ star. of_one c.args.place upright (operator_name ByStyle)) (42 ∷ []) w.if-take_character.ensures.next (begun g))
+      | else-take_character w ↦ rw w.limits-is (past_none s p i (of_one c.args.place upright (operator_name Beside)) w.if-take_character.ensures.next.0 w.if-take_character.ensures.next.1 (begun g))
     ] in
     c.open.ensures.holds s g.style (operand_due (λ x. gives (operator_name (limit_place_of c.if-take_character.limits) x)) due.leads)
 
@@ -26,7 +26,7 @@ returns-clause-step c =
     let i = c.take_character.new.self in
     elim c.if-take_character.branch [
       | then-take_character w ↦ (
-          let less = no_more_taken (a_character 42 ∷ []) (left_of p) (units_at i) (42 ∷ []) w.if-take_character.ensures in
+          let less = no_more_taken (a_character 42 ∷ []) (left_of p) (units_at i) (42 ∷ []) w.if-take_character.ensures.next in
           step_within p (record p { input = i }) c.open.new.self c.open.result 6 13 (omega (arith, less)) c.open.ensures.step)
-      | else-take_character w ↦ step_within p (record p { input = i }) c.open.new.self c.open.result 6 13 (rw w.if-take_character.ensures.1 (omega arith)) c.open.ensures.step
+      | else-take_character w ↦ step_within p (record p { input = i }) c.open.new.self c.open.result 6 13 (rw w.if-take_character.ensures.next.1 (omega arith)) c.open.ensures.step
     ]

@@ -14,7 +14,7 @@ use Rattle.latex2mathml_tex.proofs.parse.Parser.point.Goals as goal
 
 pub returns-in_default-clause-holds : goal.returns-in_default-clause-holds
 returns-in_default-clause-holds c = λ s g.
-    c.other_character.ensures.holds s g.0 g.1 (past_none s c.args.self.now c.take_digit.new.self (a_symbol (context_of g.0) 46 (symbol_of 46)) c.in_default.ensures.0 c.in_default.ensures.1 g.2)
+    c.other_character.ensures.holds s g.0 g.1 (past_none s c.args.self.now c.take_digit.new.self (a_symbol (context_of g.0) 46 (symbol_of 46)) c.in_default.ensures.next.0 c.in_default.ensures.next.1 g.2)
 
 abbrev alphabet : goal.After-number → Option Alphabet
 alphabet c = option_map alphabet_of c.args.alphabet
@@ -40,13 +40,13 @@ whole_put c =
 
 pub returns-clause-holds : goal.returns-clause-holds
 returns-clause-holds c = λ s g.
-    let digit_begins = past_units s (before c) c.take_digit.new.self (λ digit. decimal (context_of g.0) (46 ∷ digit)) (c.in-Some.digit ∷ []) c.in-Some.ensures g.2 in
+    let digit_begins = past_units s (before c) c.take_digit.new.self (λ digit. decimal (context_of g.0) (46 ∷ digit)) (c.in-Some.digit ∷ []) c.in-Some.ensures.next g.2 in
     let begins = past_digits s (behind c) c.digits.new.input (λ ds. gives (core (number (context_of g.0).alphabet (first c ++ ds)))) c.in_ok-digits.ensures.units digit_begins in
     number_put s (record (before c) { input = c.digits.new.input }) c.digits.new.builder c.number.result (alphabet c) (context_of g.0).alphabet (first c ++ more c) c.number.ensures g.1 (whole_put c) begins
 
 pub returns-clause-step : goal.returns-clause-step
 returns-clause-step c =
-    let digit = no_more_taken (a_digit ∷ []) (left_of (before c)) (left_of (behind c)) (c.in-Some.digit ∷ []) c.in-Some.ensures in
+    let digit = no_more_taken (a_digit ∷ []) (left_of (before c)) (left_of (behind c)) (c.in-Some.digit ∷ []) c.in-Some.ensures.next in
     let digits = no_more_behind_digits (left_of (behind c)) in
     let less : unit_count (units_at c.digits.new.input) ≤ unit_count (left_of (before c)) = rw c.in_ok-digits.ensures.units (omega (arith, digit, digits)) in
     core_step (before c) c.digits.new.input c.digits.new.builder c.number.result _ c.requires (whole_put c) less

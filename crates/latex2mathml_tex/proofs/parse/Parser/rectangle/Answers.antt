@@ -25,7 +25,7 @@ returns-in_default-clause-holds c = λ s g.
     let q = c.take_length.new.self in
     let place = c.args.place in
     let took = subst (λ (x : Option ℤ). TookValue place (InLength AtBracket) lengths.width_of (λ text. refusal_at LengthTooLarge place) p_in q x) c.in_default.is c.in_ok-height.ensures in
-    let begins = past_units s p i (behind_bracket place) (91 ∷ []) c.if-take_character.ensures (begun g) in
+    let begins = past_units s p i (behind_bracket place) (91 ∷ []) c.if-take_character.ensures.next (begun g) in
     value_refused lengths.width_of (λ text. refusal_at LengthTooLarge place) place (InLength AtBracket) p_in q s (λ height. a_bar place (Some height)) took begins.style begins.leads
 
 pub returns-in_default-clause-step : goal.returns-in_default-clause-step
@@ -36,7 +36,7 @@ returns-in_default-clause-step c =
     let q = c.take_length.new.self in
     let place = c.args.place in
     let took = subst (λ (x : Option ℤ). TookValue place (InLength AtBracket) lengths.width_of (λ text. refusal_at LengthTooLarge place) p_in q x) c.in_default.is c.in_ok-height.ensures in
-    let less = no_more_taken (a_character 91 ∷ []) (left_of p) (units_at i) (91 ∷ []) c.if-take_character.ensures in
+    let less = no_more_taken (a_character 91 ∷ []) (left_of p) (units_at i) (91 ∷ []) c.if-take_character.ensures.next in
     step_within p p_in q (Ok state.Refused) 13 13 (omega (arith, less)) (value_refused_within lengths.width_of (λ text. refusal_at LengthTooLarge place) place (InLength AtBracket) p_in q 13 (omega arith) c.requires.begin.elements took)
 
 pub returns-then-take_character-clause-holds : goal.returns-then-take_character-clause-holds
@@ -47,7 +47,7 @@ returns-then-take_character-clause-holds c = λ s g.
     let q = c.take_length.new.self in
     let place = c.args.place in
     let took = subst (λ (x : Option ℤ). TookValue place (InLength AtBracket) lengths.width_of (λ text. refusal_at LengthTooLarge place) p_in q x) c.in-Some.is c.in_ok-height.ensures in
-    let behind = past_units s p i (behind_bracket place) (91 ∷ []) c.if-take_character.ensures (begun g) in
+    let behind = past_units s p i (behind_bracket place) (91 ∷ []) c.if-take_character.ensures.next (begun g) in
     let begins : BeginsIn c.args.context (behind_bracket place (91 ∷ [])) 0 s p_in = record { style = behind.style; context = g.context; leads = behind.leads } in
     let height = c.in-Some.height in
     let fits : SFits w32 height = search rules in
@@ -62,7 +62,7 @@ returns-then-take_character-clause-step c =
     let q = c.take_length.new.self in
     let place = c.args.place in
     let took = subst (λ (x : Option ℤ). TookValue place (InLength AtBracket) lengths.width_of (λ text. refusal_at LengthTooLarge place) p_in q x) c.in-Some.is c.in_ok-height.ensures in
-    let less = no_more_taken (a_character 91 ∷ []) (left_of p) (units_at i) (91 ∷ []) c.if-take_character.ensures in
+    let less = no_more_taken (a_character 91 ∷ []) (left_of p) (units_at i) (91 ∷ []) c.if-take_character.ensures.next in
     step_within p p_in c.bar.new.self c.bar.result 13 13 (omega (arith, less)) (value_within lengths.width_of (λ text. refusal_at LengthTooLarge place) place (InLength AtBracket) p_in q c.in-Some.height 13 13 c.bar.new.self c.bar.result took (omega arith) c.bar.ensures.step)
 
 pub returns-clause-holds : goal.returns-clause-holds
@@ -71,7 +71,7 @@ returns-clause-holds c = λ s g.
     let i = c.take_character.new.self in
     let p_in : Parser = record p { input = i } in
     let place = c.args.place in
-    let behind = past_none s p i (a_bar place None) c.if-take_character.ensures.0 c.if-take_character.ensures.1 (begun g) in
+    let behind = past_none s p i (a_bar place None) c.if-take_character.ensures.next.0 c.if-take_character.ensures.next.1 (begun g) in
     let begins : BeginsIn c.args.context (a_bar place None) 0 s p_in = record { style = behind.style; context = g.context; leads = behind.leads } in
     c.bar-2.ensures.holds s begins
 
@@ -79,4 +79,4 @@ pub returns-clause-step : goal.returns-clause-step
 returns-clause-step c =
     let p = c.args.self.now in
     let i = c.take_character.new.self in
-    step_within p (record p { input = i }) c.bar-2.new.self c.bar-2.result 13 13 (rw c.if-take_character.ensures.1 (omega arith)) c.bar-2.ensures.step
+    step_within p (record p { input = i }) c.bar-2.new.self c.bar-2.result 13 13 (rw c.if-take_character.ensures.next.1 (omega arith)) c.bar-2.ensures.step

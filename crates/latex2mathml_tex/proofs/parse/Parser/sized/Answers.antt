@@ -12,13 +12,13 @@ use Rattle.latex2mathml_tex.proofs.parse.Parser.sized.Goals as goal
 pub returns-in_default-clause-holds : goal.returns-in_default-clause-holds
 returns-in_default-clause-holds c = λ s g.
     let refusal = c.refuse_delimiter in
-    no_delimiter c.args.self.now refusal.new.self c.take_delimiter.new.self refusal.result c.in_default.ensures.1 refusal.ensures.parser refusal.ensures.state s
-    (λ text. gives (Makes.sized (size_of c.args.size) (class_of c.args.class) text)) c.in_default.ensures.0 refusal.ensures.refusal g
+    no_delimiter c.args.self.now refusal.new.self c.take_delimiter.new.self refusal.result c.in_default.ensures.next.1 refusal.ensures.parser refusal.ensures.state s
+    (λ text. gives (Makes.sized (size_of c.args.size) (class_of c.args.class) text)) c.in_default.ensures.next.0 refusal.ensures.refusal g
 
 pub returns-in_default-clause-step : goal.returns-in_default-clause-step
 returns-in_default-clause-step c =
     let refusal = c.refuse_delimiter in
-    no_delimiter_step c.args.self.now refusal.new.self c.take_delimiter.new.self refusal.result c.in_default.ensures.1 refusal.ensures.parser refusal.ensures.state refusal.ensures.units c.requires.begin
+    no_delimiter_step c.args.self.now refusal.new.self c.take_delimiter.new.self refusal.result c.in_default.ensures.next.1 refusal.ensures.parser refusal.ensures.state refusal.ensures.units c.requires.begin
 
 pub returns-clause-holds : goal.returns-clause-holds
 returns-clause-holds c = λ s g.
@@ -26,7 +26,7 @@ returns-clause-holds c = λ s g.
     let i = c.take_delimiter.new.self in
     let text = delimiter_text c.in-Some.delimiter in
     let k = Makes.sized (size_of c.args.size) (class_of c.args.class) text in
-    core_put s (record p { input = i }) c.put_sized.new.builder c.new.result k.atom.element k c.in_ok-put_sized.ensures (rw c.new.ensures refl) (past_delimiter s p i (λ text. gives (Makes.sized (size_of c.args.size) (class_of c.args.class) text)) text c.in-Some.ensures g)
+    core_put s (record p { input = i }) c.put_sized.new.builder c.new.result k.atom.element k c.in_ok-put_sized.ensures (rw c.new.ensures refl) (past_delimiter s p i (λ text. gives (Makes.sized (size_of c.args.size) (class_of c.args.class) text)) text c.in-Some.ensures.next g)
 
 pub returns-clause-step : goal.returns-clause-step
 returns-clause-step c =
@@ -34,4 +34,4 @@ returns-clause-step c =
     let i = c.take_delimiter.new.self in
     let text = delimiter_text c.in-Some.delimiter in
     let k = Makes.sized (size_of c.args.size) (class_of c.args.class) text in
-    core_step p i c.put_sized.new.builder c.new.result k.atom.element c.requires.begin c.in_ok-put_sized.ensures (no_more_taken (delimiter_of ∷ []) (left_of p) (units_at i) text c.in-Some.ensures)
+    core_step p i c.put_sized.new.builder c.new.result k.atom.element c.requires.begin c.in_ok-put_sized.ensures (no_more_taken (delimiter_of ∷ []) (left_of p) (units_at i) text c.in-Some.ensures.next)

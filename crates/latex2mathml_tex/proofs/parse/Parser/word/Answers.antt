@@ -37,7 +37,7 @@ returns-in_default c =
     let p = c.args.self.now in
     let i = c.advance.new.self in
     let u = c.in-Unit.unit in
-    let stands : left_of p ≡ Next (unit_of u) (units_at i) = passed c.peek.result p.input i c.peek.ensures c.advance.ensures ∙ ap (λ n. put_back n (units_at i)) c.in-Unit.is in
+    let stands : left_of p ≡ Next (unit_of u) (units_at i) = passed c.peek.result p.input i c.peek.ensures c.advance.ensures.left ∙ ap (λ n. put_back n (units_at i)) c.in-Unit.is in
     let left : unit_count (left_of p) ≡ suc (unit_count (units_at i)) = ap unit_count stands in
     record {
       holds = λ s h. c.begin_word.ensures.holds s (word_begins s p c.args.words c.args.place c.args.alphabet h i u stands);

@@ -50,12 +50,12 @@ returns-in-Words-clause-holds c = λ s g.
     let a : Option Alphabet = option_map alphabet_of c.args.alphabet in
     let name = c.args.name.now in
     let meant = c.in-Some-look_up.ensures ∙ ap (λ m. Some (Meanings.meaning_of m)) c.in-Words.is in
-    in_alphabet_due s c.args.self.now c.args.words (Command name) c.args.place a c.skip_space.new.self c.in-Words.alphabet c.skip_space.ensures (command_meant a name (sym c.in_default.ensures) _ meant) g
+    in_alphabet_due s c.args.self.now c.args.words (Command name) c.args.place a c.skip_space.new.self c.in-Words.alphabet c.skip_space.ensures.left (command_meant a name (sym c.in_default.ensures) _ meant) g
 
 pub returns-in-Words-clause-step : goal.returns-in-Words-clause-step
 returns-in-Words-clause-step c =
     let p = c.args.self.now in
-    let less : unit_count (units_at c.skip_space.new.self) ≤ unit_count (left_of p) = rw c.skip_space.ensures (no_more_past_space (left_of p)) in
+    let less : unit_count (units_at c.skip_space.new.self) ≤ unit_count (left_of p) = rw c.skip_space.ensures.left (no_more_past_space (left_of p)) in
     record {
       ready = record { elements = omega (arith, c.requires.elements); may_come = record { accepted = c.requires.awaits.accepted; nested = c.requires.awaits.nested } };
       falls = omega (arith, less);

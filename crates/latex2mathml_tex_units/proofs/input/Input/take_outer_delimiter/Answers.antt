@@ -11,7 +11,7 @@ returns-in-Some c =
     let l = units_at c.args.self.now in
     let m = units_at c.take_delimiter.new.self in
     let text = delimiter_text c.in-Some.delimiter in
-    (no_more_taken (delimiter_of ∷ []) l m text c.in-Some.ensures, bare_hands l m text c.in-Some.ensures)
+    (no_more_taken (delimiter_of ∷ []) l m text c.in-Some.ensures.next, bare_hands l m text c.in-Some.ensures.next)
 
 pub returns-in-Some-take_braced_delimiter : goal.returns-in-Some-take_braced_delimiter
 returns-in-Some-take_braced_delimiter c =
@@ -20,7 +20,7 @@ returns-in-Some-take_braced_delimiter c =
     let m = units_at c.take_braced_delimiter.new.self in
     let text = delimiter_text c.in-Some-take_braced_delimiter.delimiter in
     let taken = c.in-Some-take_braced_delimiter.ensures in
-    let none = c.in_default.ensures in
+    let none = c.in_default.ensures.next in
     (braced_fewer l a none.0 none.1 m text taken, braced_hands l a none.0 none.1 m text taken)
 
 pub returns-then-take_empty_braces : goal.returns-then-take_empty_braces
@@ -29,7 +29,7 @@ returns-then-take_empty_braces c =
     let a = units_at c.take_delimiter.new.self in
     let b = units_at c.take_braced_delimiter.new.self in
     let m = units_at c.take_empty_braces.new.self in
-    let none = c.in_default.ensures in
+    let none = c.in_default.ensures.next in
     let unbraced = c.in_default-take_braced_delimiter.ensures in
     let taken = c.if-take_empty_braces.ensures in
     (empty_fewer l a none.0 none.1 b unbraced.0 unbraced.1 m taken, empty_hands l a none.0 none.1 b unbraced.0 unbraced.1 m taken)
@@ -39,7 +39,7 @@ returns c =
     let l = units_at c.args.self.now in
     let a = units_at c.take_delimiter.new.self in
     let b = units_at c.take_braced_delimiter.new.self in
-    let none = c.in_default.ensures in
+    let none = c.in_default.ensures.next in
     let unbraced = c.in_default-take_braced_delimiter.ensures in
     let missing = c.if-take_empty_braces.ensures in
     (rw (missing.1, unbraced.1) none.1, no_delimiter_hands l a none.0 none.1 b unbraced.0 unbraced.1 missing.0)

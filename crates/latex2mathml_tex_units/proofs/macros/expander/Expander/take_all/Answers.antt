@@ -13,7 +13,7 @@ units-smaller c =
 
 pub units-preserved : goal.units-preserved
 units-preserved c =
-    let start = before (map unit_of c.args.taken.items) (expanded_left c.args.self.now) in
+    let start = before (map unit_of c.args.units.now.items) (expanded_left c.args.self.now) in
     let taken : expanded_left c.units.self ≡ Next (unit_of c.in-Unit.unit) (expanded_left c.take.new.self) = rw c.in-Unit.is at c.in_ok-unit.ensures in
     let same = listed_on c.units.units.items c.push.new.self.items c.in-Unit.unit (expanded_left c.units.self) (expanded_left c.take.new.self) start c.units.invariant taken c.in_ok-push-in-Unit.ensures.items in
     moved_all c.push.new.self.items c.take_standing.new.units.items (expanded_left c.take.new.self) (expanded_left c.take_standing.new.self) start same c.in_ok-take_standing.ensures

@@ -2,7 +2,7 @@ use Rattle.std.proofs.Common.{ap, ◌∙◌}
 use Rattle.latex2mathml_tex_grammar.specs.{Expanding.expansion, Expansion.most_units, Expansion.most_uses}
 use Rattle.latex2mathml_tex_units.specs.{Left.units_left, MacroTables.macros_in, MacroTables.or_usual}
 use Rattle.latex2mathml_tex_units.proofs.Standing.{listed_end}
-use Rattle.latex2mathml_tex_units.proofs.macros.whole.Whole.of_text.Goals as goal
+use Rattle.latex2mathml_tex_units.proofs.macros.whole.list_units.Goals as goal
 
 pub returns-in-Some : goal.returns-in-Some
 returns-in-Some c =
