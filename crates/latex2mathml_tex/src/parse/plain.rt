@@ -209,8 +209,7 @@ impl<'a> Parser<'a> {
             → Holds s self.new (added_state result core) }
         ensures step { Follows (to_do self.old + 3) self.new (added_state result core) }
     {
-        self.input.skip_space();
-        match self.input.peek() {
+        match self.input.next_past_space() {
             Next::Unit(unit) => {
                 if let Some(_) = mark_of(unit.piece) {
                     return false;
