@@ -229,8 +229,20 @@ fn is_plus_or_minus(c: char) -> bool
     matches!(c, '+' | '−' | '±' | '∓')
 }
 
-/// Whether MathML stretches the sign but TeX does not.
+/// Whether MathML stretches the sign but TeX does not. The only such sign in ASCII is a bar, and most signs are in ASCII.
+#[inline(always)]
 fn stretches(c: char) -> bool
+    ensures { result ≡ Makes.stretches c }
+{
+    if c.is_ascii() {
+        return c == '|';
+    }
+    is_stretched(c)
+}
+
+/// Whether the sign is one of those that MathML stretches but TeX does not.
+#[inline(never)]
+fn is_stretched(c: char) -> bool
     ensures { result ≡ Makes.stretches c }
 {
     matches!(
