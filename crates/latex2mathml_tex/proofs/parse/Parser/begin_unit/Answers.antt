@@ -1,7 +1,6 @@
 use Rattle.std.proofs.Common.{◌≡◌, ◌∙◌, ap, rules, sym}
 use Rattle.latex2mathml_tex_grammar.specs.Units.{Next}
-use Rattle.latex2mathml_tex_units.specs.{Left.put_back, Left.units_at, Left.units_behind, Taking.unit_of}
-use Rattle.latex2mathml_tex_units.proofs.Nexts.{passed}
+use Rattle.latex2mathml_tex_units.specs.{Left.units_at, Taking.unit_of}
 use Rattle.latex2mathml_tex.specs.Steps.{left_of}
 use Rattle.latex2mathml_tex.proofs.RowCharacters.{group_begins_there, symbol_begins}
 use Rattle.latex2mathml_tex.proofs.parse.Parser.begin_unit.Goals as goal

@@ -1,4 +1,4 @@
-use Rattle.std.proofs.Common.{arith, refl}
+use Rattle.std.proofs.Common.{arith}
 use Rattle.latex2mathml_tex.specs.Steps.{ClosesRow, core_made}
 use Rattle.latex2mathml_tex.specs.declared.parse.frames.Ending.TheVariants as ending
 use Rattle.latex2mathml_tex.proofs.Closing.{arrow_closed, closed_can, degree_closed, formula_closed, words_closed_step}

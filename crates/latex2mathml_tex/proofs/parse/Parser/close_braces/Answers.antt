@@ -1,7 +1,4 @@
-use Rattle.std.proofs.Common.{◌≡◌, refl}
-use Rattle.latex2mathml_tex.specs.declared.parse.frames.Ending.TheVariants as ending
-use Rattle.latex2mathml_tex.specs.Innermost.{braced_ending}
-use Rattle.latex2mathml_tex.specs.Steps.{ClosesRow}
+use Rattle.std.proofs.Common.{refl}
 use Rattle.latex2mathml_tex.proofs.Closing.{group_closed}
 use Rattle.latex2mathml_tex.proofs.parse.Parser.close_braces.Goals as goal
 
