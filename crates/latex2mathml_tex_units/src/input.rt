@@ -104,26 +104,6 @@ impl<'a> Input<'a> {
         }
     }
 
-    /// Skips white space, and returns what is next after it.
-    #[inline(always)]
-    pub fn next_past_space(&mut self) -> Next<'a>
-        ensures left { units_at self.new ≡ past_space (units_at self.old) }
-        ensures next { units_at self.new ≡ put_back result (units_behind self.new) }
-    {
-        match self.peek() {
-            Next::Unit(
-                Unit {
-                    piece: Piece::Space,
-                    ..
-                },
-            ) => {
-                self.skip_space();
-                self.peek()
-            }
-            next => next,
-        }
-    }
-
     /// Whether dots before what comes next are in the middle of the line. Takes nothing.
     pub fn centers_dots(&mut self) -> bool
         ensures answer { result ≡ follows centers_dots (units_at self.old) }

@@ -209,7 +209,8 @@ impl<'a> Parser<'a> {
             → Holds s self.new (added_state result core) }
         ensures step { Follows (to_do self.old + 3) self.new (added_state result core) }
     {
-        match self.input.next_past_space() {
+        self.input.skip_space();
+        match self.input.peek() {
             Next::Unit(unit) => {
                 if let Some(_) = mark_of(unit.piece) {
                     return false;
