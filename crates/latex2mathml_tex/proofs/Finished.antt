@@ -1,13 +1,12 @@
 -- Rows that end as they are: nothing in them is left to be finished.
-use Rattle.std.proofs.Common.{◌≡◌, ◌∙◌, ◌+◌, ◌++◌, ◌∷◌, [], ℕ, Bool, true, false, None, List, arith, drop, refl, sym, ap, subst}
+use Rattle.std.proofs.Common.{◌≡◌, ℕ, Bool, true, false, List, arith, drop, refl, sym, ap, subst}
 use Rattle.latex2mathml_elements.specs.Element.{Element}
 use Rattle.latex2mathml_tex_grammar.specs.{Next.past_space, Rests.finished}
 use Rattle.latex2mathml_tex_grammar.specs.Reading.{Read}
-use Rattle.latex2mathml_tex_grammar.specs.Starts.{ends}
 use Rattle.latex2mathml_tex_grammar.specs.Units.{Next, End}
-use Rattle.latex2mathml_tex_units.specs.{Left.units_at, Taking.piece_of, Taking.unit_of}
+use Rattle.latex2mathml_tex_units.specs.{Left.units_at, Taking.unit_of}
 use Rattle.latex2mathml_tex_commands.specs.Meanings.{style_of}
-use Rattle.latex2mathml_tex.specs.Frames.{Start, Whole, ending_of}
+use Rattle.latex2mathml_tex.specs.Frames.{Start, Whole}
 use Rattle.latex2mathml_tex.specs.Innermost.{IsInnermost, TookRow, braced_ending, on_top}
 use Rattle.latex2mathml_tex_atoms.specs.Models.{IsFinished, row_count, row_with}
 use Rattle.latex2mathml_tex.specs.Steps.{ClosesRow, EndsText, Holds, elements_of, left_of}
