@@ -1,4 +1,5 @@
 -- What holds of the parser where the color of a box around an operand is taken, or there is none.
+use Rattle.std.specs.Prelude.{⊤}
 use Rattle.std.proofs.Common.{◌≡◌, ℕ, ◌+◌, Option, Some, None, Result, option_map, subst, arith}
 use Rattle.std.specs.declared.alloc.AllocError.{AllocError}
 use Rattle.latex2mathml_elements.specs.Colors.{Color}
@@ -39,6 +40,6 @@ module _ (box : Color → Box) (place : ℕ) (p q : Parser) where
   box_begins color s c took is g =
       begun (value_taken color_of (λ name. refusal_at (UnknownColor name) place) place (BeforeArgument ColorName) p q (arounds.color_of color) s c (λ color. a_box place (context_of c) (box color)) (subst (TookColor place p q) is took) g)
 
-  pub box_within : {x : Option CodeColor} (color : CodeColor) (new : Parser) (answer : Result State AllocError) → TookColor place p q x → x ≡ Some color → Advances 6 q new answer → Advances 13 p new answer
-  box_within color new answer took is step =
-      value_within color_of (λ name. refusal_at (UnknownColor name) place) place (BeforeArgument ColorName) p q (arounds.color_of color) 6 13 new answer (subst (TookColor place p q) is took) (omega arith) step
+  pub box_within : {x : Option CodeColor} (color : CodeColor) (new : Parser) (st : State) (answer : Result ⊤ AllocError) → TookColor place p q x → x ≡ Some color → Advances 6 q new st answer → Advances 13 p new st answer
+  box_within color new st answer took is step =
+      value_within color_of (λ name. refusal_at (UnknownColor name) place) place (BeforeArgument ColorName) p q (arounds.color_of color) 6 13 new st answer (subst (TookColor place p q) is took) (omega arith) step

@@ -1,4 +1,5 @@
 -- What holds of the parser where a part of a rule hands on a value, or is refused.
+use Rattle.std.specs.Prelude.{⊤}
 use Rattle.std.proofs.Common.{◌≡◌, ℕ, ◌+◌, ◌<◌, ◌≤◌, List, Option, Some, None, Result, refl, sym, ap, subst, ◌∙◌, arith, sum_by}
 use Rattle.std.specs.declared.alloc.AllocError.{AllocError}
 use Rattle.latex2mathml_tex_grammar.specs.{Refusal.Refusal, Units.Units}
@@ -19,10 +20,10 @@ module _ {A : Type 0} (part : (A → Rule) → Rule) (p q : Parser) where
   handed_on x s more (same, (fewer, on)) g =
       subst (λ t. Begins (more x) 0 s t) (sym same) (record { style = g.style; leads = record { to = λ o d. g.leads.to o (on more o d) } })
 
-  pub handed_within : (x : A) (n m : ℕ) (new : Parser) (answer : Result State AllocError) → TookBy part p q (Some x) → n ≤ m → Advances n q new answer → Advances m p new answer
-  handed_within x n m new answer (same, (fewer, on)) h step =
+  pub handed_within : (x : A) (n m : ℕ) (new : Parser) (st : State) (answer : Result ⊤ AllocError) → TookBy part p q (Some x) → n ≤ m → Advances n q new st answer → Advances m p new st answer
+  handed_within x n m new st answer (same, (fewer, on)) h step =
       let frames : sum_by frame_weight q.frames.stack.items ≡ sum_by frame_weight p.frames.stack.items = ap (λ (x : Parser). sum_by frame_weight x.frames.stack.items) same in
-      step_within p q new answer n m (omega (arith, frames, fewer, h)) step
+      step_within p q new st answer n m (omega (arith, frames, fewer, h)) step
 
   pub stopped : (s : Start) (more : A → Rule) → TookBy part p q None → Begins (part more) 0 s p → Holds s q state.Refused
   stopped s more (r, (same, (reported, (fewer, on)))) g =

@@ -1,7 +1,6 @@
 -- What is made of the operands of a command, and of an atom that is struck through.
-use Rattle.std.proofs.Common.{◌≡◌, ℕ, ◌+◌, ◌≤◌, ◌&&◌, IfOk, Result, Ok, Err, Bool, true, false, not, List, [], ◌∷◌, ◌++◌, drop, length, reverse, take, refl, sym, ap, ◌∙◌, arith}
+use Rattle.std.proofs.Common.{◌≡◌, ℕ, ◌+◌, ◌≤◌, ◌&&◌, Bool, true, false, not, List, [], ◌∷◌, ◌++◌, drop, length, reverse, take, refl, sym, ap, ◌∙◌, arith}
 use Rattle.std.proofs.lemmas.List.{length-drop}
-use Rattle.std.specs.declared.alloc.AllocError.{AllocError}
 use Rattle.latex2mathml_elements.specs.Element.{Element, token}
 use Rattle.latex2mathml_builder.specs.{Built.Built, Built.elements_in, Stacks.is_token, Stacks.lengthened, Stacks.ordered}
 use Rattle.latex2mathml_tex_grammar.specs.{Atoms.atom, Atoms.element_as, Makes.Core, Makes.classed, Makes.core, Makes.no_letters, Makes.struck, Makes.text}
@@ -13,7 +12,7 @@ use Rattle.latex2mathml_tex.specs.Frames.{Start, last_count, made_of}
 use Rattle.latex2mathml_tex.specs.Steps.{Begins, CanMake, Follows, HasElements, Holds, core_made, elements_of, level, to_do}
 use Rattle.latex2mathml_tex_commands.specs.declared.meaning.{Class.Class as CodeClass, Style.Style as CodeStyle}
 use Rattle.latex2mathml_tex_atoms.specs.declared.{atoms.Core.Core as CodeCore, atoms.Kind.Kind as CodeKind, atoms.Operand.Operand as CodeOperand}
-use Rattle.latex2mathml_tex.specs.declared.{parse.Parser.Parser, parse.State.State}
+use Rattle.latex2mathml_tex.specs.declared.{parse.Parser.Parser}
 use Rattle.latex2mathml_tex_atoms.specs.declared.atoms.Kind.TheVariants as kind
 use Rattle.latex2mathml_tex_units.specs.declared.error.TexErrorKind.TheVariants as error
 use Rattle.latex2mathml_tex_commands.specs.declared.meaning.Class.TheVariants as class
@@ -103,11 +102,10 @@ module _ (p : Parser) (last : Last) (operand : CodeOperand) where
     pub made_held : (b : Built) (c : CodeCore) → IsPut c made below (elements_in b) → BeginsMade → Holds s (record p { builder = b }) (state.Core c)
     made_held b c is g = made_put b c made.atom.element is.element is.is g
 
-    pub classed_put : (b : Built) (class : CodeClass) (style : CodeStyle) (answer : Result State AllocError) → last ≡ last_is.Classed class style → 1 ≤ length (elements_of p) → elements_in b ≡ changed_at (base style class) 0 (elements_of p) → IfOk answer (λ st. (c : CodeCore) × (st ≡ state.Core c) × ((x : Element) → core_with c x ≡ classed (class_of class) (operand_with operand x))) → BeginsMade → IfOk answer (Holds s (record p { builder = b }))
-    classed_put b class style (Ok st) e some put (c, is, same) g =
+    pub classed_put : (b : Built) (class : CodeClass) (style : CodeStyle) (c : CodeCore) → last ≡ last_is.Classed class style → 1 ≤ length (elements_of p) → elements_in b ≡ changed_at (base style class) 0 (elements_of p) → ((x : Element) → core_with c x ≡ classed (class_of class) (operand_with operand x)) → BeginsMade → Holds s (record p { builder = b }) (state.Core c)
+    classed_put b class style c e some put same g =
         let x = base style class (top (elements_of p)) in
-        rw is (made_put b c x (put ∙ rw e (first_changed (base style class) (elements_of p) some)) (rw e (same x)) g)
-    classed_put b class style (Err e) f some put none g = none
+        made_put b c x (put ∙ rw e (first_changed (base style class) (elements_of p) some)) (rw e (same x)) g
 
 -- A stroke through the uppermost element
 

@@ -1,4 +1,5 @@
 -- Where no atom begins in a row: its ending is there, the text ends, or what is there is not a unit.
+use Rattle.std.specs.Prelude.{⊤}
 use Rattle.std.proofs.Common.{◌≡◌, ◌≢◌, refl, ◌∙◌, ℕ, suc, ◌+◌, ◌≤◌, true, Some, List, length, reverse, sum_by, Result, sym, ap, arith, subst}
 use Rattle.std.proofs.lemmas.{Bool.and_parts, List.Sums.sum_by_push}
 use Rattle.std.specs.declared.alloc.AllocError.{AllocError}
@@ -110,29 +111,29 @@ module _ (p : Parser) (e : Ending) (place : ℕ) (row : CodeRow) (c : Context) (
       }
 
   -- less is left to do where the text ends, and the row's frame is taken off
-  pub ended_step : (i : Input) (fr : Frames) (f : Frame) (new : Parser) (answer : Result State AllocError) → IsInnermost p.style p.frames.stack.items f fr.stack.items → units_at i ≡ past_space (left_of p) → Advances (ending_weight e + 1) (record p { input = i; frames = fr }) new answer → Advances 1 p new answer
-  ended_step i fr f new answer taken units step =
+  pub ended_step : (i : Input) (fr : Frames) (f : Frame) (new : Parser) (st : State) (answer : Result ⊤ AllocError) → IsInnermost p.style p.frames.stack.items f fr.stack.items → units_at i ≡ past_space (left_of p) → Advances (ending_weight e + 1) (record p { input = i; frames = fr }) new st answer → Advances 1 p new st answer
+  ended_step i fr f new st answer taken units step =
       let fs = p.frames.stack.items in
       let same : f ≡ frame.Row e place c row = one_innermost p.style fs fr.stack.items others f (frame.Row e place c row) taken inner in
       let at_row = subst (λ f. IsInnermost p.style fs f fr.stack.items) same taken in
       let brought = weighed p.style fs fr.stack.items (frame.Row e place c row) at_row in
       let fewer : unit_count (units_at i) ≤ unit_count (left_of p) = rw units (no_more_past_space (left_of p)) in
-      step_within p (record p { input = i; frames = fr }) new answer (ending_weight e + 1) 1 (omega (arith, fewer, brought)) step
+      step_within p (record p { input = i; frames = fr }) new st answer (ending_weight e + 1) 1 (omega (arith, fewer, brought)) step
 
 -- a unit that comes next, after any white space
 pub unit_next : (l m w : Units) (n : CodeNext) (u : CodeUnit) → w ≡ past_space l → w ≡ put_back n m → n ≡ next.Unit u → past_space l ≡ Next (unit_of u) m
 unit_next l m w n u space behind is = sym space ∙ behind ∙ ap (λ n. put_back n m) is
 
 -- less is left to do where a unit is taken, and where the row's frame is taken off
-pub unit_step : (p : Parser) (i : Input) (u : Unit) (new : Parser) (answer : Result State AllocError) → past_space (left_of p) ≡ Next u (units_at i) → Advances 13 (record p { input = i }) new answer → Advances 1 p new answer
-unit_step p i u new answer next step =
+pub unit_step : (p : Parser) (i : Input) (u : Unit) (new : Parser) (st : State) (answer : Result ⊤ AllocError) → past_space (left_of p) ≡ Next u (units_at i) → Advances 13 (record p { input = i }) new st answer → Advances 1 p new st answer
+unit_step p i u new st answer next step =
     let one : unit_count (past_space (left_of p)) ≡ suc (unit_count (units_at i)) = ap unit_count next in
     let space = no_more_past_space (left_of p) in
-    step_within p (record p { input = i }) new answer 13 1 (omega (arith, one, space)) step
+    step_within p (record p { input = i }) new st answer 13 1 (omega (arith, one, space)) step
 
-pub closing_step : (p : Parser) (i : Input) (fr : Frames) (f : Frame) (u : Unit) (new : Parser) (answer : Result State AllocError) → IsInnermost p.style p.frames.stack.items f fr.stack.items → past_space (left_of p) ≡ Next u (units_at i) → Advances 13 (record p { input = i; frames = fr }) new answer → Advances 1 p new answer
-closing_step p i fr f u new answer taken next step =
+pub closing_step : (p : Parser) (i : Input) (fr : Frames) (f : Frame) (u : Unit) (new : Parser) (st : State) (answer : Result ⊤ AllocError) → IsInnermost p.style p.frames.stack.items f fr.stack.items → past_space (left_of p) ≡ Next u (units_at i) → Advances 13 (record p { input = i; frames = fr }) new st answer → Advances 1 p new st answer
+closing_step p i fr f u new st answer taken next step =
     let one : unit_count (past_space (left_of p)) ≡ suc (unit_count (units_at i)) = ap unit_count next in
     let space = no_more_past_space (left_of p) in
     let fewer = frames_left p.style p.frames.stack.items fr.stack.items f taken in
-    step_within p (record p { input = i; frames = fr }) new answer 13 1 (omega (arith, one, space, fewer)) step
+    step_within p (record p { input = i; frames = fr }) new st answer 13 1 (omega (arith, one, space, fewer)) step

@@ -1,4 +1,5 @@
 -- What holds of the parser where a row ends, and where what follows a change begins.
+use Rattle.std.specs.Prelude.{⊤}
 use Rattle.std.proofs.Common.{◌≡◌, ◌∙◌, ℕ, ◌+◌, ◌-◌, ◌≤◌, List, Result, Some, drop, length, reverse, sym, ap, subst, arith}
 use Rattle.std.proofs.lemmas.{Bool.and_parts, List.drop-drop, List.length-drop}
 use Rattle.std.specs.declared.alloc.AllocError.{AllocError}
@@ -116,10 +117,10 @@ module _ (p : Parser) (fr : Frames) (f : Frame) (e : Ending) (at : ℕ) (context
       })
 
   -- less is left to do where the row's frame is put back
-  pub rest_step : (b : Built) (new : Parser) (answer : Result State AllocError) → Advances (ending_weight e + 2) (record p { frames = fr; builder = b }) new answer → Advances 13 p new answer
-  rest_step b new answer step =
+  pub rest_step : (b : Built) (new : Parser) (st : State) (answer : Result ⊤ AllocError) → Advances (ending_weight e + 2) (record p { frames = fr; builder = b }) new st answer → Advances 13 p new st answer
+  rest_step b new st answer step =
       let brought = weighed p.style p.frames.stack.items others (frame.Row e at context row) at_row in
-      step_within p (record p { frames = fr; builder = b }) new answer (ending_weight e + 2) 13 (omega (arith, brought)) step
+      step_within p (record p { frames = fr; builder = b }) new st answer (ending_weight e + 2) 13 (omega (arith, brought)) step
 
   module _ (s : Start) (change : Change) (place : ℕ) (g : BeginsRest change place s p) where
     -- where the outcome of the row leads

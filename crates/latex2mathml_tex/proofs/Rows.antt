@@ -1,4 +1,5 @@
 -- What holds of the parser where an atom is put after a row.
+use Rattle.std.specs.Prelude.{⊤}
 use Rattle.std.proofs.Common.{◌≡◌, ℕ, ◌+◌, ◌-◌, ◌<◌, ◌≤◌, ◌&&◌, ◌++◌, Bool, true, false, sum_by, Some, None, Result, Ok, Err, IsTrue, List, [], ◌∷◌, drop, length, refl, sym, ap, ◌∙◌, subst, arith, reverse}
 use Rattle.std.proofs.lemmas.{List.drop-drop, List.length-drop, List.reverse-append, List.Sums.sum_by_push}
 use Rattle.latex2mathml_elements.specs.Element.{Element}
@@ -178,9 +179,9 @@ module _ (p q : Parser) (i : Input) (error : TexError) (st : State) (same : q �
       (record { style = style; claims = rw e (all_refuse r s (reverse p.frames.stack.items) (elements_of p) k) }))
 
 -- a step that does no more
-pub step_within : (old q new : Parser) (answer : Result State AllocError) (n m : ℕ) → to_do q + n ≤ to_do old + m → Advances n q new answer → Advances m old new answer
-step_within old q new (Ok st) n m h f = record { ready = f.ready; falls = omega (arith, f.falls, h) }
-step_within old q new (Err e) n m h f = f
+pub step_within : (old q new : Parser) (st : State) (answer : Result ⊤ AllocError) (n m : ℕ) → to_do q + n ≤ to_do old + m → Advances n q new st answer → Advances m old new st answer
+step_within old q new st (Ok u) n m h f = record { ready = f.ready; falls = omega (arith, f.falls, h) }
+step_within old q new st (Err e) n m h f = f
 
 -- Delimiters within others
 

@@ -1,4 +1,5 @@
 -- What holds of the parser where tables begin and end.
+use Rattle.std.specs.Prelude.{⊤}
 use Rattle.std.proofs.Common.{◌≡◌, ℕ, ◌+◌, ◌<◌, ◌≤◌, List, [], ◌∷◌, Option, Some, None, true, drop, option_map, reverse, sum_by, take, Result, refl, sym, ap, subst, ◌∙◌, arith}
 use Rattle.std.specs.{Borrow.Bor, declared.alloc.AllocError.AllocError}
 use Rattle.std.specs.Str.{bytes_eq}
@@ -65,12 +66,12 @@ module _ (p q : Parser) (place : ℕ) (spot : Spot) where
     text_taken s c then g =
         subst (λ x. BeginsIn c (then text) 0 s x) (sym took.0) (record { style = g.style; context = g.context; leads = found then took.1 g.leads })
 
-    pub text_within : (n m : ℕ) (new : Parser) (answer : Result State AllocError) → n ≤ m → Advances n q new answer → Advances m p new answer
-    text_within n m new answer h step =
+    pub text_within : (n m : ℕ) (new : Parser) (st : State) (answer : Result ⊤ AllocError) → n ≤ m → Advances n q new st answer → Advances m p new st answer
+    text_within n m new st answer h step =
         let frames : sum_by frame_weight q.frames.stack.items ≡ sum_by frame_weight p.frames.stack.items = ap (λ (x : Parser). sum_by frame_weight x.frames.stack.items) took.0 in
-        step_within p q new answer n m (omega (arith, frames, fewer, h)) step
+        step_within p q new st answer n m (omega (arith, frames, fewer, h)) step
 
-    pub text_step : (n : ℕ) (new : Parser) (answer : Result State AllocError) → n ≤ 13 → Advances n q new answer → Advances 13 p new answer
+    pub text_step : (n : ℕ) (new : Parser) (st : State) (answer : Result ⊤ AllocError) → n ≤ 13 → Advances n q new st answer → Advances 13 p new st answer
     text_step n = text_within n 13
 
     -- the formula is refused after the text
@@ -93,10 +94,10 @@ module _ (p q : Parser) (place : ℕ) (spot : Spot) where
 pub passed_begins : (s : Start) (p : Parser) (i : Input) (c : Context) (spot : Spot) (then : Rule) → units_at i ≡ past spot (left_of p) → BeginsIn c (passes_over spot then) 0 s p → BeginsIn c then 0 s (record p { input = i })
 passed_begins s p i c spot then units g = record { style = g.style; context = g.context; leads = subst (λ l. RuleLeads then (CoreMade (level 0 s p)) l) (sym units) (passed g.leads) }
 
-pub passed_step : (p : Parser) (i : Input) (spot : Spot) (n m : ℕ) (new : Parser) (answer : Result State AllocError) → units_at i ≡ past spot (left_of p) → n ≤ m → Advances n (record p { input = i }) new answer → Advances m p new answer
-passed_step p i spot n m new answer units h step =
+pub passed_step : (p : Parser) (i : Input) (spot : Spot) (n m : ℕ) (new : Parser) (st : State) (answer : Result ⊤ AllocError) → units_at i ≡ past spot (left_of p) → n ≤ m → Advances n (record p { input = i }) new st answer → Advances m p new st answer
+passed_step p i spot n m new st answer units h step =
     let fewer : unit_count (units_at i) ≤ unit_count (left_of p) = rw units (no_more_past spot (left_of p)) in
-    step_within p (record p { input = i }) new answer n m (omega (arith, fewer, h)) step
+    step_within p (record p { input = i }) new st answer n m (omega (arith, fewer, h)) step
 
 -- Rows begin
 
@@ -169,7 +170,7 @@ table_made s p b delimiters columns own rows f around said c is inner says put m
     record { style = g.style; claims = rw (one, made x) (given g.leads) }
 
 -- less is left to do after the sign that ends a row
-pub broken_step : (p : Parser) (b : Built) (i : Input) (new : Parser) (answer : Result State AllocError) → units_at i ≡ past_break (left_of p) → Advances 6 (record p { builder = b; input = i }) new answer → Advances 13 p new answer
-broken_step p b i new answer units step =
+pub broken_step : (p : Parser) (b : Built) (i : Input) (new : Parser) (st : State) (answer : Result ⊤ AllocError) → units_at i ≡ past_break (left_of p) → Advances 6 (record p { builder = b; input = i }) new st answer → Advances 13 p new st answer
+broken_step p b i new st answer units step =
     let fewer : unit_count (units_at i) ≤ unit_count (left_of p) = rw units (no_more_past_break (left_of p)) in
-    step_within p (record p { builder = b; input = i }) new answer 6 13 (omega (arith, fewer)) step
+    step_within p (record p { builder = b; input = i }) new st answer 6 13 (omega (arith, fewer)) step

@@ -1,4 +1,5 @@
 -- What holds of the parser where its innermost frame is taken off, and where a frame is pushed.
+use Rattle.std.specs.Prelude.{⊤}
 use Rattle.std.proofs.Common.{◌≡◌, ◌∙◌, ◌+◌, ◌<◌, ◌≤◌, ◌&&◌, ◌++◌, ℕ, Bool, IsTrue, List, Option, Result, [], ◌∷◌, ap, arith, drop, false, refl, reverse, subst, sum_by, sym, true}
 use Rattle.std.proofs.lemmas.{Bool.and_parts, List.reverse-append, List.Sums.sum_by_push}
 use Rattle.std.specs.declared.alloc.AllocError.{AllocError}
@@ -38,10 +39,10 @@ module _ (p : Parser) (fr : Frames) (f : Frame) (inner : IsInnermost p.style p.f
       }
 
   -- as much less is left to do as the frame still brought
-  pub taken_step : (n m : ℕ) (new : Parser) (answer : Result State AllocError) → n ≤ frame_weight f + m → Advances n (record p { frames = fr }) new answer → Advances m p new answer
-  taken_step n m new answer less step =
+  pub taken_step : (n m : ℕ) (new : Parser) (st : State) (answer : Result ⊤ AllocError) → n ≤ frame_weight f + m → Advances n (record p { frames = fr }) new st answer → Advances m p new st answer
+  taken_step n m new st answer less step =
       let brought = weighed p.style p.frames.stack.items fr.stack.items f inner in
-      step_within p (record p { frames = fr }) new answer n m (omega (arith, brought, less)) step
+      step_within p (record p { frames = fr }) new st answer n m (omega (arith, brought, less)) step
 
   -- in a text, the words are those of its command
   pub text_taken : (s : Start) (ws : Words) → f ≡ frame.Text → Holds s p (state.Words ws) → Begins (gives (core (words_atom (words_with ws (elements_of p))))) ws.count s (record p { frames = fr })

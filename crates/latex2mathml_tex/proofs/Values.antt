@@ -1,4 +1,5 @@
 -- What holds of the parser where a value is taken, or none is.
+use Rattle.std.specs.Prelude.{⊤}
 use Rattle.std.proofs.Common.{◌≡◌, ℕ, ◌+◌, ◌<◌, ◌≤◌, List, Option, Some, None, Result, refl, sym, ap, subst}
 use Rattle.std.specs.declared.alloc.AllocError.{AllocError}
 use Rattle.latex2mathml_tex_grammar.specs.{Makes.Core, Reading.Outcome, Reading.Refused, Refusal.Refusal}
@@ -27,8 +28,8 @@ module _ {A : Type 0} (value : List ℕ → Option A) (no_value : List ℕ → R
       subst (λ v. BeginsIn c (with_value (no_value text) more v) 0 s q) known
       (text_taken p q place spot text (same, is) s c (λ text. with_value (no_value text) more (value text)) g)
 
-  pub value_within : (x : A) (n m : ℕ) (new : Parser) (answer : Result State AllocError) → TookValue place spot value no_value p q (Some x) → n ≤ m → Advances n q new answer → Advances m p new answer
-  value_within x n m new answer (same, (text, (is, known))) h step = text_within p q place spot text (same, is) n m new answer h step
+  pub value_within : (x : A) (n m : ℕ) (new : Parser) (st : State) (answer : Result ⊤ AllocError) → TookValue place spot value no_value p q (Some x) → n ≤ m → Advances n q new st answer → Advances m p new st answer
+  value_within x n m new st answer (same, (text, (is, known))) h step = text_within p q place spot text (same, is) n m new st answer h step
 
   pub value_fewer : (x : A) → TookValue place spot value no_value p q (Some x) → unit_count (left_of q) ≤ unit_count (left_of p)
   value_fewer x (same, (text, (is, known))) = no_more_scanned place (left_of p) (left_of q) spot text is

@@ -1,7 +1,7 @@
 -- What characters and commands are in words, and what holds of the parser after them.
 use Rattle.std.proofs.Common.{◌≡◌, ◌==◌, ◌+◌, ◌||◌, ◌++◌, ◌∷◌, [], Bool, ℕ, ℤ, true, false, drop, Err, List, Ok, Option, Result, Some, None, option_map, refl, subst, sym, ap, ◌∙◌, arith}
 use Rattle.std.proofs.lemmas.Bool.Decides.{nat_tests}
-use Rattle.std.specs.Prelude.{IfOk, OnOk}
+use Rattle.std.specs.Prelude.{OnOk, ⊤}
 use Rattle.std.specs.Str.{byte}
 use Rattle.std.specs.declared.alloc.AllocError.{AllocError}
 use Rattle.latex2mathml_tex_grammar.specs.{Commands.meaning_of, Delimiters.entry_of_name, Makes.text, Meaning.Meaning, Reading.Read, Symbols.Alphabet, TextCommands.text_commands}
@@ -73,20 +73,20 @@ module _ (a : Option Alphabet) (name : List ℕ) where
 
 -- a command that cannot appear in words is refused, if there is memory for its name
 module _ (p q : Parser) (same : q ≡ record p { refusal = q.refusal }) where
-  abbrev pub IsRefused : Result State AllocError → Type 0
-  IsRefused answer = IfOk answer (λ st. st ≡ state.Refused)
+  abbrev pub IsRefused : State → Result ⊤ AllocError → Type 0
+  IsRefused st answer = OnOk answer (st ≡ state.Refused)
 
-  pub command_refused : (s : Start) (ws : CodeWords) (name : List ℕ) (place : ℕ) (a : Option Alphabet) (answer : Result State AllocError) → IsRefused answer
+  pub command_refused : (s : Start) (ws : CodeWords) (name : List ℕ) (place : ℕ) (a : Option Alphabet) (st : State) (answer : Result ⊤ AllocError) → IsRefused st answer
       → OnOk answer (refusal_of q.refusal ≡ Some (refusal_at (CommandInWords name) place))
-      → word_rule a (Command name) ≡ NoWord (CommandInWords name) → BeginsWordOf ws (Command name) place a s p → IfOk answer (Holds s q)
-  command_refused s ws name place a (Ok st) is reason rule g =
+      → word_rule a (Command name) ≡ NoWord (CommandInWords name) → BeginsWordOf ws (Command name) place a s p → OnOk answer (Holds s q st)
+  command_refused s ws name place a st (Ok u) is reason rule g =
       let style = ap {A = Parser} (λ q. q.style) same in
       rw is (no_part s p ws (Command name) place a q (CommandInWords name) style reason rule g)
-  command_refused s ws name place a (Err e) is reason rule g = is
+  command_refused s ws name place a st (Err e) is reason rule g = is
 
-  pub command_step : (n : ℕ) (answer : Result State AllocError) → IsRefused answer → HasElements n p → Advances 13 p q answer
-  command_step n (Ok st) is enough = refused_step p q p.input q.refusal st same is (omega arith) (omega (arith, enough))
-  command_step n (Err e) is enough = is
+  pub command_step : (n : ℕ) (st : State) (answer : Result ⊤ AllocError) → IsRefused st answer → HasElements n p → Advances 13 p q st answer
+  command_step n st (Ok u) is enough = refused_step p q p.input q.refusal st same is (omega arith) (omega (arith, enough))
+  command_step n st (Err e) is enough = is
 
 -- Characters
 

@@ -1,5 +1,5 @@
 -- What the parser's steps preserve: what holds of each state, and what decreases.
-use Rattle.std.specs.Prelude.{◌≡◌, ℕ, ◌+◌, ◌*◌, ◌<◌, ◌≤◌, Bool, true, false, IsTrue, IfOk, IfSome, List, [], ◌∷◌, ◌&&◌, ⊤, drop, length, option_map, reverse, Result, sum_by, take, Option, Some, None}
+use Rattle.std.specs.Prelude.{◌≡◌, ℕ, ◌+◌, ◌*◌, ◌<◌, ◌≤◌, Bool, true, false, IsTrue, IfSome, OnOk, List, [], ◌∷◌, ◌&&◌, ⊤, drop, length, option_map, reverse, Result, sum_by, take, Option, Some, None}
 use Rattle.std.specs.declared.alloc.AllocError.{AllocError}
 use Rattle.latex2mathml_elements.specs.Element.{Element}
 use Rattle.latex2mathml_builder.specs.Built.{elements_in}
@@ -95,9 +95,9 @@ HoldsIn st s p = Holds s p st
 abbrev pub start_of : Form → Parser → Start
 start_of form p = record { units = left_of p; style = style_of p.style; form = form }
 
--- What holds of the parser before a step leads to what its result claims.
-abbrev pub LeadsOn : (Start → Parser → Type 0) → Parser → Parser → Result State AllocError → Type 0
-LeadsOn P old new result = (s : Start) → P s old → IfOk result (Holds s new)
+-- What holds of the parser before a step leads to what the next state claims.
+abbrev pub LeadsOn : (Start → Parser → Type 0) → Parser → Parser → State → Result ⊤ AllocError → Type 0
+LeadsOn P old new next result = (s : Start) → P s old → OnOk result (Holds s new next)
 
 -- whatever the outcome of the rule, it leads on, in a formula of the parser's style
 pub record Begins (r : Rule) (n : ℕ) (s : Start) (p : Parser) : Type 0 where
@@ -423,8 +423,8 @@ pub record Follows (bound : ℕ) (p : Parser) (st : State) : Type 0 where
   pub falls : to_do p + state_weight st < bound
 
 -- after a step, less is left to do than what was left before it and `more`
-abbrev pub Advances : ℕ → Parser → Parser → Result State AllocError → Type 0
-Advances more old new answer = IfOk answer (Follows (to_do old + more) new)
+abbrev pub Advances : ℕ → Parser → Parser → State → Result ⊤ AllocError → Type 0
+Advances more old new next answer = OnOk answer (Follows (to_do old + more) new next)
 
 -- the last state: the formula is read, or it is refused
 abbrev pub last_state : Option ℕ → State

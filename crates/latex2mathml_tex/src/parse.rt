@@ -1,5 +1,5 @@
 //! From units to elements: one loop over a stack of frames. Each step is proved to lead to what the definitions say about the
-//! units that were left before it.
+//! units that were left before it, and puts what the next one has to do in place of what it had to do itself.
 ghost use Rattle.std.specs.Prelude.{◌≡◌, ◌≢◌, ◌+◌, ℕ, [], IfOk, IsTrue, OnOk, Some};
 ghost use Rattle.std.specs.Str.{chars};
 ghost use Rattle.latex2mathml_builder.specs.Built.{nothing};
@@ -79,7 +79,7 @@ pub(crate) struct Parser<'a> {
     pub(crate) style: Style,
     pub(crate) frames: Frames,
     pub(crate) builder: Builder,
-    /// Why the formula is refused. It is kept here so that what each step returns is small.
+    /// Why the formula is refused. It is kept here so that a state is small.
     refusal: TexError,
 }
 
@@ -124,27 +124,28 @@ impl<'a> Parser<'a> {
             Holds (start_of form self.old) self.new (last_state read)) }
         ensures ready { IfOk result (λ read. Ready self.new (last_state read)) }
     {
-        let mut state = match form {
+        let mut state = State::Next;
+        match form {
             Form::Atoms => self.begin_atoms()?,
-            Form::Rows => self.begin_text()?,
-        };
+            Form::Rows => self.begin_text(&mut state)?,
+        }
         'steps: loop {
             match state {
                 State::End(count) => return Ok(Some(count)),
                 State::Refused => return Ok(None),
-                going_on => state = self.step(going_on)?,
+                _ => self.step(&mut state)?,
             }
         }
     }
 
     /// Begins the row of the whole formula. It is on the stack from the start, so that its first atom is added to it in place.
-    fn begin_atoms(&mut self) -> Result<State, AllocError>
+    fn begin_atoms(&mut self) -> Result<(), AllocError>
         requires { self.old.frames.stack.items ≡ [] }
-        ensures holds { LeadsOn (HoldsIn State.Next) self.old self.new result }
-        ensures ready { IfOk result (Ready self.new) }
+        ensures holds { LeadsOn (HoldsIn State.Next) self.old self.new State.Next result }
+        ensures ready { OnOk result (Ready self.new State.Next) }
     {
         self.frames.begin(self.style)?;
-        Ok(State::Next)
+        Ok(())
     }
 
     /// Takes out the reason why the formula is refused.
@@ -155,72 +156,76 @@ impl<'a> Parser<'a> {
         mem::replace(&mut self.refusal, TexError::out_of_memory())
     }
 
+    /// Does what the state says, and makes it the state after that. All that a step calls writes the next state to where the
+    /// loop keeps it: a state is five words long, and returned in a `Result` it would be copied by each function on the way.
     #[inline(always)]
-    fn step(&mut self, state: State) -> Result<State, AllocError>
-        requires going_on { ((count : ℕ) → state ≢ State.End count) × (state ≢ State.Refused) }
-        requires ready { Ready self.old state }
-        ensures holds { LeadsOn (HoldsIn state) self.old self.new result }
-        ensures step { Advances (state_weight state) self.old self.new result }
+    fn step(&mut self, state: &mut State) -> Result<(), AllocError>
+        requires going_on { ((count : ℕ) → state.old ≢ State.End count)
+            × (state.old ≢ State.Refused) }
+        requires ready { Ready self.old state.old }
+        ensures holds { LeadsOn (HoldsIn state.old) self.old self.new state.new result }
+        ensures step { Advances (state_weight state.old) self.old self.new state.new result }
     {
-        match state {
-            State::Next => self.next(),
-            State::Core(core) => self.deliver_core(core),
-            State::Atom(core, scripts) => self.go_on(core, scripts),
-            State::Operand(operand) => self.deliver_operand(operand),
-            State::Word(words, place, alphabet) => self.word(words, place, alphabet),
-            State::Words(words) => self.deliver_words(words),
+        match *state {
+            State::Next => self.next(state),
+            State::Core(core) => self.deliver_core(core, state),
+            State::Atom(core, scripts) => self.go_on(core, scripts, state),
+            State::Operand(operand) => self.deliver_operand(operand, state),
+            State::Word(words, place, alphabet) => self.word(words, place, alphabet, state),
+            State::Words(words) => self.deliver_words(words, state),
             State::End(_) | State::Refused => unreachable!(),
         }
     }
 
     /// Reads what the innermost frame waits for. In a row, reads on as long as atoms without scripts can be added in place.
-    fn next(&mut self) -> Result<State, AllocError>
+    fn next(&mut self, next: &mut State) -> Result<(), AllocError>
         requires { Ready self.old State.Next }
-        ensures holds { LeadsOn (HoldsIn State.Next) self.old self.new result }
-        ensures step { Advances 1 self.old self.new result }
+        ensures holds { LeadsOn (HoldsIn State.Next) self.old self.new next.new result }
+        ensures step { Advances 1 self.old self.new next.new result }
     {
         'atoms: loop {
             match self.symbol_in_row()? {
                 InRow::Symbol(core) => {
                     if !self.add_unmarked(core) {
-                        return self.go_on(core, Scripts::none(core.kind, core.limits));
+                        return self.go_on(core, Scripts::none(core.kind, core.limits), next);
                     }
                 }
-                InRow::Command(meaning) => return self.begin_command(meaning),
-                InRow::Other => return self.begin_next(),
+                InRow::Command(meaning) => return self.begin_command(meaning, next),
+                InRow::Other => return self.begin_next(next),
             }
         }
     }
 
     /// Reads what the innermost frame waits for, whatever comes next.
-    pub(crate) fn next_part(&mut self) -> Result<State, AllocError>
+    pub(crate) fn next_part(&mut self, next: &mut State) -> Result<(), AllocError>
         requires { Ready self.old State.Next }
-        ensures holds { LeadsOn (HoldsIn State.Next) self.old self.new result }
-        ensures step { Advances 1 self.old self.new result }
+        ensures holds { LeadsOn (HoldsIn State.Next) self.old self.new next.new result }
+        ensures step { Advances 1 self.old self.new next.new result }
     {
         match self.frames.innermost(self.style) {
             Frame::Row(ending, place, context, row) => {
-                self.next_atom(ending, place, context, row)
+                self.next_atom(ending, place, context, row, next)
             }
-            Frame::Last(_, place, _) => self.next_operand(place),
-            Frame::First(_, place, _) => self.next_operand(place),
-            Frame::Script(_, _, _, place, _) => self.next_operand(place),
-            Frame::Negation(place, _) => self.next_core(place),
+            Frame::Last(_, place, _) => self.next_operand(place, next),
+            Frame::First(_, place, _) => self.next_operand(place, next),
+            Frame::Script(_, _, _, place, _) => self.next_operand(place, next),
+            Frame::Negation(place, _) => self.next_core(place, next),
             Frame::Text | Frame::Words(_, _) => unreachable!(),
         }
     }
 
     /// Pushes a frame. What it waits for is due next.
-    pub(crate) fn open(&mut self, frame: Frame) -> Result<State, AllocError>
+    pub(crate) fn open(&mut self, frame: Frame, next: &mut State) -> Result<(), AllocError>
         requires can { CanMake (makes frame) (element_count frame) self.old }
         requires accepts { IsTrue (accepts core_made frame) }
         ensures holds { (s : Start) → s.style ≡ style_of self.old.style
             → Leads (level_within frame 0 s self.old) (left_of self.old)
-            → IfOk result (Holds s self.new) }
-        ensures step { Advances (frame_weight frame + 2) self.old self.new result }
+            → OnOk result (Holds s self.new next.new) }
+        ensures step { Advances (frame_weight frame + 2) self.old self.new next.new result }
     {
         self.frames.push(frame)?;
-        Ok(State::Next)
+        *next = State::Next;
+        Ok(())
     }
 
     /// Refuses the formula.

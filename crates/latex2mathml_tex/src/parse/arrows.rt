@@ -17,19 +17,23 @@ impl<'a> Parser<'a> {
         sign: char,
         place: usize,
         context: Context,
-    ) -> Result<State, AllocError>
+        next: &mut State,
+    ) -> Result<(), AllocError>
         requires begin { CanBegin 0 self.old }
         ensures holds { LeadsOn
             (BeginsIn context (an_arrow place (context_of context) sign) 0)
-            self.old self.new result }
-        ensures step { Advances 13 self.old self.new result }
+            self.old self.new next.new result }
+        ensures step { Advances 13 self.old self.new next.new result }
     {
         let small = context.styled(Style::InScript);
         if self.input.take_character('[') {
             put_arrow(&mut self.builder, sign)?;
-            return self.open(Frame::Row(Ending::BelowArrow, place, small, Row::empty()));
+            return self.open(
+                Frame::Row(Ending::BelowArrow, place, small, Row::empty()),
+                next,
+            );
         }
         put_arrow(&mut self.builder, sign)?;
-        self.open(Frame::Last(Last::OverArrow, place, small))
+        self.open(Frame::Last(Last::OverArrow, place, small), next)
     }
 }

@@ -22,18 +22,21 @@ impl<'a> Parser<'a> {
         spot: Spot,
         place: usize,
         context: Context,
-    ) -> Result<State, AllocError>
+        next: &mut State,
+    ) -> Result<(), AllocError>
         requires begin { CanBegin 0 self.old }
         ensures holds { LeadsOn
             (BeginsIn context (a_skip place (spot_of spot)) 0)
-            self.old self.new result }
-        ensures step { Advances 13 self.old self.new result }
+            self.old self.new next.new result }
+        ensures step { Advances 13 self.old self.new next.new result }
     {
         let Some(width) = self.take_length(place, spot)? else {
-            return Ok(State::Refused);
+            *next = State::Refused;
+            return Ok(());
         };
         self.builder.rectangle(Extent::wide(width))?;
-        Ok(State::Core(Core::new(Kind::Blank, false)))
+        *next = State::Core(Core::new(Kind::Blank, false));
+        Ok(())
     }
 
     /// Puts a space as wide as the length that comes next in braces. A star before it is skipped.
@@ -41,31 +44,39 @@ impl<'a> Parser<'a> {
         &mut self,
         place: usize,
         context: Context,
-    ) -> Result<State, AllocError>
+        next: &mut State,
+    ) -> Result<(), AllocError>
         requires begin { CanBegin 0 self.old }
         ensures holds { LeadsOn
             (BeginsIn context (meaning_rule place (context_of context) SkipInBraces) 0)
-            self.old self.new result }
-        ensures step { Advances 13 self.old self.new result }
+            self.old self.new next.new result }
+        ensures step { Advances 13 self.old self.new next.new result }
     {
         self.input.pass(self.alloc, Spot::BeforeStar)?;
-        self.skip(Spot::BeforeLengthInBraces, place, context)
+        self.skip(Spot::BeforeLengthInBraces, place, context, next)
     }
 
     /// Puts a black rectangle, whose width and height come next in braces. A length in brackets before them raises it.
-    pub(crate) fn rectangle(&mut self, place: usize, context: Context) -> Result<State, AllocError>
+    pub(crate) fn rectangle(
+        &mut self,
+        place: usize,
+        context: Context,
+        next: &mut State,
+    ) -> Result<(), AllocError>
         requires begin { CanBegin 0 self.old }
-        ensures holds { LeadsOn (BeginsIn context (a_rectangle place) 0) self.old self.new result }
-        ensures step { Advances 13 self.old self.new result }
+        ensures holds { LeadsOn (BeginsIn context (a_rectangle place) 0)
+            self.old self.new next.new result }
+        ensures step { Advances 13 self.old self.new next.new result }
     {
         if self.input.take_character('[') {
             let spot = Spot::InLength(LengthEnd::AtBracket);
             let Some(height) = self.take_length(place, spot)? else {
-                return Ok(State::Refused);
+                *next = State::Refused;
+                return Ok(());
             };
-            return self.bar(Some(height), place, context);
+            return self.bar(Some(height), place, context, next);
         }
-        self.bar(None, place, context)
+        self.bar(None, place, context, next)
     }
 
     /// Puts a black rectangle, which a length raises if there is one. Its width and height come next in braces.
@@ -74,78 +85,106 @@ impl<'a> Parser<'a> {
         raise: Option<i32>,
         place: usize,
         context: Context,
-    ) -> Result<State, AllocError>
+        next: &mut State,
+    ) -> Result<(), AllocError>
         requires begin { CanBegin 0 self.old }
-        ensures holds { LeadsOn (BeginsIn context (a_bar place raise) 0) self.old self.new result }
-        ensures step { Advances 13 self.old self.new result }
+        ensures holds { LeadsOn (BeginsIn context (a_bar place raise) 0)
+            self.old self.new next.new result }
+        ensures step { Advances 13 self.old self.new next.new result }
     {
         let Some(width) = self.take_length(place, Spot::BeforeLengthInBraces)? else {
-            return Ok(State::Refused);
+            *next = State::Refused;
+            return Ok(());
         };
         let Some(height) = self.take_length(place, Spot::BeforeLengthInBraces)? else {
-            return Ok(State::Refused);
+            *next = State::Refused;
+            return Ok(());
         };
         put_bar(&mut self.builder, raise, width, height)?;
-        Ok(State::Core(Core::new(Kind::Plain(Class::Ordinary), true)))
+        *next = State::Core(Core::new(Kind::Plain(Class::Ordinary), true));
+        Ok(())
     }
 
     /// Begins an operand that is raised by the length that comes next in braces.
-    pub(crate) fn raise(&mut self, place: usize, context: Context) -> Result<State, AllocError>
+    pub(crate) fn raise(
+        &mut self,
+        place: usize,
+        context: Context,
+        next: &mut State,
+    ) -> Result<(), AllocError>
         requires begin { CanBegin 0 self.old }
         ensures holds { LeadsOn
             (BeginsIn context (meaning_rule place (context_of context) Raise) 0)
-            self.old self.new result }
-        ensures step { Advances 13 self.old self.new result }
+            self.old self.new next.new result }
+        ensures step { Advances 13 self.old self.new next.new result }
     {
         let Some(height) = self.take_length(place, Spot::BeforeLengthInBraces)? else {
-            return Ok(State::Refused);
+            *next = State::Refused;
+            return Ok(());
         };
-        self.open_box(OperandBox::Raised(height), place, context)
+        self.open_box(OperandBox::Raised(height), place, context, next)
     }
 
     /// Begins an operand in the color that comes next.
-    pub(crate) fn in_color(&mut self, place: usize, context: Context) -> Result<State, AllocError>
+    pub(crate) fn in_color(
+        &mut self,
+        place: usize,
+        context: Context,
+        next: &mut State,
+    ) -> Result<(), AllocError>
         requires begin { CanBegin 0 self.old }
         ensures holds { LeadsOn
             (BeginsIn context (meaning_rule place (context_of context) InColor) 0)
-            self.old self.new result }
-        ensures step { Advances 13 self.old self.new result }
+            self.old self.new next.new result }
+        ensures step { Advances 13 self.old self.new next.new result }
     {
         let Some(color) = self.take_color(place)? else {
-            return Ok(State::Refused);
+            *next = State::Refused;
+            return Ok(());
         };
-        self.open_box(OperandBox::Colored(color), place, context)
+        self.open_box(OperandBox::Colored(color), place, context, next)
     }
 
     /// Begins an operand on a background of the color that comes next.
-    pub(crate) fn highlight(&mut self, place: usize, context: Context) -> Result<State, AllocError>
+    pub(crate) fn highlight(
+        &mut self,
+        place: usize,
+        context: Context,
+        next: &mut State,
+    ) -> Result<(), AllocError>
         requires begin { CanBegin 0 self.old }
         ensures holds { LeadsOn
             (BeginsIn context (meaning_rule place (context_of context) Highlight) 0)
-            self.old self.new result }
-        ensures step { Advances 13 self.old self.new result }
+            self.old self.new next.new result }
+        ensures step { Advances 13 self.old self.new next.new result }
     {
         let Some(color) = self.take_color(place)? else {
-            return Ok(State::Refused);
+            *next = State::Refused;
+            return Ok(());
         };
-        self.open_box(OperandBox::OnColor(color), place, context)
+        self.open_box(OperandBox::OnColor(color), place, context, next)
     }
 
     /// Begins an operand in a box without height and depth, or without one of them.
-    pub(crate) fn smash(&mut self, place: usize, context: Context) -> Result<State, AllocError>
+    pub(crate) fn smash(
+        &mut self,
+        place: usize,
+        context: Context,
+        next: &mut State,
+    ) -> Result<(), AllocError>
         requires begin { CanBegin 0 self.old }
         ensures holds { LeadsOn
             (Begins (a_smash place (context_of context)) 0)
-            self.old self.new result }
-        ensures step { Advances 13 self.old self.new result }
+            self.old self.new next.new result }
+        ensures step { Advances 13 self.old self.new next.new result }
     {
         if self.input.take_in_brackets('t') {
-            return self.open_box(OperandBox::WithoutHeight, place, context);
+            return self.open_box(OperandBox::WithoutHeight, place, context, next);
         }
         if self.input.take_in_brackets('b') {
-            return self.open_box(OperandBox::WithoutDepth, place, context);
+            return self.open_box(OperandBox::WithoutDepth, place, context, next);
         }
-        self.open_box(OperandBox::Smashed, place, context)
+        self.open_box(OperandBox::Smashed, place, context, next)
     }
 
     /// Begins an operand in a box.
@@ -154,13 +193,17 @@ impl<'a> Parser<'a> {
         operand_box: OperandBox,
         place: usize,
         context: Context,
-    ) -> Result<State, AllocError>
+        next: &mut State,
+    ) -> Result<(), AllocError>
         requires begin { CanBegin 0 self.old }
         ensures holds { LeadsOn
             (Begins (a_box place (context_of context) (box_of operand_box)) 0)
-            self.old self.new result }
-        ensures step { Advances 6 self.old self.new result }
+            self.old self.new next.new result }
+        ensures step { Advances 6 self.old self.new next.new result }
     {
-        self.open(Frame::Last(Last::Boxed(operand_box, context.style), place, context))
+        self.open(
+            Frame::Last(Last::Boxed(operand_box, context.style), place, context),
+            next,
+        )
     }
 }

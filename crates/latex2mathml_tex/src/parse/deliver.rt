@@ -1,5 +1,5 @@
 //! How parsing goes on after an atom without scripts, and after an operand.
-ghost use Rattle.std.specs.Prelude.{◌≡◌, ◌+◌, IfOk, Ok, drop};
+ghost use Rattle.std.specs.Prelude.{◌≡◌, ◌+◌, OnOk, Ok, drop};
 ghost use Rattle.latex2mathml_tex_grammar.specs.{Makes.struck, Rules.gives, Rules.struck_atom};
 ghost use Rattle.latex2mathml_tex.specs.Frames.{Start, last_count, made_of};
 ghost use Rattle.latex2mathml_tex_atoms.specs.Models.{core_with, operand_with, top};
@@ -25,54 +25,62 @@ use std::alloc::AllocError;
 impl<'a> Parser<'a> {
     /// Gives the innermost frame an atom without scripts.
     #[inline(always)]
-    pub(crate) fn deliver_core(&mut self, core: Core) -> Result<State, AllocError>
+    pub(crate) fn deliver_core(&mut self, core: Core, next: &mut State) -> Result<(), AllocError>
         requires { Ready self.old (State.Core core) }
-        ensures holds { LeadsOn (HoldsIn (State.Core core)) self.old self.new result }
-        ensures step { Advances 3 self.old self.new result }
+        ensures holds { LeadsOn (HoldsIn (State.Core core)) self.old self.new next.new result }
+        ensures step { Advances 3 self.old self.new next.new result }
     {
         match self.frames.innermost(self.style) {
-            Frame::Row(_, _, _, _) => self.go_on(core, Scripts::none(core.kind, core.limits)),
+            Frame::Row(_, _, _, _) => self.go_on(core, Scripts::none(core.kind, core.limits), next),
             Frame::Negation(place, _) => {
                 let _ = self.frames.take(self.style);
-                self.negate(place, core)
+                self.negate(place, core, next)
             }
             Frame::Text | Frame::Words(_, _) => unreachable!(),
             frame => {
                 let context = frame.context();
                 let row = with_atom(&mut self.builder, context.style, Row::empty(), core)?;
-                Ok(State::Operand(Operand {
+                *next = State::Operand(Operand {
                     class: row.class,
                     high: row.high,
-                }))
+                });
+                Ok(())
             }
         }
     }
 
     /// Strikes the atom through, if it is one sign or letter.
-    fn negate(&mut self, place: usize, core: Core) -> Result<State, AllocError>
+    fn negate(&mut self, place: usize, core: Core, next: &mut State) -> Result<(), AllocError>
         requires { CanMake core_made 1 self.old }
         ensures holds { LeadsOn
             (Begins (struck_atom place (core_with core (top (elements_of self.old)))
             (struck (top (elements_of self.old)))) 1)
-            self.old self.new result }
-        ensures step { Advances 4 self.old self.new result }
+            self.old self.new next.new result }
+        ensures step { Advances 4 self.old self.new next.new result }
     {
         if self.builder.push('\u{338}')? {
-            return Ok(State::Core(Core::new(core.kind.without_letters(), core.high)));
+            *next = State::Core(Core::new(core.kind.without_letters(), core.high));
+            return Ok(());
         }
-        Ok(self.refuse(TexErrorKind::NothingToNegate, place))
+        *next = self.refuse(TexErrorKind::NothingToNegate, place);
+        Ok(())
     }
 
     /// Gives the innermost frame an operand.
-    pub(crate) fn deliver_operand(&mut self, operand: Operand) -> Result<State, AllocError>
+    pub(crate) fn deliver_operand(
+        &mut self,
+        operand: Operand,
+        next: &mut State,
+    ) -> Result<(), AllocError>
         requires { Ready self.old (State.Operand operand) }
-        ensures holds { LeadsOn (HoldsIn (State.Operand operand)) self.old self.new result }
-        ensures step { Advances 2 self.old self.new result }
+        ensures holds { LeadsOn (HoldsIn (State.Operand operand))
+            self.old self.new next.new result }
+        ensures step { Advances 2 self.old self.new next.new result }
     {
         match self.frames.take(self.style) {
-            Frame::Last(last, _, _) => self.make(last, operand),
-            Frame::First(first, place, context) => self.after_first(first, place, context),
-            Frame::Script(core, scripts, side, _, _) => self.with_script(core, scripts, side),
+            Frame::Last(last, _, _) => self.make(last, operand, next),
+            Frame::First(first, place, context) => self.after_first(first, place, context, next),
+            Frame::Script(core, scripts, side, _, _) => self.with_script(core, scripts, side, next),
             _ => unreachable!(),
         }
     }
@@ -83,126 +91,159 @@ impl<'a> Parser<'a> {
         first: First,
         place: usize,
         context: Context,
-    ) -> Result<State, AllocError>
+        next: &mut State,
+    ) -> Result<(), AllocError>
         requires { CanMake core_made 1 self.old }
         ensures holds { (s : Start) (operand : Operand)
             → FirstRead first place context operand s self.old
-            → IfOk result (Holds s self.new) }
-        ensures step { Advances 6 self.old self.new result }
+            → OnOk result (Holds s self.new next.new) }
+        ensures step { Advances 6 self.old self.new next.new result }
     {
         let outer = self.frames.innermost(self.style).context();
-        self.open(match first {
-            First::Fraction(rule, own) => Frame::Last(Last::Fraction(rule, own), place, context),
-            First::Outlined(outline) => Frame::Last(Last::Outlined(outline), place, context),
-            First::Stack(side) => Frame::Last(Last::Stack(side, outer.style), place, outer),
-            First::StackedRelation => Frame::Last(Last::StackedRelation(outer.style), place, outer),
-        })
+        self.open(
+            match first {
+                First::Fraction(rule, own) => Frame::Last(
+                    Last::Fraction(rule, own),
+                    place,
+                    context,
+                ),
+                First::Outlined(outline) => Frame::Last(Last::Outlined(outline), place, context),
+                First::Stack(side) => Frame::Last(Last::Stack(side, outer.style), place, outer),
+                First::StackedRelation => Frame::Last(
+                    Last::StackedRelation(outer.style),
+                    place,
+                    outer,
+                ),
+            },
+            next,
+        )
     }
 
     /// Makes an atom of the uppermost operands.
-    fn make(&mut self, last: Last, operand: Operand) -> Result<State, AllocError>
+    fn make(&mut self, last: Last, operand: Operand, next: &mut State) -> Result<(), AllocError>
         requires { CanMake core_made (last_count last + 1) self.old }
         ensures holds { LeadsOn
             (Begins
             (gives (made_of last (drop 1 (elements_of self.old))
             (operand_with operand (top (elements_of self.old)))))
             (last_count last + 1))
-            self.old self.new result }
-        ensures step { Advances 4 self.old self.new result }
+            self.old self.new next.new result }
+        ensures step { Advances 4 self.old self.new next.new result }
     {
         match last {
-            Last::Group => ordinary(operand.high),
+            Last::Group => {
+                *next = State::Core(ordinary(operand.high));
+                Ok(())
+            }
             Last::SquareRoot => {
                 self.builder
                     .container(Container::Msqrt, Attributes::plain(), 1)?;
-                ordinary(true)
+                *next = State::Core(ordinary(true));
+                Ok(())
             }
             Last::Root => {
                 self.builder.pair(Pair::Mroot, Attributes::plain(), true)?;
-                ordinary(true)
+                *next = State::Core(ordinary(true));
+                Ok(())
             }
             Last::Accent(side, mark, stretch) => {
                 put_accent(&mut self.builder, side, mark, stretch)?;
-                ordinary(true)
+                *next = State::Core(ordinary(true));
+                Ok(())
             }
             Last::Brace(side, mark) => {
                 put_brace(&mut self.builder, side, mark)?;
-                Ok(State::Core(Core {
+                *next = State::Core(Core {
                     kind: Kind::Plain(Class::Operator),
                     high: true,
                     limits: LimitPlace::Stacked,
-                }))
+                });
+                Ok(())
             }
-            Last::OperatorName(limits) => Ok(State::Core(Core {
-                kind: Kind::FunctionWord,
-                high: operand.high,
-                limits,
-            })),
+            Last::OperatorName(limits) => {
+                *next = State::Core(Core {
+                    kind: Kind::FunctionWord,
+                    high: operand.high,
+                    limits,
+                });
+                Ok(())
+            }
             Last::Slash => {
                 let is_token = self.builder.push('\u{338}')?;
-                ordinary(!is_token && operand.high)
+                *next = State::Core(ordinary(!is_token && operand.high));
+                Ok(())
             }
             Last::Classed(class, style) => {
                 make_base(&mut self.builder, style, class, operand.class);
-                classed(class, operand)
+                *next = State::Core(classed(class, operand));
+                Ok(())
             }
             Last::Boxed(operand_box, style) => {
                 make_base(&mut self.builder, style, Class::Ordinary, operand.class);
                 put_in_box(&mut self.builder, operand_box)?;
-                ordinary(operand.high)
+                *next = State::Core(ordinary(operand.high));
+                Ok(())
             }
             Last::Fraction(rule, own) => {
                 put_fraction(&mut self.builder, rule, own)?;
-                Ok(State::Core(Core::new(Kind::Plain(Class::Inner), true)))
+                *next = State::Core(Core::new(Kind::Plain(Class::Inner), true));
+                Ok(())
             }
             Last::Outlined(outline) => {
                 put_outlined(&mut self.builder, outline)?;
-                Ok(State::Core(Core::new(Kind::Plain(Class::Inner), true)))
+                *next = State::Core(Core::new(Kind::Plain(Class::Inner), true));
+                Ok(())
             }
             Last::Stack(side, style) => {
                 make_base(&mut self.builder, style, operand.class, operand.class);
                 put_stack(&mut self.builder, side)?;
-                Ok(State::Core(Core::new(Kind::Plain(operand.class), true)))
+                *next = State::Core(Core::new(Kind::Plain(operand.class), true));
+                Ok(())
             }
             Last::StackedRelation(style) => {
                 make_base(&mut self.builder, style, Class::Relation, operand.class);
                 put_stack(&mut self.builder, Side::Above)?;
-                Ok(State::Core(Core::new(Kind::Plain(Class::Relation), true)))
+                *next = State::Core(Core::new(Kind::Plain(Class::Relation), true));
+                Ok(())
             }
             Last::OverArrow => {
                 self.builder.pair(Pair::Mover, Attributes::plain(), false)?;
-                Ok(State::Core(Core::new(Kind::Plain(Class::Relation), true)))
+                *next = State::Core(Core::new(Kind::Plain(Class::Relation), true));
+                Ok(())
             }
             Last::OverAndUnderArrow => {
                 self.builder
                     .triple(Triple::Munderover, Attributes::plain(), false)?;
-                Ok(State::Core(Core::new(Kind::Plain(Class::Relation), true)))
+                *next = State::Core(Core::new(Kind::Plain(Class::Relation), true));
+                Ok(())
             }
         }
     }
 }
 
 /// Returns an ordinary atom.
-fn ordinary(high: bool) -> Result<State, AllocError>
-    ensures { result ≡ Ok (State.Core
-        (record { kind = Kind.Plain Class.Ordinary; high = high; limits = LimitPlace.Beside })) }
+fn ordinary(high: bool) -> Core
+    ensures { result ≡ record {
+      kind = Kind.Plain Class.Ordinary;
+      high = high;
+      limits = LimitPlace.Beside;
+    } }
 {
-    Ok(State::Core(Core::new(Kind::Plain(Class::Ordinary), high)))
+    Core::new(Kind::Plain(Class::Ordinary), high)
 }
 
 /// Returns an operand as an atom of this class.
-fn classed(class: Class, operand: Operand) -> Result<State, AllocError>
-    ensures { IfOk result (λ st. (c : Core) × (st ≡ State.Core c)
-        × ((x : Element)
-        → core_with c x ≡ Makes.classed (class_of class) (operand_with operand x))) }
+fn classed(class: Class, operand: Operand) -> Core
+    ensures { (x : Element)
+        → core_with result x ≡ Makes.classed (class_of class) (operand_with operand x) }
 {
     let limits = match class {
         Class::Operator => LimitPlace::ByStyle,
         _ => LimitPlace::Beside,
     };
-    Ok(State::Core(Core {
+    Core {
         kind: Kind::Plain(class),
         high: operand.high,
         limits,
-    }))
+    }
 }

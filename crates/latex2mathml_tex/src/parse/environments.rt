@@ -26,21 +26,24 @@ impl<'a> Parser<'a> {
         &mut self,
         place: usize,
         context: Context,
-    ) -> Result<State, AllocError>
+        next: &mut State,
+    ) -> Result<(), AllocError>
         requires begin { CanBegin 0 self.old }
         ensures holds { LeadsOn
             (BeginsIn context (meaning_rule place (context_of context) BeginTable) 0)
-            self.old self.new result }
-        ensures step { Advances 13 self.old self.new result }
+            self.old self.new next.new result }
+        ensures step { Advances 13 self.old self.new next.new result }
     {
         let spot = Spot::BeforeArgument(Argument::Name);
         let Some(name) = self.take_text(place, spot)? else {
-            return Ok(State::Refused);
+            *next = State::Refused;
+            return Ok(());
         };
         let Some(environment) = environments::look_up(name.as_str()) else {
-            return Ok(self.refuse(TexErrorKind::UnknownEnvironment(name), place));
+            *next = self.refuse(TexErrorKind::UnknownEnvironment(name), place);
+            return Ok(());
         };
-        self.begin_placed(environment, place, context)
+        self.begin_placed(environment, place, context, next)
     }
 
     /// Begins an environment, after its name.
@@ -49,21 +52,22 @@ impl<'a> Parser<'a> {
         environment: &'static Environment,
         place: usize,
         context: Context,
-    ) -> Result<State, AllocError>
+        next: &mut State,
+    ) -> Result<(), AllocError>
         requires begin { CanBegin 0 self.old }
         ensures holds { LeadsOn
             (BeginsIn context (environment_rule place (context_of context) environment.now.name.now
             (Some (environment_of environment.now))) 0)
-            self.old self.new result }
-        ensures step { Advances 13 self.old self.new result }
+            self.old self.new next.new result }
+        ensures step { Advances 13 self.old self.new next.new result }
     {
         match environment.bracket {
-            Bracket::Nothing => self.begin_environment(environment, place, context),
+            Bracket::Nothing => self.begin_environment(environment, place, context, next),
             Bracket::Position => {
                 self.input.pass(self.alloc, Spot::BeforePosition)?;
-                self.begin_environment(environment, place, context)
+                self.begin_environment(environment, place, context, next)
             }
-            Bracket::Alignment => self.begin_aligned(environment, place, context),
+            Bracket::Alignment => self.begin_aligned(environment, place, context, next),
         }
     }
 
@@ -73,27 +77,34 @@ impl<'a> Parser<'a> {
         environment: &'static Environment,
         place: usize,
         context: Context,
-    ) -> Result<State, AllocError>
+        next: &mut State,
+    ) -> Result<(), AllocError>
         requires begin { CanBegin 0 self.old }
         ensures holds { LeadsOn
             (BeginsIn context (alignment_rule place (context_of context) environment.now.name.now
             (environment_of environment.now)) 0)
-            self.old self.new result }
-        ensures step { Advances 13 self.old self.new result }
+            self.old self.new next.new result }
+        ensures step { Advances 13 self.old self.new next.new result }
     {
         if self.input.take_in_brackets('l') {
             let columns = Columns::alike(Column::LeftAligned);
-            return self.begin_rows(environment, columns, place, context);
+            return self.begin_rows(environment, columns, place, context, next);
         }
         if self.input.take_in_brackets('c') {
             let columns = Columns::alike(Column::Centered);
-            return self.begin_rows(environment, columns, place, context);
+            return self.begin_rows(environment, columns, place, context, next);
         }
         if self.input.take_in_brackets('r') {
             let columns = Columns::alike(Column::RightAligned);
-            return self.begin_rows(environment, columns, place, context);
+            return self.begin_rows(environment, columns, place, context, next);
         }
-        self.begin_rows(environment, environment.layout.columns(), place, context)
+        self.begin_rows(
+            environment,
+            environment.layout.columns(),
+            place,
+            context,
+            next,
+        )
     }
 
     /// Begins an environment, after its name and any letter that says how it is placed in its line.
@@ -102,17 +113,24 @@ impl<'a> Parser<'a> {
         environment: &'static Environment,
         place: usize,
         context: Context,
-    ) -> Result<State, AllocError>
+        next: &mut State,
+    ) -> Result<(), AllocError>
         requires begin { CanBegin 0 self.old }
         ensures holds { LeadsOn
             (BeginsIn context (argument_rule place (context_of context) environment.now.name.now
             (environment_of environment.now) (environment_of environment.now).argument) 0)
-            self.old self.new result }
-        ensures step { Advances 13 self.old self.new result }
+            self.old self.new next.new result }
+        ensures step { Advances 13 self.old self.new next.new result }
     {
         match environment.argument {
-            Some(argument) => self.begin_argument(argument, environment, place, context),
-            None => self.begin_rows(environment, environment.layout.columns(), place, context),
+            Some(argument) => self.begin_argument(argument, environment, place, context, next),
+            None => self.begin_rows(
+                environment,
+                environment.layout.columns(),
+                place,
+                context,
+                next,
+            ),
         }
     }
 
@@ -123,19 +141,26 @@ impl<'a> Parser<'a> {
         environment: &'static Environment,
         place: usize,
         context: Context,
-    ) -> Result<State, AllocError>
+        next: &mut State,
+    ) -> Result<(), AllocError>
         requires begin { CanBegin 0 self.old }
         ensures holds { LeadsOn
             (BeginsIn context (argument_rule place (context_of context) environment.now.name.now
             (environment_of environment.now) (Some (argument_of argument))) 0)
-            self.old self.new result }
-        ensures step { Advances 13 self.old self.new result }
+            self.old self.new next.new result }
+        ensures step { Advances 13 self.old self.new next.new result }
     {
         match argument {
-            Argument::ColumnList => self.begin_listed(environment, place, context),
-            Argument::Number => self.begin_numbered(environment, place, context),
+            Argument::ColumnList => self.begin_listed(environment, place, context, next),
+            Argument::Number => self.begin_numbered(environment, place, context, next),
             Argument::Name | Argument::ColorName => {
-                self.begin_rows(environment, environment.layout.columns(), place, context)
+                self.begin_rows(
+                    environment,
+                    environment.layout.columns(),
+                    place,
+                    context,
+                    next,
+                )
             }
         }
     }
@@ -146,20 +171,28 @@ impl<'a> Parser<'a> {
         environment: &'static Environment,
         place: usize,
         context: Context,
-    ) -> Result<State, AllocError>
+        next: &mut State,
+    ) -> Result<(), AllocError>
         requires begin { CanBegin 0 self.old }
         ensures holds { LeadsOn
             (BeginsIn context (takes_found (BeforeArgument Number) place
             (λ number. rows_rule place (context_of context) environment.now.name.now
             (environment_of environment.now) (environment_of environment.now).columns)) 0)
-            self.old self.new result }
-        ensures step { Advances 13 self.old self.new result }
+            self.old self.new next.new result }
+        ensures step { Advances 13 self.old self.new next.new result }
     {
         let spot = Spot::BeforeArgument(Argument::Number);
         let Some(_number) = self.take_text(place, spot)? else {
-            return Ok(State::Refused);
+            *next = State::Refused;
+            return Ok(());
         };
-        self.begin_rows(environment, environment.layout.columns(), place, context)
+        self.begin_rows(
+            environment,
+            environment.layout.columns(),
+            place,
+            context,
+            next,
+        )
     }
 
     /// Begins an environment whose columns come next.
@@ -168,23 +201,26 @@ impl<'a> Parser<'a> {
         environment: &'static Environment,
         place: usize,
         context: Context,
-    ) -> Result<State, AllocError>
+        next: &mut State,
+    ) -> Result<(), AllocError>
         requires begin { CanBegin 0 self.old }
         ensures holds { LeadsOn
             (BeginsIn context (takes_found (BeforeArgument ColumnList) place
             (λ letters. listed_rule place (context_of context) environment.now.name.now
             (environment_of environment.now) letters)) 0)
-            self.old self.new result }
-        ensures step { Advances 13 self.old self.new result }
+            self.old self.new next.new result }
+        ensures step { Advances 13 self.old self.new next.new result }
     {
         let spot = Spot::BeforeArgument(Argument::ColumnList);
         let Some(letters) = self.take_text(place, spot)? else {
-            return Ok(State::Refused);
+            *next = State::Refused;
+            return Ok(());
         };
         let Some(columns) = listed(letters.as_str()) else {
-            return Ok(self.refuse(TexErrorKind::TooManyColumns, place));
+            *next = self.refuse(TexErrorKind::TooManyColumns, place);
+            return Ok(());
         };
-        self.begin_rows(environment, columns, place, context)
+        self.begin_rows(environment, columns, place, context, next)
     }
 
     /// Begins the rows of an environment.
@@ -194,13 +230,14 @@ impl<'a> Parser<'a> {
         columns: Columns,
         place: usize,
         context: Context,
-    ) -> Result<State, AllocError>
+        next: &mut State,
+    ) -> Result<(), AllocError>
         requires begin { CanBegin 0 self.old }
         ensures holds { LeadsOn
             (BeginsIn context (rows_rule place (context_of context) environment.now.name.now
             (environment_of environment.now) (columns_of columns)) 0)
-            self.old self.new result }
-        ensures step { Advances 12 self.old self.new result }
+            self.old self.new next.new result }
+        ensures step { Advances 12 self.old self.new next.new result }
     {
         self.input.pass(self.alloc, Spot::BeforeRow)?;
         let table = Table {
@@ -209,7 +246,7 @@ impl<'a> Parser<'a> {
             rows: 0,
             cells: 0,
         };
-        self.begin_cell(table, place)
+        self.begin_cell(table, place, next)
     }
 }
 

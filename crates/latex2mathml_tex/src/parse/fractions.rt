@@ -17,21 +17,22 @@ impl<'a> Parser<'a> {
         &mut self,
         place: usize,
         context: Context,
-    ) -> Result<State, AllocError>
+        next: &mut State,
+    ) -> Result<(), AllocError>
         requires begin { CanBegin 0 self.old }
         ensures holds { LeadsOn
             (Begins (a_continued_fraction place (context_of context)) 0)
-            self.old self.new result }
-        ensures step { Advances 13 self.old self.new result }
+            self.old self.new next.new result }
+        ensures step { Advances 13 self.old self.new next.new result }
     {
         let (rule, own) = (FractionRule::Bar, Some(Style::InDisplay));
         if self.input.take_in_brackets('l') {
-            return self.open_fraction(rule, own, place, context);
+            return self.open_fraction(rule, own, place, context, next);
         }
         if self.input.take_in_brackets('r') {
-            return self.open_fraction(rule, own, place, context);
+            return self.open_fraction(rule, own, place, context, next);
         }
-        self.open_fraction(rule, own, place, context)
+        self.open_fraction(rule, own, place, context, next)
     }
 
     /// Begins a fraction, which may have a style of its own. Its parts are smaller.
@@ -41,15 +42,19 @@ impl<'a> Parser<'a> {
         own: Option<Style>,
         place: usize,
         context: Context,
-    ) -> Result<State, AllocError>
+        next: &mut State,
+    ) -> Result<(), AllocError>
         requires begin { CanBegin 0 self.old }
         ensures holds { LeadsOn
             (Begins (a_fraction place (context_of context) (fraction_rule_of rule)
             (option_map style_of own)) 0)
-            self.old self.new result }
-        ensures step { Advances 10 self.old self.new result }
+            self.old self.new next.new result }
+        ensures step { Advances 10 self.old self.new next.new result }
     {
         let style = own.unwrap_or(context.style).smaller();
-        self.open(Frame::First(First::Fraction(rule, own), place, context.styled(style)))
+        self.open(
+            Frame::First(First::Fraction(rule, own), place, context.styled(style)),
+            next,
+        )
     }
 }

@@ -36,15 +36,17 @@ impl<'a> Parser<'a> {
         &mut self,
         alphabet: Option<Alphabet>,
         symbol: Symbol,
-    ) -> Result<State, AllocError>
+        next: &mut State,
+    ) -> Result<(), AllocError>
         requires { CanBegin 0 self.old }
         ensures holds { LeadsOn
             (Begins (gives
             (Makes.symbol (option_map alphabet_of alphabet) (Meanings.symbol_of symbol))) 0)
-            self.old self.new result }
-        ensures step { Advances 13 self.old self.new result }
+            self.old self.new next.new result }
+        ensures step { Advances 13 self.old self.new next.new result }
     {
-        Ok(State::Core(put_symbol(&mut self.builder, alphabet, symbol)?))
+        *next = State::Core(put_symbol(&mut self.builder, alphabet, symbol)?);
+        Ok(())
     }
 
     /// Puts a letter that is italic by default.
@@ -52,14 +54,16 @@ impl<'a> Parser<'a> {
         &mut self,
         alphabet: Option<Alphabet>,
         c: char,
-    ) -> Result<State, AllocError>
+        next: &mut State,
+    ) -> Result<(), AllocError>
         requires { CanBegin 0 self.old }
         ensures holds { LeadsOn
             (Begins (gives (core (Makes.letter (option_map alphabet_of alphabet) c))) 0)
-            self.old self.new result }
-        ensures step { Advances 13 self.old self.new result }
+            self.old self.new next.new result }
+        ensures step { Advances 13 self.old self.new next.new result }
     {
-        Ok(State::Core(put_letter(&mut self.builder, alphabet, c)?))
+        *next = State::Core(put_letter(&mut self.builder, alphabet, c)?);
+        Ok(())
     }
 
     /// Puts a letter that is upright by default.
@@ -67,14 +71,16 @@ impl<'a> Parser<'a> {
         &mut self,
         alphabet: Option<Alphabet>,
         c: char,
-    ) -> Result<State, AllocError>
+        next: &mut State,
+    ) -> Result<(), AllocError>
         requires { CanBegin 0 self.old }
         ensures holds { LeadsOn
             (Begins (gives (core (Makes.upright_letter (option_map alphabet_of alphabet) c))) 0)
-            self.old self.new result }
-        ensures step { Advances 13 self.old self.new result }
+            self.old self.new next.new result }
+        ensures step { Advances 13 self.old self.new next.new result }
     {
-        Ok(State::Core(put_upright_letter(&mut self.builder, alphabet, c)?))
+        *next = State::Core(put_upright_letter(&mut self.builder, alphabet, c)?);
+        Ok(())
     }
 
     /// Puts the name of a function.
@@ -82,31 +88,34 @@ impl<'a> Parser<'a> {
         &mut self,
         limits: LimitPlace,
         name: &'static str,
-    ) -> Result<State, AllocError>
+        next: &mut State,
+    ) -> Result<(), AllocError>
         requires { CanBegin 0 self.old }
         ensures holds { LeadsOn
             (Begins (gives (Makes.function_name (limit_place_of limits) name.now)) 0)
-            self.old self.new result }
-        ensures step { Advances 13 self.old self.new result }
+            self.old self.new next.new result }
+        ensures step { Advances 13 self.old self.new next.new result }
     {
         self.builder.text(Token::Mi, Attributes::plain(), name)?;
-        Ok(State::Core(Core {
+        *next = State::Core(Core {
             kind: Kind::FunctionWord,
             high: false,
             limits,
-        }))
+        });
+        Ok(())
     }
 
     /// Puts a space of this width, in eighteenths of an em.
-    pub(crate) fn space(&mut self, width: i8) -> Result<State, AllocError>
+    pub(crate) fn space(&mut self, width: i8, next: &mut State) -> Result<(), AllocError>
         requires { CanBegin 0 self.old }
         ensures holds { LeadsOn
             (Begins (gives (core (Makes.spacing width))) 0)
-            self.old self.new result }
-        ensures step { Advances 13 self.old self.new result }
+            self.old self.new next.new result }
+        ensures step { Advances 13 self.old self.new next.new result }
     {
         self.builder.space(i32::from(width))?;
-        Ok(State::Core(Core::new(Kind::Blank, false)))
+        *next = State::Core(Core::new(Kind::Blank, false));
+        Ok(())
     }
 
     /// Puts the number that begins with this digit: digits, and a point between digits.
@@ -140,33 +149,39 @@ impl<'a> Parser<'a> {
         &mut self,
         alphabet: Option<Alphabet>,
         c: char,
-    ) -> Result<State, AllocError>
+        next: &mut State,
+    ) -> Result<(), AllocError>
         requires begin { CanBegin 0 self.old }
         ensures holds { (s : Start) (context : Context)
             → option_map alphabet_of alphabet ≡ (context_of context).alphabet
             → Begins (a_symbol (context_of context) c (symbol_of c)) 0 s self.old
-            → IfOk result (Holds s self.new) }
-        ensures step { Advances 13 self.old self.new result }
+            → OnOk result (Holds s self.new next.new) }
+        ensures step { Advances 13 self.old self.new next.new result }
     {
         match symbol_of(c) {
-            Some(symbol) => self.symbol(alphabet, symbol),
-            None => self.upright_letter(alphabet, c),
+            Some(symbol) => self.symbol(alphabet, symbol, next),
+            None => self.upright_letter(alphabet, c, next),
         }
     }
 
     /// Puts a point, which was taken, or the number that it begins if a digit comes next.
-    pub(crate) fn point(&mut self, alphabet: Option<Alphabet>) -> Result<State, AllocError>
+    pub(crate) fn point(
+        &mut self,
+        alphabet: Option<Alphabet>,
+        next: &mut State,
+    ) -> Result<(), AllocError>
         requires { CanBegin 0 self.old }
-        ensures holds { LeadsOn (PointBegins alphabet) self.old self.new result }
-        ensures step { Advances 13 self.old self.new result }
+        ensures holds { LeadsOn (PointBegins alphabet) self.old self.new next.new result }
+        ensures step { Advances 13 self.old self.new next.new result }
     {
         let Some(digit) = self.input.take_digit() else {
-            return self.other_character(alphabet, '.');
+            return self.other_character(alphabet, '.', next);
         };
         begin_number(&mut self.builder, alphabet, '.')?;
         append_digit(&mut self.builder, alphabet, digit)?;
         digits(&mut self.input, &mut self.builder, alphabet)?;
-        Ok(State::Core(number()))
+        *next = State::Core(number());
+        Ok(())
     }
 }
 

@@ -24,18 +24,23 @@ impl<'a> Parser<'a> {
         &mut self,
         place: usize,
         context: Context,
-    ) -> Result<State, AllocError>
+        next: &mut State,
+    ) -> Result<(), AllocError>
         requires begin { CanBegin 0 self.old }
         ensures holds { LeadsOn
             (Begins (a_general_fraction place (context_of context)) 0)
-            self.old self.new result }
-        ensures step { Advances 13 self.old self.new result }
+            self.old self.new next.new result }
+        ensures step { Advances 13 self.old self.new next.new result }
     {
         let Some(outline) = self.take_outline(place)? else {
-            return Ok(State::Refused);
+            *next = State::Refused;
+            return Ok(());
         };
         let style = outline.own.unwrap_or(context.style).smaller();
-        self.open(Frame::First(First::Outlined(outline), place, context.styled(style)))
+        self.open(
+            Frame::First(First::Outlined(outline), place, context.styled(style)),
+            next,
+        )
     }
 
     /// Takes what says how a fraction is drawn. If it does not come next, the formula is refused and `None` is returned.

@@ -104,99 +104,106 @@ impl<'a> Parser<'a> {
 
     /// Begins the command of this meaning that comes next. In a row, no frame is copied for an atom that begins in each row.
     #[inline(never)]
-    pub(crate) fn begin_command(&mut self, meaning: &'static Meaning) -> Result<State, AllocError>
+    pub(crate) fn begin_command(
+        &mut self,
+        meaning: &'static Meaning,
+        next: &mut State,
+    ) -> Result<(), AllocError>
         requires ready { Ready self.old State.Next }
         requires next { IsCommandNext (meaning_of meaning.now) self.old }
-        ensures holds { LeadsOn (HoldsIn State.Next) self.old self.new result }
-        ensures step { Advances 1 self.old self.new result }
+        ensures holds { LeadsOn (HoldsIn State.Next) self.old self.new next.new result }
+        ensures step { Advances 1 self.old self.new next.new result }
     {
         if let Some(context) = self.frames.row_context(self.style)
             && let Next::Unit(unit) = self.input.peek()
             && begins_atoms(*meaning)
         {
             self.input.advance();
-            return self.meaning(*meaning, unit.place, context);
+            return self.meaning(*meaning, unit.place, context, next);
         }
-        self.next_part()
+        self.next_part(next)
     }
 
     /// Begins or ends what comes next in the innermost frame. No frame is copied for an operand, for a character or a group that
     /// begins an atom in each row, and where a finished row ends with a brace or with the text.
     #[inline(never)]
-    pub(crate) fn begin_next(&mut self) -> Result<State, AllocError>
+    pub(crate) fn begin_next(&mut self, next: &mut State) -> Result<(), AllocError>
         requires { Ready self.old State.Next }
-        ensures holds { LeadsOn (HoldsIn State.Next) self.old self.new result }
-        ensures step { Advances 1 self.old self.new result }
+        ensures holds { LeadsOn (HoldsIn State.Next) self.old self.new next.new result }
+        ensures step { Advances 1 self.old self.new next.new result }
     {
         if let Some(place) = self.frames.operand_place() {
-            return self.next_operand(place);
+            return self.next_operand(place, next);
         }
         match self.input.peek() {
-            Next::Unit(unit) => self.begin_unit(unit),
-            Next::End(at) => self.end_in_row(at),
-            Next::Fault(_, _) => self.next_part(),
+            Next::Unit(unit) => self.begin_unit(unit, next),
+            Next::End(at) => self.end_in_row(at, next),
+            Next::Fault(_, _) => self.next_part(next),
         }
     }
 
     /// Begins or ends what this unit, which comes next, begins or ends in the innermost frame.
     #[inline(always)]
-    fn begin_unit(&mut self, unit: Unit<'a>) -> Result<State, AllocError>
+    fn begin_unit(&mut self, unit: Unit<'a>, next: &mut State) -> Result<(), AllocError>
         requires ready { Ready self.old State.Next }
         requires next { left_of self.old
             ≡ units.Next (unit_of unit) (units_behind self.old.input) }
-        ensures holds { LeadsOn (HoldsIn State.Next) self.old self.new result }
-        ensures step { Advances 1 self.old self.new result }
+        ensures holds { LeadsOn (HoldsIn State.Next) self.old self.new next.new result }
+        ensures step { Advances 1 self.old self.new next.new result }
     {
         if let Piece::Close = unit.piece {
-            return self.close_brace(unit);
+            return self.close_brace(unit, next);
         }
         if let Some(context) = self.frames.row_context(self.style) {
             match unit.piece {
                 Piece::Character(c) if !ends_or_marks(c) => {
                     self.input.advance();
-                    return self.character(c, unit.place, context);
+                    return self.character(c, unit.place, context, next);
                 }
                 Piece::Open => {
                     self.input.advance();
                     let group = Frame::Row(Ending::Group, unit.place, context, Row::empty());
-                    return self.open(group);
+                    return self.open(group, next);
                 }
                 _ => {}
             }
         }
-        self.next_part()
+        self.next_part(next)
     }
 
     /// Ends the innermost frame with this closing brace, which comes next.
     #[inline(never)]
-    fn close_brace(&mut self, unit: Unit<'a>) -> Result<State, AllocError>
+    fn close_brace(&mut self, unit: Unit<'a>, next: &mut State) -> Result<(), AllocError>
         requires ready { Ready self.old State.Next }
         requires next { left_of self.old
             ≡ units.Next (unit_of unit) (units_behind self.old.input) }
         requires is { unit.piece ≡ Piece.Close }
-        ensures holds { LeadsOn (HoldsIn State.Next) self.old self.new result }
-        ensures step { Advances 1 self.old self.new result }
+        ensures holds { LeadsOn (HoldsIn State.Next) self.old self.new next.new result }
+        ensures step { Advances 1 self.old self.new next.new result }
     {
         match self.frames.take_braced() {
             Some((is_operand, row)) => {
                 self.input.advance();
-                self.close_braces(is_operand, row)
+                self.close_braces(is_operand, row, next)
             }
-            None => self.next_part(),
+            None => self.next_part(next),
         }
     }
 
     /// Ends the innermost frame where the text ends.
     #[inline(always)]
-    fn end_in_row(&mut self, at: usize) -> Result<State, AllocError>
+    fn end_in_row(&mut self, at: usize, next: &mut State) -> Result<(), AllocError>
         requires ready { Ready self.old State.Next }
         requires end { left_of self.old ≡ units.End at }
-        ensures holds { LeadsOn (HoldsIn State.Next) self.old self.new result }
-        ensures step { Advances 1 self.old self.new result }
+        ensures holds { LeadsOn (HoldsIn State.Next) self.old self.new next.new result }
+        ensures step { Advances 1 self.old self.new next.new result }
     {
         match self.frames.take_formula() {
-            Some(row) => Ok(State::End(row.count)),
-            None => self.next_part(),
+            Some(row) => {
+                *next = State::End(row.count);
+                Ok(())
+            }
+            None => self.next_part(next),
         }
     }
 

@@ -1,5 +1,5 @@
 //! Rows: how each of their atoms begins, how it is put after the others, and how a row ends.
-ghost use Rattle.std.specs.Prelude.{◌≡◌, ◌≢◌, ◌+◌, ◌≤◌, ℕ, false, IfOk, option_map};
+ghost use Rattle.std.specs.Prelude.{◌≡◌, ◌≢◌, ◌+◌, ◌≤◌, ℕ, false, OnOk, option_map};
 ghost use Rattle.latex2mathml_tex_grammar.specs.{Makes.no_scripts, Meaning.Beside, Rules.character_rule, Rules.meaning_rule, Starts.change_meant, Starts.empty_base, Starts.ends};
 ghost use Rattle.latex2mathml_tex_commands.specs.Meanings.{change_of, meaning_of};
 ghost use Rattle.latex2mathml_tex_units.specs.Taking.{piece_of};
@@ -33,74 +33,84 @@ impl<'a> Parser<'a> {
         place: usize,
         context: Context,
         row: Row,
-    ) -> Result<State, AllocError>
+        next: &mut State,
+    ) -> Result<(), AllocError>
         requires ready { Ready self.old State.Next }
         requires due { InnermostIs (Frame.Row ending place context row) self.old }
-        ensures holds { LeadsOn (HoldsIn State.Next) self.old self.new result }
-        ensures step { Advances 1 self.old self.new result }
+        ensures holds { LeadsOn (HoldsIn State.Next) self.old self.new next.new result }
+        ensures step { Advances 1 self.old self.new next.new result }
     {
         self.input.skip_space();
         match self.input.peek() {
-            Next::Fault(fault, at) => Ok(self.refuse_fault(fault, at)),
+            Next::Fault(fault, at) => {
+                *next = self.refuse_fault(fault, at);
+                Ok(())
+            }
             Next::End(at) => {
                 let _ = self.frames.take(self.style);
-                self.end_of_text(ending, place, context.style, row, at)
+                self.end_of_text(ending, place, context.style, row, at, next)
             }
             Next::Unit(unit) => {
                 self.input.advance();
                 if ending.is(unit.piece) {
                     let _ = self.frames.take(self.style);
-                    return self.end_row(ending, place, context.style, row, unit);
+                    return self.end_row(ending, place, context.style, row, unit, next);
                 }
-                self.begin_atom(ending, unit)
+                self.begin_atom(ending, unit, next)
             }
         }
     }
 
     /// Begins an atom of a row with this unit, which was taken.
-    fn begin_atom(&mut self, ending: Ending, unit: Unit<'a>) -> Result<State, AllocError>
+    fn begin_atom(
+        &mut self,
+        ending: Ending,
+        unit: Unit<'a>,
+        next: &mut State,
+    ) -> Result<(), AllocError>
         requires begin { CanBegin 0 self.old }
         requires due { (place : ℕ) × ((row : Row) × AwaitsAtom ending place row self.old) }
         requires some { (place : ℕ) → ends (ending_of ending place) (piece_of unit.piece) ≡ false }
-        ensures holds { LeadsOn (Took unit.entry) self.old self.new result }
-        ensures step { Advances 13 self.old self.new result }
+        ensures holds { LeadsOn (Took unit.entry) self.old self.new next.new result }
+        ensures step { Advances 13 self.old self.new next.new result }
     {
         if ending.is_divided_by(unit.piece) {
-            return self.divider();
+            return self.divider(next);
         }
         let Some(mark) = mark_of(unit.piece) else {
-            return self.begin_unmarked(unit);
+            return self.begin_unmarked(unit, next);
         };
         match mark {
-            Mark::Prime | Mark::Script(_) => self.begin_scripts(mark, unit.place),
-            Mark::Limits(_) => self.begin(unit),
+            Mark::Prime | Mark::Script(_) => self.begin_scripts(mark, unit.place, next),
+            Mark::Limits(_) => self.begin(unit, next),
         }
     }
 
     /// Begins an atom of a row with this unit, which was taken and is not a mark, or changes what follows it.
-    fn begin_unmarked(&mut self, unit: Unit<'a>) -> Result<State, AllocError>
+    fn begin_unmarked(&mut self, unit: Unit<'a>, next: &mut State) -> Result<(), AllocError>
         requires begin { CanBegin 0 self.old }
         requires row { Awaits atom_made self.old }
-        ensures holds { LeadsOn (TookUnmarked unit.entry) self.old self.new result }
-        ensures step { Advances 13 self.old self.new result }
+        ensures holds { LeadsOn (TookUnmarked unit.entry) self.old self.new next.new result }
+        ensures step { Advances 13 self.old self.new next.new result }
     {
         let Piece::Command(name) = unit.piece else {
-            return self.begin_whole(unit);
+            return self.begin_whole(unit, next);
         };
         let found = commands::look_up(name);
         if let Some(change) = change_by(found) {
-            return self.change(change, unit.place);
+            return self.change(change, unit.place, next);
         }
         let context = self.frames.innermost(self.style).context();
-        self.command(found, name, unit.place, context)
+        self.command(found, name, unit.place, context, next)
     }
 
     /// Changes what follows this place in the innermost row.
-    fn change(&mut self, change: Change, place: usize) -> Result<State, AllocError>
+    fn change(&mut self, change: Change, place: usize, next: &mut State) -> Result<(), AllocError>
         requires begin { CanBegin 0 self.old }
         requires row { Awaits atom_made self.old }
-        ensures holds { LeadsOn (BeginsRest (change_of change) place) self.old self.new result }
-        ensures step { Advances 13 self.old self.new result }
+        ensures holds { LeadsOn (BeginsRest (change_of change) place)
+            self.old self.new next.new result }
+        ensures step { Advances 13 self.old self.new next.new result }
     {
         let Frame::Row(ending, at, context, row) = self.frames.take(self.style) else {
             unreachable!()
@@ -111,39 +121,48 @@ impl<'a> Parser<'a> {
                     alphabet: Some(alphabet),
                     ..context
                 };
-                self.open(Frame::Row(ending, at, context, row))
+                self.open(Frame::Row(ending, at, context, row), next)
             }
             Change::ToStyle(style) => {
                 let row = restyle(&mut self.builder, context.style, row)?;
-                self.open(Frame::Row(ending, at, context.styled(style), row))
+                self.open(Frame::Row(ending, at, context.styled(style), row), next)
             }
             Change::ToColor => {
                 let Some(color) = self.take_color(place)? else {
-                    return Ok(State::Refused);
+                    *next = State::Refused;
+                    return Ok(());
                 };
                 let row = recolor(&mut self.builder, context.style, row, color)?;
-                self.open(Frame::Row(ending, at, context, row))
+                self.open(Frame::Row(ending, at, context, row), next)
             }
             Change::Divides(rule) => match row.under {
-                Some(_) => Ok(self.refuse(TexErrorKind::SecondInfix, place)),
+                Some(_) => {
+                    *next = self.refuse(TexErrorKind::SecondInfix, place);
+                    Ok(())
+                }
                 None => {
                     let style = row.group_style(context.style).smaller();
                     let row = divide(&mut self.builder, context.style, row, rule)?;
-                    self.open(Frame::Row(ending, at, context.styled(style), row))
+                    self.open(Frame::Row(ending, at, context.styled(style), row), next)
                 }
             },
         }
     }
 
     /// Begins with a mark, which was taken. Its base is a row without atoms.
-    fn begin_scripts(&mut self, mark: Mark, place: usize) -> Result<State, AllocError>
+    fn begin_scripts(
+        &mut self,
+        mark: Mark,
+        place: usize,
+        next: &mut State,
+    ) -> Result<(), AllocError>
         requires begin { CanBegin 0 self.old }
         requires row { Awaits atom_made self.old }
         ensures holds { LeadsOn
             (λ s. TookMark mark place (level 0 s self.old) empty_base
             (no_scripts empty_base.kind Beside) s)
-            self.old self.new result }
-        ensures step { Advances 13 self.old self.new result }
+            self.old self.new next.new result }
+        ensures step { Advances 13 self.old self.new next.new result }
     {
         self.builder
             .container(Container::Mrow, Attributes::plain(), 0)?;
@@ -153,47 +172,51 @@ impl<'a> Parser<'a> {
             place,
             base,
             Scripts::none(base.kind, LimitPlace::Beside),
+            next,
         )
     }
 
     /// Puts a delimiter within others. It takes no scripts.
-    fn divider(&mut self) -> Result<State, AllocError>
+    fn divider(&mut self, next: &mut State) -> Result<(), AllocError>
         requires begin { CanBegin 0 self.old }
         requires row { Awaits atom_made self.old }
-        ensures holds { LeadsOn BeginsDivider self.old self.new result }
-        ensures step { Advances 13 self.old self.new result }
+        ensures holds { LeadsOn BeginsDivider self.old self.new next.new result }
+        ensures step { Advances 13 self.old self.new next.new result }
     {
         let Some(delimiter) = self.input.take_delimiter() else {
-            return Ok(self.refuse_delimiter());
+            *next = self.refuse_delimiter();
+            return Ok(());
         };
         put_divider(&mut self.builder, delimiter)?;
-        self.put(Core::new(Kind::Divider, false))
+        self.put(Core::new(Kind::Divider, false), next)
     }
 
     /// Puts an atom, whose element is uppermost, after the others of the innermost row.
     #[inline(always)]
-    pub(crate) fn put(&mut self, core: Core) -> Result<State, AllocError>
+    pub(crate) fn put(&mut self, core: Core, next: &mut State) -> Result<(), AllocError>
         requires { CanMake atom_made 1 self.old }
-        ensures holds { LeadsOn (MadeAtom core) self.old self.new result }
-        ensures step { Advances 2 self.old self.new result }
+        ensures holds { LeadsOn (MadeAtom core) self.old self.new next.new result }
+        ensures step { Advances 2 self.old self.new next.new result }
     {
         if self.frames.add(core) {
-            return Ok(State::Next);
+            *next = State::Next;
+            return Ok(());
         }
-        self.put_adapted(core)
+        self.put_adapted(core, next)
     }
 
     /// Puts an atom, whose element is uppermost, after the others of the innermost row. The element may have to change.
     #[inline(never)]
-    fn put_adapted(&mut self, core: Core) -> Result<State, AllocError>
+    fn put_adapted(&mut self, core: Core, next: &mut State) -> Result<(), AllocError>
         requires { CanMake atom_made 1 self.old }
-        ensures holds { LeadsOn (MadeAtom core) self.old self.new result }
-        ensures step { Advances 2 self.old self.new result }
+        ensures holds { LeadsOn (MadeAtom core) self.old self.new next.new result }
+        ensures step { Advances 2 self.old self.new next.new result }
     {
         let (context, row) = self.frames.row(self.style);
         let row = with_atom(&mut self.builder, context.style, row, core)?;
         self.frames.set_row(self.style, row)?;
-        Ok(State::Next)
+        *next = State::Next;
+        Ok(())
     }
 
     /// Ends a row that was read in this style, where the text ends, at `at`. Its frame was taken off the stack.
@@ -204,33 +227,37 @@ impl<'a> Parser<'a> {
         style: Style,
         row: Row,
         at: usize,
-    ) -> Result<State, AllocError>
+        next: &mut State,
+    ) -> Result<(), AllocError>
         requires can { CanMake (row_makes ending) (row_count row + ending_count ending) self.old }
-        ensures holds { LeadsOn (EndsText ending place style row at) self.old self.new result }
-        ensures step { Advances (ending_weight ending + 1) self.old self.new result }
+        ensures holds { LeadsOn (EndsText ending place style row at)
+            self.old self.new next.new result }
+        ensures step { Advances (ending_weight ending + 1) self.old self.new next.new result }
     {
         let kind = match ending {
-            Ending::Text => return self.end_formula(style, row),
+            Ending::Text => return self.end_formula(style, row, next),
             Ending::Group | Ending::Operand => TexErrorKind::UnclosedBrace,
             Ending::Degree | Ending::BelowArrow => TexErrorKind::UnclosedBracket,
             Ending::Delimiters(_) => TexErrorKind::LeftWithoutRight,
             Ending::Formula(_) => TexErrorKind::UnclosedDollar,
             Ending::Cell(table) => match table.unended() {
                 Some(kind) => kind,
-                None => return self.end_last_cell(table, place, style, row, at),
+                None => return self.end_last_cell(table, place, style, row, at, next),
             },
         };
-        Ok(self.refuse(kind, place))
+        *next = self.refuse(kind, place);
+        Ok(())
     }
 
     /// Ends the row of the whole formula. Its frame was taken off the stack.
-    fn end_formula(&mut self, style: Style, row: Row) -> Result<State, AllocError>
+    fn end_formula(&mut self, style: Style, row: Row, next: &mut State) -> Result<(), AllocError>
         requires elements { HasElements (row_count row) self.old }
-        ensures holds { LeadsOn (EndsFormula style row) self.old self.new result }
-        ensures step { Advances 1 self.old self.new result }
+        ensures holds { LeadsOn (EndsFormula style row) self.old self.new next.new result }
+        ensures step { Advances 1 self.old self.new next.new result }
     {
         let row = finish(&mut self.builder, style, row)?;
-        Ok(State::End(row.count))
+        *next = State::End(row.count);
+        Ok(())
     }
 
     /// Ends the rows of the whole text where the text ends, in a cell that was read in this style. The frame of the cell was
@@ -242,15 +269,16 @@ impl<'a> Parser<'a> {
         style: Style,
         row: Row,
         at: usize,
-    ) -> Result<State, AllocError>
+        next: &mut State,
+    ) -> Result<(), AllocError>
         requires can { CanMake core_made (row_count row + (table.cells + table.rows)) self.old }
         ensures holds { LeadsOn
             (EndsWithText (Ending.Cell table) place style row at)
-            self.old self.new result }
-        ensures step { Advances 5 self.old self.new result }
+            self.old self.new next.new result }
+        ensures step { Advances 5 self.old self.new next.new result }
     {
         let row = finish(&mut self.builder, style, row)?;
-        self.end_cells(table, row.count, at)
+        self.end_cells(table, row.count, at, next)
     }
 
     /// Ends a row that was read in this style, with this unit, which was taken. Its frame was taken off the stack.
@@ -261,15 +289,16 @@ impl<'a> Parser<'a> {
         style: Style,
         row: Row,
         unit: Unit<'a>,
-    ) -> Result<State, AllocError>
+        next: &mut State,
+    ) -> Result<(), AllocError>
         requires ends { ending ≢ Ending.Text }
         requires can { CanMake (row_makes ending) (row_count row + ending_count ending) self.old }
         ensures holds { LeadsOn (EndsRow ending place style row unit.entry)
-            self.old self.new result }
-        ensures step { Advances 13 self.old self.new result }
+            self.old self.new next.new result }
+        ensures step { Advances 13 self.old self.new next.new result }
     {
         let row = finish(&mut self.builder, style, row)?;
-        self.close(ending, place, row, unit)
+        self.close(ending, place, row, unit, next)
     }
 
     /// Ends a finished row.
@@ -279,77 +308,94 @@ impl<'a> Parser<'a> {
         place: usize,
         row: Row,
         unit: Unit<'a>,
-    ) -> Result<State, AllocError>
+        next: &mut State,
+    ) -> Result<(), AllocError>
         requires ends { ending ≢ Ending.Text }
         requires can { CanMake (row_makes ending) (row.count + ending_count ending) self.old }
-        ensures holds { LeadsOn (Closes ending place row unit.entry) self.old self.new result }
-        ensures step { Advances 13 self.old self.new result }
+        ensures holds { LeadsOn (Closes ending place row unit.entry)
+            self.old self.new next.new result }
+        ensures step { Advances 13 self.old self.new next.new result }
     {
         match ending {
             Ending::Text => unreachable!(),
-            Ending::Cell(table) => self.close_cell(table, place, row, unit),
-            Ending::Group => self.close_braces(false, row),
-            Ending::Operand => self.close_braces(true, row),
+            Ending::Cell(table) => self.close_cell(table, place, row, unit, next),
+            Ending::Group => self.close_braces(false, row, next),
+            Ending::Operand => self.close_braces(true, row, next),
             Ending::Degree => {
                 put_row(&mut self.builder, row.count)?;
                 let context = self.frames.innermost(self.style).context();
-                self.open(Frame::Last(Last::Root, place, context))
+                self.open(Frame::Last(Last::Root, place, context), next)
             }
             Ending::BelowArrow => {
                 put_row(&mut self.builder, row.count)?;
                 let context = self.frames.innermost(self.style).context();
                 let small = context.styled(Style::InScript);
-                self.open(Frame::Last(Last::OverAndUnderArrow, place, small))
+                self.open(Frame::Last(Last::OverAndUnderArrow, place, small), next)
             }
-            Ending::Delimiters(opening) => self.close_delimiters(opening, row),
+            Ending::Delimiters(opening) => self.close_delimiters(opening, row, next),
             Ending::Formula(words) => {
                 put_row(&mut self.builder, row.count)?;
                 // all elements of words are among those of the builder, so their number fits in a `usize`
                 let _ = self.builder.len();
-                Ok(State::Words(Words {
+                *next = State::Words(Words {
                     count: words.count + 1,
                     ends_in_text: false,
-                }))
+                });
+                Ok(())
             }
         }
     }
 
     /// Ends a finished row of an operand or a group, whose closing brace was taken.
     #[inline(always)]
-    pub(crate) fn close_braces(&mut self, is_operand: bool, row: Row) -> Result<State, AllocError>
+    pub(crate) fn close_braces(
+        &mut self,
+        is_operand: bool,
+        row: Row,
+        next: &mut State,
+    ) -> Result<(), AllocError>
         requires { CanMake (row_makes (braced_ending is_operand)) (row.count + 0) self.old }
         ensures holds { (s : Start) (place : ℕ)
             → ClosesRow (braced_ending is_operand) place row s self.old
-            → IfOk result (Holds s self.new) }
-        ensures step { Advances 13 self.old self.new result }
+            → OnOk result (Holds s self.new next.new) }
+        ensures step { Advances 13 self.old self.new next.new result }
     {
         put_row(&mut self.builder, row.count)?;
         if is_operand {
-            return Ok(State::Operand(Operand {
+            *next = State::Operand(Operand {
                 class: row.class,
                 high: row.high,
-            }));
+            });
+            return Ok(());
         }
-        Ok(State::Core(Core::new(Kind::Plain(Class::Ordinary), row.high)))
+        *next = State::Core(Core::new(Kind::Plain(Class::Ordinary), row.high));
+        Ok(())
     }
 
     /// Ends a row between delimiters, whose `\right` was taken.
-    fn close_delimiters(&mut self, opening: Option<char>, row: Row) -> Result<State, AllocError>
+    fn close_delimiters(
+        &mut self,
+        opening: Option<char>,
+        row: Row,
+        next: &mut State,
+    ) -> Result<(), AllocError>
         requires { CanMake core_made row.count self.old }
         ensures holds { LeadsOn
             (ClosesRow (Ending.Delimiters opening) 0 row)
-            self.old self.new result }
-        ensures step { Advances 13 self.old self.new result }
+            self.old self.new next.new result }
+        ensures step { Advances 13 self.old self.new next.new result }
     {
         let Some(closing) = self.input.take_delimiter() else {
-            return Ok(self.refuse_delimiter());
+            *next = self.refuse_delimiter();
+            return Ok(());
         };
         if !row.high {
             lower_dividers(&mut self.builder, row.count);
         }
         put_row(&mut self.builder, row.count)?;
         enclose(&mut self.builder, row.high, opening, closing)?;
-        Ok(State::Core(Core::new(Kind::Plain(Class::Inner), row.high)))
+        *next = State::Core(Core::new(Kind::Plain(Class::Inner), row.high));
+        Ok(())
     }
 }
 

@@ -53,24 +53,30 @@ pub(crate) fn mark_of(piece: Piece) -> Option<Mark>
 impl<'a> Parser<'a> {
     /// Goes on after an atom with these scripts: with a mark, or by putting it in its row.
     #[inline(always)]
-    pub(crate) fn go_on(&mut self, core: Core, scripts: Scripts) -> Result<State, AllocError>
+    pub(crate) fn go_on(
+        &mut self,
+        core: Core,
+        scripts: Scripts,
+        next: &mut State,
+    ) -> Result<(), AllocError>
         requires { Ready self.old (State.Atom core scripts) }
-        ensures holds { LeadsOn (HoldsIn (State.Atom core scripts)) self.old self.new result }
-        ensures step { Advances 2 self.old self.new result }
+        ensures holds { LeadsOn (HoldsIn (State.Atom core scripts))
+            self.old self.new next.new result }
+        ensures step { Advances 2 self.old self.new next.new result }
     {
         self.input.skip_space();
         match self.input.peek() {
             Next::Unit(unit) => {
                 if let Some(mark) = mark_of(unit.piece) {
                     self.input.advance();
-                    return self.take_mark(mark, unit.place, core, scripts);
+                    return self.take_mark(mark, unit.place, core, scripts, next);
                 }
             }
             Next::End(_) | Next::Fault(_, _) => (),
         }
         let style = self.frames.innermost(self.style).context().style;
         let core = scripted(&mut self.builder, style, core, scripts)?;
-        self.put(core)
+        self.put(core, next)
     }
 
     /// Goes on with a mark, which was taken.
@@ -80,35 +86,41 @@ impl<'a> Parser<'a> {
         place: usize,
         core: Core,
         scripts: Scripts,
-    ) -> Result<State, AllocError>
+        next: &mut State,
+    ) -> Result<(), AllocError>
         requires { CanMake atom_made (script_count scripts + 1) self.old }
         ensures holds { LeadsOn
             (λ s. TookMark mark place (level (script_count scripts + 1) s self.old)
             (base_of core scripts (elements_of self.old)).atom
             (scripts_with scripts (elements_of self.old)) s)
-            self.old self.new result }
-        ensures step { Advances 13 self.old self.new result }
+            self.old self.new next.new result }
+        ensures step { Advances 13 self.old self.new next.new result }
     {
         match mark {
             Mark::Limits(limits) => {
                 if !scripts.takes_limits {
-                    return Ok(self.refuse(TexErrorKind::LimitsWithoutOperator, place));
+                    *next = self.refuse(TexErrorKind::LimitsWithoutOperator, place);
+                    return Ok(());
                 }
-                Ok(State::Atom(core, Scripts { limits, ..scripts }))
+                *next = State::Atom(core, Scripts { limits, ..scripts });
+                Ok(())
             }
             Mark::Prime => {
                 if scripts.above {
-                    return Ok(self.refuse(TexErrorKind::SecondSuperscript, place));
+                    *next = self.refuse(TexErrorKind::SecondSuperscript, place);
+                    return Ok(());
                 }
                 // no text is long enough for the number to overflow
                 let Some(primes) = scripts.primes.checked_add(1) else {
                     return Err(AllocError);
                 };
-                Ok(State::Atom(core, Scripts { primes, ..scripts }))
+                *next = State::Atom(core, Scripts { primes, ..scripts });
+                Ok(())
             }
             Mark::Script(side) => {
                 if scripts.has(side) {
-                    return Ok(self.refuse(second_on(side), place));
+                    *next = self.refuse(second_on(side), place);
+                    return Ok(());
                 }
                 if let Side::Above = side
                     && scripts.primes > 0
@@ -120,7 +132,7 @@ impl<'a> Parser<'a> {
                     .innermost(self.style)
                     .context()
                     .styled(Style::InScript);
-                self.begin_script(core, scripts, side, place, context)
+                self.begin_script(core, scripts, side, place, context, next)
             }
         }
     }
@@ -133,20 +145,21 @@ impl<'a> Parser<'a> {
         side: Side,
         place: usize,
         context: Context,
-    ) -> Result<State, AllocError>
+        next: &mut State,
+    ) -> Result<(), AllocError>
         requires { CanMake atom_made (primes_put side scripts.primes + (script_count scripts + 1))
             self.old }
         ensures holds { (s : Start) → s.style ≡ style_of self.old.style
             → Leads (level_within (Frame.Script core scripts side place context) 0 s self.old)
             (left_of self.old)
-            → IfOk result (Holds s self.new) }
-        ensures step { Advances 6 self.old self.new result }
+            → OnOk result (Holds s self.new next.new) }
+        ensures step { Advances 6 self.old self.new next.new result }
     {
         let put = put_symbol_operand(&mut self.input, &mut self.builder, context)?;
         if let Some(_) = put {
-            return self.with_script(core, scripts, side);
+            return self.with_script(core, scripts, side, next);
         }
-        self.open(Frame::Script(core, scripts, side, place, context))
+        self.open(Frame::Script(core, scripts, side, place, context), next)
     }
 
     /// Goes on after an operand that is a script.
@@ -155,13 +168,14 @@ impl<'a> Parser<'a> {
         core: Core,
         scripts: Scripts,
         side: Side,
-    ) -> Result<State, AllocError>
+        next: &mut State,
+    ) -> Result<(), AllocError>
         requires { CanMake atom_made (primes_put side scripts.primes + (script_count scripts + 2))
             self.old }
-        ensures holds { LeadsOn (TookScript core scripts side) self.old self.new result }
-        ensures step { Advances 3 self.old self.new result }
+        ensures holds { LeadsOn (TookScript core scripts side) self.old self.new next.new result }
+        ensures step { Advances 3 self.old self.new next.new result }
     {
-        Ok(State::Atom(
+        *next = State::Atom(
             core,
             match side {
                 Side::Below => Scripts {
@@ -180,7 +194,8 @@ impl<'a> Parser<'a> {
                     }
                 }
             },
-        ))
+        );
+        Ok(())
     }
 }
 

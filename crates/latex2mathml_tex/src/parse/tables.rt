@@ -62,15 +62,17 @@ impl<'a> Parser<'a> {
         &mut self,
         place: usize,
         context: Context,
-    ) -> Result<State, AllocError>
+        next: &mut State,
+    ) -> Result<(), AllocError>
         requires begin { CanBegin 0 self.old }
         ensures holds { LeadsOn
             (BeginsIn context (meaning_rule place (context_of context) Substack) 0)
-            self.old self.new result }
-        ensures step { Advances 13 self.old self.new result }
+            self.old self.new next.new result }
+        ensures step { Advances 13 self.old self.new next.new result }
     {
         let Some(_brace) = self.take_text(place, Spot::BeforeBrace)? else {
-            return Ok(State::Refused);
+            *next = State::Refused;
+            return Ok(());
         };
         self.input.pass(self.alloc, Spot::BeforeRow)?;
         let table = Table {
@@ -79,16 +81,16 @@ impl<'a> Parser<'a> {
             rows: 0,
             cells: 0,
         };
-        self.begin_cell(table, place)
+        self.begin_cell(table, place, next)
     }
 
     /// Begins the rows of the whole text.
-    pub(crate) fn begin_text(&mut self) -> Result<State, AllocError>
+    pub(crate) fn begin_text(&mut self, next: &mut State) -> Result<(), AllocError>
         requires begin { CanBegin 0 self.old }
         ensures holds { LeadsOn
             (λ s. Begins (rows_of_text (context_at (level 0 s self.old))) 0 s)
-            self.old self.new result }
-        ensures step { Advances 13 self.old self.new result }
+            self.old self.new next.new result }
+        ensures step { Advances 13 self.old self.new next.new result }
     {
         self.input.pass(self.alloc, Spot::BeforeRow)?;
         let table = Table {
@@ -97,18 +99,26 @@ impl<'a> Parser<'a> {
             rows: 0,
             cells: 0,
         };
-        self.begin_cell(table, 0)
+        self.begin_cell(table, 0, next)
     }
 
     /// Begins the next cell of a table.
-    pub(crate) fn begin_cell(&mut self, table: Table, place: usize) -> Result<State, AllocError>
+    pub(crate) fn begin_cell(
+        &mut self,
+        table: Table,
+        place: usize,
+        next: &mut State,
+    ) -> Result<(), AllocError>
         requires can { CanMake core_made (table.cells + table.rows) self.old }
-        ensures holds { LeadsOn (GoesOnTable table place) self.old self.new result }
-        ensures step { Advances 6 self.old self.new result }
+        ensures holds { LeadsOn (GoesOnTable table place) self.old self.new next.new result }
+        ensures step { Advances 6 self.old self.new next.new result }
     {
         let around = self.frames.innermost(self.style).context();
         let context = around.styled(table.style());
-        self.open(Frame::Row(Ending::Cell(table), place, context, table.begun_cell()))
+        self.open(
+            Frame::Row(Ending::Cell(table), place, context, table.begun_cell()),
+            next,
+        )
     }
 
     /// Ends a cell with this unit, which was taken. The frame of the cell was taken off the stack.
@@ -118,10 +128,12 @@ impl<'a> Parser<'a> {
         place: usize,
         row: Row,
         unit: Unit<'a>,
-    ) -> Result<State, AllocError>
+        next: &mut State,
+    ) -> Result<(), AllocError>
         requires can { CanMake core_made (row.count + (table.cells + table.rows)) self.old }
-        ensures holds { LeadsOn (ClosesCell table place row unit.entry) self.old self.new result }
-        ensures step { Advances 13 self.old self.new result }
+        ensures holds { LeadsOn (ClosesCell table place row unit.entry)
+            self.old self.new next.new result }
+        ensures step { Advances 13 self.old self.new next.new result }
     {
         match cell_end(unit.piece) {
             CellEnd::PartsCells => {
@@ -129,7 +141,7 @@ impl<'a> Parser<'a> {
                 // all cells are among the elements of the builder, so their number fits in a `usize`
                 let _ = self.builder.len();
                 let cells = table.cells + 1;
-                self.begin_cell(Table { cells, ..table }, place)
+                self.begin_cell(Table { cells, ..table }, place, next)
             }
             CellEnd::EndsRow => {
                 put_last(&mut self.builder, row.count, table.cells)?;
@@ -143,9 +155,10 @@ impl<'a> Parser<'a> {
                         ..table
                     },
                     place,
+                    next,
                 )
             }
-            CellEnd::EndsTable => self.end_cells(table, row.count, unit.place),
+            CellEnd::EndsTable => self.end_cells(table, row.count, unit.place, next),
         }
     }
 
@@ -155,19 +168,20 @@ impl<'a> Parser<'a> {
         table: Table,
         count: usize,
         at: usize,
-    ) -> Result<State, AllocError>
+        next: &mut State,
+    ) -> Result<(), AllocError>
         requires can { CanMake core_made (count + (table.cells + table.rows)) self.old }
-        ensures holds { LeadsOn (EndsCells table count at) self.old self.new result }
-        ensures step { Advances 5 self.old self.new result }
+        ensures holds { LeadsOn (EndsCells table count at) self.old self.new next.new result }
+        ensures step { Advances 5 self.old self.new next.new result }
     {
         // an empty last row does not count
         if is_no_row(count, table) {
-            return self.end_table(table.kind, table.columns, table.rows, at);
+            return self.end_table(table.kind, table.columns, table.rows, at, next);
         }
         put_last(&mut self.builder, count, table.cells)?;
         let _ = self.builder.len();
         let rows = table.rows + 1;
-        self.end_table(table.kind, table.columns, rows, at)
+        self.end_table(table.kind, table.columns, rows, at, next)
     }
 
     /// Ends a table of this many rows, whose end is at this place and was taken.
@@ -177,18 +191,19 @@ impl<'a> Parser<'a> {
         columns: Columns,
         rows: usize,
         at: usize,
-    ) -> Result<State, AllocError>
+        next: &mut State,
+    ) -> Result<(), AllocError>
         requires can { CanMake core_made rows self.old }
         requires some { 0 < rows }
-        ensures holds { LeadsOn (EndsRows kind columns rows at) self.old self.new result }
-        ensures step { Advances 5 self.old self.new result }
+        ensures holds { LeadsOn (EndsRows kind columns rows at) self.old self.new next.new result }
+        ensures step { Advances 5 self.old self.new next.new result }
     {
         match kind {
             TableKind::Environment(environment) => {
-                self.end_environment(environment, columns, rows, at)
+                self.end_environment(environment, columns, rows, at, next)
             }
-            TableKind::Braces => self.make_table(None, columns, Style::InScript, rows),
-            TableKind::Text => self.make_table(None, columns, Style::InDisplay, rows),
+            TableKind::Braces => self.make_table(None, columns, Style::InScript, rows, next),
+            TableKind::Text => self.make_table(None, columns, Style::InDisplay, rows, next),
         }
     }
 
@@ -199,22 +214,31 @@ impl<'a> Parser<'a> {
         columns: Columns,
         rows: usize,
         at: usize,
-    ) -> Result<State, AllocError>
+        next: &mut State,
+    ) -> Result<(), AllocError>
         requires can { CanMake core_made rows self.old }
         requires some { 0 < rows }
         ensures holds { LeadsOn
             (EndsRows (TableKind.Environment environment.entry) columns rows at)
-            self.old self.new result }
-        ensures step { Advances 5 self.old self.new result }
+            self.old self.new next.new result }
+        ensures step { Advances 5 self.old self.new next.new result }
     {
         let spot = Spot::BeforeArgument(Argument::Name);
         let Some(name) = self.take_text(at, spot)? else {
-            return Ok(State::Refused);
+            *next = State::Refused;
+            return Ok(());
         };
         if name.as_str() == environment.name {
-            return self.make_table(environment.delimiters, columns, environment.style, rows);
+            return self.make_table(
+                environment.delimiters,
+                columns,
+                environment.style,
+                rows,
+                next,
+            );
         }
-        Ok(self.refuse(TexErrorKind::OtherName, at))
+        *next = self.refuse(TexErrorKind::OtherName, at);
+        Ok(())
     }
 
     /// Makes a table of this many rows, whose cells have this style.
@@ -224,17 +248,19 @@ impl<'a> Parser<'a> {
         columns: Columns,
         style: Style,
         rows: usize,
-    ) -> Result<State, AllocError>
+        next: &mut State,
+    ) -> Result<(), AllocError>
         requires can { CanMake core_made rows self.old }
         requires some { 0 < rows }
         ensures holds { LeadsOn (MakesTable delimiters columns style rows)
-            self.old self.new result }
-        ensures step { Advances 5 self.old self.new result }
+            self.old self.new next.new result }
+        ensures step { Advances 5 self.old self.new next.new result }
     {
         let around = self.frames.innermost(self.style).context();
         let said = said_style(style, around.style);
         put_table(&mut self.builder, delimiters, columns, said, rows)?;
-        Ok(State::Core(Core::new(Kind::Plain(Class::Inner), true)))
+        *next = State::Core(Core::new(Kind::Plain(Class::Inner), true));
+        Ok(())
     }
 }
 

@@ -1,5 +1,5 @@
 //! Words: what is in `\text` and the like.
-ghost use Rattle.std.specs.Prelude.{◌≡◌, ◌≢◌, ◌==◌, ◌||◌, false, true, IfOk, OnOk, MatchOption, Some, None, option_map};
+ghost use Rattle.std.specs.Prelude.{◌≡◌, ◌≢◌, ◌==◌, ◌||◌, false, true, OnOk, MatchOption, Some, None, option_map};
 ghost use Rattle.std.specs.Str.{byte};
 ghost use Rattle.latex2mathml_tex_grammar.specs.Makes;
 ghost use Rattle.latex2mathml_tex_grammar.specs.Makes.{core};
@@ -35,22 +35,30 @@ impl<'a> Parser<'a> {
         words: Words,
         place: usize,
         alphabet: Option<Alphabet>,
-    ) -> Result<State, AllocError>
+        next: &mut State,
+    ) -> Result<(), AllocError>
         requires { Ready self.old (State.Word words place alphabet) }
         ensures holds { LeadsOn
             (HoldsIn (State.Word words place alphabet))
-            self.old self.new result }
-        ensures step { Advances 1 self.old self.new result }
+            self.old self.new next.new result }
+        ensures step { Advances 1 self.old self.new next.new result }
     {
         match self.input.peek() {
-            Next::Fault(fault, at) => Ok(self.refuse_fault(fault, at)),
-            Next::End(_) => Ok(self.refuse(TexErrorKind::MissingArgument, place)),
+            Next::Fault(fault, at) => {
+                *next = self.refuse_fault(fault, at);
+                Ok(())
+            }
+            Next::End(_) => {
+                *next = self.refuse(TexErrorKind::MissingArgument, place);
+                Ok(())
+            }
             Next::Unit(unit) => {
                 if let Piece::Close = unit.piece {
-                    return Ok(self.refuse(TexErrorKind::MissingArgument, place));
+                    *next = self.refuse(TexErrorKind::MissingArgument, place);
+                    return Ok(());
                 }
                 self.input.advance();
-                self.begin_word(words, unit, alphabet)
+                self.begin_word(words, unit, alphabet, next)
             }
         }
     }
@@ -61,23 +69,25 @@ impl<'a> Parser<'a> {
         words: Words,
         unit: Unit<'a>,
         alphabet: Option<Alphabet>,
-    ) -> Result<State, AllocError>
+        next: &mut State,
+    ) -> Result<(), AllocError>
         requires can { CanMake words_made words.count self.old }
         requires some { piece_of unit.piece ≢ Close }
         ensures holds { LeadsOn
             (BeginsWordOf words (piece_of unit.entry.piece) unit.entry.place
             (option_map alphabet_of alphabet))
-            self.old self.new result }
-        ensures step { Advances 13 self.old self.new result }
+            self.old self.new next.new result }
+        ensures step { Advances 13 self.old self.new next.new result }
     {
         match unit.piece {
             Piece::Open => {
                 self.frames.push(Frame::Words(unit.place, alphabet))?;
-                Ok(State::Words(words))
+                *next = State::Words(words);
+                Ok(())
             }
-            Piece::Space => self.show(words, '\u{a0}'),
-            Piece::Character(c) => self.character_in_words(words, c, unit.place, alphabet),
-            Piece::Command(name) => self.word_command(words, name, unit.place, alphabet),
+            Piece::Space => self.show(words, '\u{a0}', next),
+            Piece::Character(c) => self.character_in_words(words, c, unit.place, alphabet, next),
+            Piece::Command(name) => self.word_command(words, name, unit.place, alphabet, next),
             Piece::Close => unreachable!(),
         }
     }
@@ -89,27 +99,32 @@ impl<'a> Parser<'a> {
         c: char,
         place: usize,
         alphabet: Option<Alphabet>,
-    ) -> Result<State, AllocError>
+        next: &mut State,
+    ) -> Result<(), AllocError>
         requires { CanMake words_made words.count self.old }
         ensures holds { LeadsOn
             (BeginsWordOf words (Character c) place (option_map alphabet_of alphabet))
-            self.old self.new result }
-        ensures step { Advances 13 self.old self.new result }
+            self.old self.new next.new result }
+        ensures step { Advances 13 self.old self.new next.new result }
     {
         if c == '$' {
             let context = Context {
                 style: Style::InText,
                 alphabet: None,
             };
-            return self.open(Frame::Row(Ending::Formula(words), place, context, Row::empty()));
+            return self.open(
+                Frame::Row(Ending::Formula(words), place, context, Row::empty()),
+                next,
+            );
         }
         if c == '~' {
-            return self.show(words, '\u{a0}');
+            return self.show(words, '\u{a0}', next);
         }
         if is_no_word(c) {
-            return Ok(self.refuse(TexErrorKind::CharacterInWords(c), place));
+            *next = self.refuse(TexErrorKind::CharacterInWords(c), place);
+            return Ok(());
         }
-        self.show(words, word_character(alphabet, c))
+        self.show(words, word_character(alphabet, c), next)
     }
 
     /// Begins a part of words with a command.
@@ -119,129 +134,158 @@ impl<'a> Parser<'a> {
         name: &'a str,
         place: usize,
         alphabet: Option<Alphabet>,
-    ) -> Result<State, AllocError>
+        next: &mut State,
+    ) -> Result<(), AllocError>
         requires { CanMake words_made words.count self.old }
         ensures holds { LeadsOn
             (BeginsWordOf words (Command name.now) place (option_map alphabet_of alphabet))
-            self.old self.new result }
-        ensures step { Advances 13 self.old self.new result }
+            self.old self.new next.new result }
+        ensures step { Advances 13 self.old self.new next.new result }
     {
         if let Some(c) = text_character(name) {
-            return self.show(words, c);
+            return self.show(words, c, next);
         }
         match commands::look_up(name) {
             Some(meaning) => match meaning {
-                Meaning::Spacing(_) => self.show(words, '\u{a0}'),
-                Meaning::Shows(symbol) => self.show_symbol(words, symbol),
-                Meaning::Dots => self.show_symbol(words, LOW_DOTS),
+                Meaning::Spacing(_) => self.show(words, '\u{a0}', next),
+                Meaning::Shows(symbol) => self.show_symbol(words, symbol, next),
+                Meaning::Dots => self.show_symbol(words, LOW_DOTS, next),
                 Meaning::Words(alphabet) => {
                     self.input.skip_space();
-                    Ok(State::Word(words, place, alphabet))
+                    *next = State::Word(words, place, alphabet);
+                    Ok(())
                 }
                 Meaning::Changes(change) => match change {
-                    Change::ToAlphabet(_) => Ok(State::Words(words)),
-                    _ => self.refuse_command(name, place),
+                    Change::ToAlphabet(_) => {
+                        *next = State::Words(words);
+                        Ok(())
+                    }
+                    _ => self.refuse_command(name, place, next),
                 },
-                _ => self.refuse_command(name, place),
+                _ => self.refuse_command(name, place, next),
             },
             None => {
                 let name = String::from_str(self.alloc, name)?;
-                Ok(self.refuse(TexErrorKind::UnknownCommand(name), place))
+                *next = self.refuse(TexErrorKind::UnknownCommand(name), place);
+                Ok(())
             }
         }
     }
 
     /// Refuses a command that cannot appear in words.
     #[cold]
-    fn refuse_command(&mut self, name: &str, place: usize) -> Result<State, AllocError>
-        ensures state { IfOk result (λ state. state ≡ State.Refused) }
+    fn refuse_command(
+        &mut self,
+        name: &str,
+        place: usize,
+        next: &mut State,
+    ) -> Result<(), AllocError>
+        ensures state { OnOk result (next.new ≡ State.Refused) }
         ensures refusal { OnOk result
             (refusal_of self.new.refusal ≡ Some (refusal_at (CommandInWords name.now) place)) }
         ensures parser { self.new ≡ record self.old { refusal = self.new.refusal } }
     {
         let name = String::from_str(self.alloc, name)?;
-        Ok(self.refuse(TexErrorKind::CommandInWords(name), place))
+        *next = self.refuse(TexErrorKind::CommandInWords(name), place);
+        Ok(())
     }
 
     /// Gives the innermost frame these words.
-    pub(crate) fn deliver_words(&mut self, words: Words) -> Result<State, AllocError>
+    pub(crate) fn deliver_words(&mut self, words: Words, next: &mut State) -> Result<(), AllocError>
         requires { Ready self.old (State.Words words) }
-        ensures holds { LeadsOn (HoldsIn (State.Words words)) self.old self.new result }
-        ensures step { Advances 2 self.old self.new result }
+        ensures holds { LeadsOn (HoldsIn (State.Words words)) self.old self.new next.new result }
+        ensures step { Advances 2 self.old self.new next.new result }
     {
         match self.frames.innermost(self.style) {
             Frame::Text => {
                 let _ = self.frames.take(self.style);
-                self.end_text(words)
+                self.end_text(words, next)
             }
             Frame::Words(place, alphabet) => match self.input.peek() {
                 Next::Unit(unit) => match unit.piece {
                     Piece::Close => {
                         self.input.advance();
                         let _ = self.frames.take(self.style);
-                        Ok(State::Words(words))
+                        *next = State::Words(words);
+                        Ok(())
                     }
-                    _ => self.word(words, place, alphabet),
+                    _ => self.word(words, place, alphabet, next),
                 },
-                Next::End(_) => Ok(self.refuse(TexErrorKind::UnclosedBrace, place)),
-                Next::Fault(_, _) => Ok(State::Word(words, place, alphabet)),
+                Next::End(_) => {
+                    *next = self.refuse(TexErrorKind::UnclosedBrace, place);
+                    Ok(())
+                }
+                Next::Fault(_, _) => {
+                    *next = State::Word(words, place, alphabet);
+                    Ok(())
+                }
             },
             _ => unreachable!(),
         }
     }
 
     /// Appends a character to words.
-    fn show(&mut self, words: Words, c: char) -> Result<State, AllocError>
+    fn show(&mut self, words: Words, c: char, next: &mut State) -> Result<(), AllocError>
         requires { CanMake words_made words.count self.old }
-        ensures holds { LeadsOn (WordGiven words (Shown (Makes.text c))) self.old self.new result }
-        ensures step { Advances 13 self.old self.new result }
+        ensures holds { LeadsOn (WordGiven words (Shown (Makes.text c)))
+            self.old self.new next.new result }
+        ensures step { Advances 13 self.old self.new next.new result }
     {
         if words.ends_in_text && words.count > 0 && self.builder.push(c)? {
-            return Ok(State::Words(words));
+            *next = State::Words(words);
+            return Ok(());
         }
         self.builder
             .character(Token::Mtext, Attributes::plain(), c)?;
         let _ = self.builder.len();
-        Ok(State::Words(Words {
+        *next = State::Words(Words {
             count: words.count + 1,
             ends_in_text: true,
-        }))
+        });
+        Ok(())
     }
 
     /// Appends a sign or a letter to words.
-    fn show_symbol(&mut self, words: Words, symbol: Symbol) -> Result<State, AllocError>
+    fn show_symbol(
+        &mut self,
+        words: Words,
+        symbol: Symbol,
+        next: &mut State,
+    ) -> Result<(), AllocError>
         requires { CanMake words_made words.count self.old }
         ensures holds { LeadsOn
             (WordGiven words
             (Formula (single InText (Makes.symbol None (symbol_of symbol)).atom).element))
-            self.old self.new result }
-        ensures step { Advances 13 self.old self.new result }
+            self.old self.new next.new result }
+        ensures step { Advances 13 self.old self.new next.new result }
     {
         let core = put_symbol(&mut self.builder, None, symbol)?;
         let row = with_atom(&mut self.builder, Style::InText, Row::empty(), core)?;
         put_row(&mut self.builder, row.count)?;
         let _ = self.builder.len();
-        Ok(State::Words(Words {
+        *next = State::Words(Words {
             count: words.count + 1,
             ends_in_text: false,
-        }))
+        });
+        Ok(())
     }
 
     /// Makes the words of a command its atom.
-    fn end_text(&mut self, words: Words) -> Result<State, AllocError>
+    fn end_text(&mut self, words: Words, next: &mut State) -> Result<(), AllocError>
         requires { CanMake core_made words.count self.old }
         ensures holds { LeadsOn
             (Begins (gives (core (words_atom (words_with words (elements_of self.old)))))
             words.count)
-            self.old self.new result }
-        ensures step { Advances 6 self.old self.new result }
+            self.old self.new next.new result }
+        ensures step { Advances 6 self.old self.new next.new result }
     {
         if words.count == 0 {
             self.builder.token(Token::Mtext, Attributes::plain())?;
         } else {
             put_row(&mut self.builder, words.count)?;
         }
-        Ok(State::Core(Core::new(Kind::Plain(Class::Ordinary), false)))
+        *next = State::Core(Core::new(Kind::Plain(Class::Ordinary), false));
+        Ok(())
     }
 }
 

@@ -33,7 +33,7 @@ returns-then-take_character-clause-step c =
     let p = c.args.self.now in
     let i = c.take_character.new.self in
     let less = no_more_taken (a_character 91 ∷ []) (left_of p) (units_at i) (91 ∷ []) c.if-take_character.ensures.next in
-    step_within p (record p { input = i; builder = c.put_arrow.new.builder }) c.open.new.self c.open.result 6 13 (omega (arith, less)) c.open.ensures.step
+    step_within p (record p { input = i; builder = c.put_arrow.new.builder }) c.open.new.self c.open.new.next c.open.result 6 13 (omega (arith, less)) c.open.ensures.step
 
 pub returns-clause-holds : goal.returns-clause-holds
 returns-clause-holds c = λ s g.
@@ -48,4 +48,4 @@ pub returns-clause-step : goal.returns-clause-step
 returns-clause-step c =
     let p = c.args.self.now in
     let i = c.take_character.new.self in
-    step_within p (record p { input = i; builder = c.put_arrow-2.new.builder }) c.open-2.new.self c.open-2.result 6 13 (rw c.if-take_character.ensures.next.1 (omega arith)) c.open-2.ensures.step
+    step_within p (record p { input = i; builder = c.put_arrow-2.new.builder }) c.open-2.new.self c.open-2.new.next c.open-2.result 6 13 (rw c.if-take_character.ensures.next.1 (omega arith)) c.open-2.ensures.step

@@ -48,7 +48,7 @@ returns-in_default-2-clause-step c =
     let first = subst (λ (x : Option ℤ). TookValue place BeforeLengthInBraces lengths.width_of (λ text. refusal_at LengthTooLarge place) p q x) c.in-Some.is c.in_ok-width.ensures in
     let second = subst (λ (x : Option ℤ). TookValue place BeforeLengthInBraces lengths.width_of (λ text. refusal_at LengthTooLarge place) q t x) c.in_default-2.is c.in_ok-height.ensures in
     let can = value_keeps lengths.width_of (λ text. refusal_at LengthTooLarge place) place BeforeLengthInBraces p q c.in-Some.width first c.requires.begin in
-    value_within lengths.width_of (λ text. refusal_at LengthTooLarge place) place BeforeLengthInBraces p q c.in-Some.width 13 13 t (Ok state.Refused) first (omega arith)
+    value_within lengths.width_of (λ text. refusal_at LengthTooLarge place) place BeforeLengthInBraces p q c.in-Some.width 13 13 t state.Refused (Ok tt) first (omega arith)
     (value_refused_within lengths.width_of (λ text. refusal_at LengthTooLarge place) place BeforeLengthInBraces q t 13 (omega arith) can.elements second)
 
 pub returns-clause-holds : goal.returns-clause-holds
@@ -84,6 +84,6 @@ returns-clause-step c =
     let same_width : to_z w32 (of_z w32 width) ≡ width = omega (arith, ints) in
     let same_height : to_z w32 (of_z w32 height) ≡ height = omega (arith, ints) in
     let can = value_keeps lengths.width_of (λ text. refusal_at LengthTooLarge place) place BeforeLengthInBraces q t height second (value_keeps lengths.width_of (λ text. refusal_at LengthTooLarge place) place BeforeLengthInBraces p q width first c.requires.begin) in
-    value_within lengths.width_of (λ text. refusal_at LengthTooLarge place) place BeforeLengthInBraces p q width 13 13 _ (Ok (state.Core c.new.result)) first (omega arith)
-    (value_within lengths.width_of (λ text. refusal_at LengthTooLarge place) place BeforeLengthInBraces q t height 13 13 _ (Ok (state.Core c.new.result)) second (omega arith)
+    value_within lengths.width_of (λ text. refusal_at LengthTooLarge place) place BeforeLengthInBraces p q width 13 13 _ (state.Core c.new.result) (Ok tt) first (omega arith)
+    (value_within lengths.width_of (λ text. refusal_at LengthTooLarge place) place BeforeLengthInBraces q t height 13 13 _ (state.Core c.new.result) (Ok tt) second (omega arith)
     (core_step t t.input c.put_bar.new.builder c.new.result (bar c.args.raise width height).element can (rw (same_width, same_height) at c.in_ok-put_bar.ensures) (omega arith)))

@@ -44,7 +44,7 @@ returns-then-take_in_brackets-clause-step c =
     let p = c.args.self.now in
     let i = c.take_in_brackets.new.self in
     let less = no_more_taken (in_brackets 108) (left_of p) (units_at i) (91 ∷ 108 ∷ 93 ∷ []) c.if-take_in_brackets.ensures in
-    step_within p (record p { input = i }) c.begin_rows.new.self c.begin_rows.result 12 13 (omega (arith, less)) c.begin_rows.ensures.step
+    step_within p (record p { input = i }) c.begin_rows.new.self c.begin_rows.new.next c.begin_rows.result 12 13 (omega (arith, less)) c.begin_rows.ensures.step
 
 pub returns-then-take_in_brackets-2-clause-holds : goal.returns-then-take_in_brackets-2-clause-holds
 returns-then-take_in_brackets-2-clause-holds c = λ s g.
@@ -65,7 +65,7 @@ returns-then-take_in_brackets-2-clause-step c =
     let j = c.take_in_brackets-2.new.self in
     let same = ap unit_count c.if-take_in_brackets.ensures.1 in
     let less = no_more_taken (in_brackets 99) (units_at i) (units_at j) (91 ∷ 99 ∷ 93 ∷ []) c.if-take_in_brackets-2.ensures in
-    step_within p (record p { input = j }) c.begin_rows-then-take_in_brackets-2.new.self c.begin_rows-then-take_in_brackets-2.result 12 13 (omega (arith, less, same)) c.begin_rows-then-take_in_brackets-2.ensures.step
+    step_within p (record p { input = j }) c.begin_rows-then-take_in_brackets-2.new.self c.begin_rows-then-take_in_brackets-2.new.next c.begin_rows-then-take_in_brackets-2.result 12 13 (omega (arith, less, same)) c.begin_rows-then-take_in_brackets-2.ensures.step
 
 pub returns-then-take_in_brackets-3-clause-holds : goal.returns-then-take_in_brackets-3-clause-holds
 returns-then-take_in_brackets-3-clause-holds c = λ s g.
@@ -89,7 +89,7 @@ returns-then-take_in_brackets-3-clause-step c =
     let first = ap unit_count c.if-take_in_brackets.ensures.1 in
     let second = ap unit_count c.if-take_in_brackets-2.ensures.1 in
     let less = no_more_taken (in_brackets 114) (units_at j) (units_at k) (91 ∷ 114 ∷ 93 ∷ []) c.if-take_in_brackets-3.ensures in
-    step_within p (record p { input = k }) c.begin_rows-then-take_in_brackets-3.new.self c.begin_rows-then-take_in_brackets-3.result 12 13 (omega (arith, less, first, second)) c.begin_rows-then-take_in_brackets-3.ensures.step
+    step_within p (record p { input = k }) c.begin_rows-then-take_in_brackets-3.new.self c.begin_rows-then-take_in_brackets-3.new.next c.begin_rows-then-take_in_brackets-3.result 12 13 (omega (arith, less, first, second)) c.begin_rows-then-take_in_brackets-3.ensures.step
 
 pub returns-clause-holds : goal.returns-clause-holds
 returns-clause-holds c = λ s g.
@@ -109,5 +109,5 @@ pub returns-clause-step : goal.returns-clause-step
 returns-clause-step c =
     let p = c.args.self.now in
     let k = c.take_in_brackets-3.new.self in
-    step_within p (record p { input = k }) c.begin_rows-2.new.self c.begin_rows-2.result 12 13
+    step_within p (record p { input = k }) c.begin_rows-2.new.self c.begin_rows-2.new.next c.begin_rows-2.result 12 13
     (rw (c.if-take_in_brackets-3.ensures.1, c.if-take_in_brackets-2.ensures.1, c.if-take_in_brackets.ensures.1) (omega arith)) c.begin_rows-2.ensures.step

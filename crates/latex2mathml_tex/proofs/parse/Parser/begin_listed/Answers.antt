@@ -61,4 +61,4 @@ returns-clause-step c =
     let p = c.args.self.now in
     let q = c.take_text.new.self in
     let took = took_some string_bytes c.args.place (BeforeArgument ColumnList) p q _ c.in-Some.letters c.in-Some.is c.in_ok-letters.ensures in
-    text_step p q c.args.place (BeforeArgument ColumnList) (string_bytes c.in-Some.letters) took 12 c.begin_rows.new.self c.begin_rows.result (omega arith) c.begin_rows.ensures.step
+    text_step p q c.args.place (BeforeArgument ColumnList) (string_bytes c.in-Some.letters) took 12 c.begin_rows.new.self c.begin_rows.new.next c.begin_rows.result (omega arith) c.begin_rows.ensures.step

@@ -45,7 +45,7 @@ pub returns-in_ok-begin_number-in-Character-clause-step :
     goal.returns-in_ok-begin_number-in-Character-clause-step
 returns-in_ok-begin_number-in-Character-clause-step c =
     let p = c.args.self.now in
-    step_within p (record p { builder = c.begin_number.new.builder }) c.deliver_core.new.self c.deliver_core.result 3 13 (omega arith) c.deliver_core.ensures.step
+    step_within p (record p { builder = c.begin_number.new.builder }) c.deliver_core.new.self c.deliver_core.new.next c.deliver_core.result 3 13 (omega arith) c.deliver_core.ensures.step
 
 pub returns-in-Open-clause-step : goal.returns-in-Open-clause-step
-returns-in-Open-clause-step c = step_within c.args.self.now c.args.self.now c.open.new.self c.open.result 6 13 (omega arith) c.open.ensures.step
+returns-in-Open-clause-step c = step_within c.args.self.now c.args.self.now c.open.new.self c.open.new.next c.open.result 6 13 (omega arith) c.open.ensures.step

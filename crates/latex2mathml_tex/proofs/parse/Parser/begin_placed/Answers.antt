@@ -19,5 +19,5 @@ returns-in_ok-pass-in-Position-clause-holds c = λ s g.
 
 pub returns-in_ok-pass-in-Position-clause-step : goal.returns-in_ok-pass-in-Position-clause-step
 returns-in_ok-pass-in-Position-clause-step c =
-    passed_step c.args.self.now c.pass.new.self BeforePosition 13 13 c.begin_environment-in-Position.new.self c.begin_environment-in-Position.result
+    passed_step c.args.self.now c.pass.new.self BeforePosition 13 13 c.begin_environment-in-Position.new.self c.begin_environment-in-Position.new.next c.begin_environment-in-Position.result
     c.in_ok-pass-in-Position.ensures (omega arith) c.begin_environment-in-Position.ensures.step

@@ -33,4 +33,4 @@ returns-clause-step c =
     let p = c.args.self.now in
     let q = c.take_text.new.self in
     let took = took_some string_bytes c.args.place BeforeBrace p q _ c.in-Some._brace c.in-Some.is c.in_ok-_brace.ensures in
-    text_step p q c.args.place BeforeBrace (string_bytes c.in-Some._brace) took 13 c.begin_cell.new.self c.begin_cell.result (omega arith) (passed_step q c.pass.new.self BeforeRow 6 13 c.begin_cell.new.self c.begin_cell.result c.in_ok-pass.ensures (omega arith) c.begin_cell.ensures.step)
+    text_step p q c.args.place BeforeBrace (string_bytes c.in-Some._brace) took 13 c.begin_cell.new.self c.begin_cell.new.next c.begin_cell.result (omega arith) (passed_step q c.pass.new.self BeforeRow 6 13 c.begin_cell.new.self c.begin_cell.new.next c.begin_cell.result c.in_ok-pass.ensures (omega arith) c.begin_cell.ensures.step)

@@ -58,4 +58,4 @@ returns-clause-step c =
     let p = c.args.self.now in
     let q = c.take_text.new.self in
     let took = took_some string_bytes c.args.place (BeforeArgument Name) p q _ c.in-Some.name c.in-Some.is c.in_ok-name.ensures in
-    text_step p q c.args.place (BeforeArgument Name) (string_bytes c.in-Some.name) took 13 c.begin_placed.new.self c.begin_placed.result (omega arith) c.begin_placed.ensures.step
+    text_step p q c.args.place (BeforeArgument Name) (string_bytes c.in-Some.name) took 13 c.begin_placed.new.self c.begin_placed.new.next c.begin_placed.result (omega arith) c.begin_placed.ensures.step

@@ -1,11 +1,10 @@
-use Rattle.std.proofs.Common.{◌≡◌, ◌∙◌, IfOk, ap, false, option_map, refl, subst, sym, true, arith}
+use Rattle.std.proofs.Common.{◌≡◌, ◌∙◌, ap, false, option_map, refl, subst, sym, true, arith}
 use Rattle.std.specs.Char.{is_ascii_alphabetic, is_ascii_digit}
 use Rattle.latex2mathml_tex_grammar.specs.{Makes.core, Rules.character_rule, Rules.gives}
 use Rattle.latex2mathml_tex_grammar.specs.Makes
 use Rattle.latex2mathml_tex_commands.specs.Meanings.{alphabet_of}
 use Rattle.latex2mathml_tex_atoms.specs.Models.{context_of}
-use Rattle.latex2mathml_tex.specs.Steps.{Begins, Holds}
-use Rattle.latex2mathml_tex.specs.declared.parse.State.TheVariants as state
+use Rattle.latex2mathml_tex.specs.Steps.{Begins}
 use Rattle.latex2mathml_tex_units.specs.declared.unit.Piece.TheVariants as piece
 use Rattle.latex2mathml_tex.proofs.{Beginning.unit_begins, Putting.put_held, RuleSteps.begun}
 use Rattle.latex2mathml_tex.proofs.Rows.{step_within}
@@ -23,12 +22,8 @@ returns-clause-holds c = λ s g.
     let begins = unit_begins s p c.innermost.result k c.args.unit (piece.Character c0) c.context-context.ensures c.in-Character.is c.innermost.ensures g in
     c.deliver_core.ensures.holds s (put_held s p c.put_letter.new.builder c.in_ok-letter.letter drawn c.in_ok-letter.ensures (subst (λ r. Begins r 0 s p) rule (begun begins)))
 
-pub returns-in-Ok-Core-clause-holds : goal.returns-in-Ok-Core-clause-holds
-returns-in-Ok-Core-clause-holds c = λ s g.
-    let p = c.begin-begun.new.self in
-    let held = subst (λ r. IfOk r (Holds s p)) c.in-Ok-Core.is (c.begin-begun.ensures.holds s g) in
-    let is : c.in-Ok-Core.field-0 ≡ state.Core c.in-Ok-Core.core = rw c.in-Ok-Core.is at c.in-Ok-Core.field-0-is in
-    c.deliver_core-in-Ok-Core.ensures.holds s (subst (λ state. Holds s p state) is held)
+pub returns-in-Core-clause-holds : goal.returns-in-Core-clause-holds
+returns-in-Core-clause-holds c = λ s g. c.deliver_core-in-Core.ensures.holds s (rw c.in-Core.is at c.in_ok-begin.ensures.holds s g)
 
 pub deliver_core-requires : goal.deliver_core-requires
 deliver_core-requires c = record {
@@ -39,4 +34,4 @@ deliver_core-requires c = record {
 pub returns-clause-step : goal.returns-clause-step
 returns-clause-step c =
     let p = c.args.self.now in
-    step_within p (record p { builder = c.put_letter.new.builder }) c.deliver_core.new.self c.deliver_core.result 3 13 (omega arith) c.deliver_core.ensures.step
+    step_within p (record p { builder = c.put_letter.new.builder }) c.deliver_core.new.self c.deliver_core.new.next c.deliver_core.result 3 13 (omega arith) c.deliver_core.ensures.step

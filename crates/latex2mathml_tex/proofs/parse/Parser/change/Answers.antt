@@ -74,15 +74,15 @@ returns-in_ok-row-in-None-clause-holds c = λ s g.
 
 pub returns-in-ToAlphabet-clause-step : goal.returns-in-ToAlphabet-clause-step
 returns-in-ToAlphabet-clause-step c =
-    rest_step c.args.self.now c.take.new.self c.take.result c.in-Row.ending c.in-Row.at c.in-Row.context c.in-Row.row c.take.ensures c.in-Row.is c.args.self.now.builder c.open.new.self c.open.result c.open.ensures.step
+    rest_step c.args.self.now c.take.new.self c.take.result c.in-Row.ending c.in-Row.at c.in-Row.context c.in-Row.row c.take.ensures c.in-Row.is c.args.self.now.builder c.open.new.self c.open.new.next c.open.result c.open.ensures.step
 
 pub returns-in_ok-row-in-ToStyle-clause-step : goal.returns-in_ok-row-in-ToStyle-clause-step
 returns-in_ok-row-in-ToStyle-clause-step c =
-    rest_step c.args.self.now c.take.new.self c.take.result c.in-Row.ending c.in-Row.at c.in-Row.context c.in-Row.row c.take.ensures c.in-Row.is c.restyle.new.builder c.open-in-ToStyle.new.self c.open-in-ToStyle.result c.open-in-ToStyle.ensures.step
+    rest_step c.args.self.now c.take.new.self c.take.result c.in-Row.ending c.in-Row.at c.in-Row.context c.in-Row.row c.take.ensures c.in-Row.is c.restyle.new.builder c.open-in-ToStyle.new.self c.open-in-ToStyle.new.next c.open-in-ToStyle.result c.open-in-ToStyle.ensures.step
 
 pub returns-in_ok-row-in-None-clause-step : goal.returns-in_ok-row-in-None-clause-step
 returns-in_ok-row-in-None-clause-step c =
-    rest_step c.args.self.now c.take.new.self c.take.result c.in-Row.ending c.in-Row.at c.in-Row.context c.in-Row.row c.take.ensures c.in-Row.is c.divide.new.builder c.open-in-None.new.self c.open-in-None.result c.open-in-None.ensures.step
+    rest_step c.args.self.now c.take.new.self c.take.result c.in-Row.ending c.in-Row.at c.in-Row.context c.in-Row.row c.take.ensures c.in-Row.is c.divide.new.builder c.open-in-None.new.self c.open-in-None.new.next c.open-in-None.result c.open-in-None.ensures.step
 
 -- the color that was taken, or none
 
@@ -144,4 +144,4 @@ returns-in_ok-row-in-ToColor-clause-step c =
     let inner = subst (λ f. IsInnermost p.style p.frames.stack.items f fr.stack.items) c.in-Row.is c.take.ensures in
     let before : sum_by frame_weight p.frames.stack.items ≡ sum_by frame_weight fr.stack.items + ending_weight e = weighed p.style p.frames.stack.items fr.stack.items back inner in
     let after : sum_by frame_weight q.frames.stack.items ≡ sum_by frame_weight fr.stack.items = ap (λ (x : Parser). sum_by frame_weight x.frames.stack.items) took.0 in
-    step_within p (record q { builder = c.recolor.new.builder }) c.open-in-ToColor.new.self c.open-in-ToColor.result (ending_weight e + 2) 13 (omega (arith, fewer, before, after)) c.open-in-ToColor.ensures.step
+    step_within p (record q { builder = c.recolor.new.builder }) c.open-in-ToColor.new.self c.open-in-ToColor.new.next c.open-in-ToColor.result (ending_weight e + 2) 13 (omega (arith, fewer, before, after)) c.open-in-ToColor.ensures.step

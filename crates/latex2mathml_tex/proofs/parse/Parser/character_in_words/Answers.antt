@@ -37,7 +37,7 @@ returns-clause-holds c = λ s g.
     c.show-2.ensures.holds s (rw c.word_character.ensures (stands s c.args.self.now c.args.words (Character c.args.c) c.args.place a word rule g))
 
 pub returns-then-c-eq36-clause-step : goal.returns-then-c-eq36-clause-step
-returns-then-c-eq36-clause-step c = step_within c.args.self.now c.args.self.now c.open.new.self c.open.result 6 13 (omega arith) c.open.ensures.step
+returns-then-c-eq36-clause-step c = step_within c.args.self.now c.args.self.now c.open.new.self c.open.new.next c.open.result 6 13 (omega arith) c.open.ensures.step
 
 pub returns-then-is_no_word-clause-step : goal.returns-then-is_no_word-clause-step
 returns-then-is_no_word-clause-step c =

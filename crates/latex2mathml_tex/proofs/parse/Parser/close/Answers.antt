@@ -40,9 +40,9 @@ open-requires-in-BelowArrow-clause-can c = closed_can c.args.self.now c.put_row-
 pub returns-in_ok-put_row-in-Degree-clause-step : goal.returns-in_ok-put_row-in-Degree-clause-step
 returns-in_ok-put_row-in-Degree-clause-step c =
     let p = c.args.self.now in
-    step_within p (record p { builder = c.put_row.new.builder }) c.open.new.self c.open.result 6 13 (omega arith) c.open.ensures.step
+    step_within p (record p { builder = c.put_row.new.builder }) c.open.new.self c.open.new.next c.open.result 6 13 (omega arith) c.open.ensures.step
 
 pub returns-in_ok-put_row-in-BelowArrow-clause-step : goal.returns-in_ok-put_row-in-BelowArrow-clause-step
 returns-in_ok-put_row-in-BelowArrow-clause-step c =
     let p = c.args.self.now in
-    step_within p (record p { builder = c.put_row-in-BelowArrow.new.builder }) c.open-in-BelowArrow.new.self c.open-in-BelowArrow.result 6 13 (omega arith) c.open-in-BelowArrow.ensures.step
+    step_within p (record p { builder = c.put_row-in-BelowArrow.new.builder }) c.open-in-BelowArrow.new.self c.open-in-BelowArrow.new.next c.open-in-BelowArrow.result 6 13 (omega arith) c.open-in-BelowArrow.ensures.step

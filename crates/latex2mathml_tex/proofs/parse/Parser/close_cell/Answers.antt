@@ -17,7 +17,7 @@ returns-in_ok-pass_break-in-EndsRow-clause-holds c = λ s g.
 
 pub returns-in_ok-pass_break-in-EndsRow-clause-step : goal.returns-in_ok-pass_break-in-EndsRow-clause-step
 returns-in_ok-pass_break-in-EndsRow-clause-step c =
-    broken_step c.args.self.now c.put_last.new.builder c.pass_break.new.self c.begin_cell-in-EndsRow.new.self c.begin_cell-in-EndsRow.result c.in_ok-pass_break-in-EndsRow.ensures c.begin_cell-in-EndsRow.ensures.step
+    broken_step c.args.self.now c.put_last.new.builder c.pass_break.new.self c.begin_cell-in-EndsRow.new.self c.begin_cell-in-EndsRow.new.next c.begin_cell-in-EndsRow.result c.in_ok-pass_break-in-EndsRow.ensures c.begin_cell-in-EndsRow.ensures.step
 
 pub returns-in-EndsTable-clause-holds : goal.returns-in-EndsTable-clause-holds
 returns-in-EndsTable-clause-holds c = λ s g.
@@ -26,7 +26,7 @@ returns-in-EndsTable-clause-holds c = λ s g.
 
 pub returns-in-EndsTable-clause-step : goal.returns-in-EndsTable-clause-step
 returns-in-EndsTable-clause-step c =
-    step_within c.args.self.now c.args.self.now c.end_cells.new.self c.end_cells.result 5 13 (omega arith) c.end_cells.ensures.step
+    step_within c.args.self.now c.args.self.now c.end_cells.new.self c.end_cells.new.next c.end_cells.result 5 13 (omega arith) c.end_cells.ensures.step
 
 pub begin_cell-requires : goal.begin_cell-requires
 begin_cell-requires c =
@@ -37,7 +37,7 @@ begin_cell-requires c =
 pub returns-in_ok-put_row-in-PartsCells-clause-step : goal.returns-in_ok-put_row-in-PartsCells-clause-step
 returns-in_ok-put_row-in-PartsCells-clause-step c =
     let p = c.args.self.now in
-    step_within p (record p { builder = c.put_row.new.builder }) c.begin_cell.new.self c.begin_cell.result 6 13 (omega arith) c.begin_cell.ensures.step
+    step_within p (record p { builder = c.put_row.new.builder }) c.begin_cell.new.self c.begin_cell.new.next c.begin_cell.result 6 13 (omega arith) c.begin_cell.ensures.step
 
 pub begin_cell-requires-in-EndsRow : goal.begin_cell-requires-in-EndsRow
 begin_cell-requires-in-EndsRow c =

@@ -22,7 +22,7 @@ returns-then-take_in_brackets-clause-step c =
     let p = c.args.self.now in
     let i = c.take_in_brackets.new.self in
     let less = no_more_taken (in_brackets 108) (left_of p) (units_at i) (91 ∷ 108 ∷ 93 ∷ []) c.if-take_in_brackets.ensures in
-    step_within p (record p { input = i }) c.open_fraction.new.self c.open_fraction.result 10 13 (omega (arith, less)) c.open_fraction.ensures.step
+    step_within p (record p { input = i }) c.open_fraction.new.self c.open_fraction.new.next c.open_fraction.result 10 13 (omega (arith, less)) c.open_fraction.ensures.step
 
 pub returns-then-take_in_brackets-2-clause-holds : goal.returns-then-take_in_brackets-2-clause-holds
 returns-then-take_in_brackets-2-clause-holds c = λ s g.
@@ -40,7 +40,7 @@ returns-then-take_in_brackets-2-clause-step c =
     let i = c.take_in_brackets.new.self in
     let j = c.take_in_brackets-2.new.self in
     let less = no_more_taken (in_brackets 114) (units_at i) (units_at j) (91 ∷ 114 ∷ 93 ∷ []) c.if-take_in_brackets-2.ensures in
-    step_within p (record p { input = j }) c.open_fraction-then-take_in_brackets-2.new.self c.open_fraction-then-take_in_brackets-2.result 10 13 (let same = ap unit_count c.if-take_in_brackets.ensures.1 in omega (arith, less, same)) c.open_fraction-then-take_in_brackets-2.ensures.step
+    step_within p (record p { input = j }) c.open_fraction-then-take_in_brackets-2.new.self c.open_fraction-then-take_in_brackets-2.new.next c.open_fraction-then-take_in_brackets-2.result 10 13 (let same = ap unit_count c.if-take_in_brackets.ensures.1 in omega (arith, less, same)) c.open_fraction-then-take_in_brackets-2.ensures.step
 
 pub returns-clause-holds : goal.returns-clause-holds
 returns-clause-holds c = λ s g.
@@ -56,4 +56,4 @@ pub returns-clause-step : goal.returns-clause-step
 returns-clause-step c =
     let p = c.args.self.now in
     let j = c.take_in_brackets-2.new.self in
-    step_within p (record p { input = j }) c.open_fraction-2.new.self c.open_fraction-2.result 10 13 (rw (c.if-take_in_brackets-2.ensures.1, c.if-take_in_brackets.ensures.1) (omega arith)) c.open_fraction-2.ensures.step
+    step_within p (record p { input = j }) c.open_fraction-2.new.self c.open_fraction-2.new.next c.open_fraction-2.result 10 13 (rw (c.if-take_in_brackets-2.ensures.1, c.if-take_in_brackets.ensures.1) (omega arith)) c.open_fraction-2.ensures.step

@@ -46,4 +46,4 @@ returns-in-Negation-clause-step c =
     let fr = c.take.new.self in
     let f = frame.Negation c.in-Negation.place c.in-Negation.field-1 in
     let inner = taken_innermost p.style p.frames.stack.items c.in-Negation.ensures.0 fr.stack.items f c.take.result c.in-Negation.ensures.1 c.take.ensures in
-    taken_step p fr f inner 4 3 c.negate.new.self c.negate.result (omega arith) c.negate.ensures.step
+    taken_step p fr f inner 4 3 c.negate.new.self c.negate.new.next c.negate.result (omega arith) c.negate.ensures.step

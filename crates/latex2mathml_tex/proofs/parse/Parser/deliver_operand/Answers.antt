@@ -19,14 +19,14 @@ make-requires c =
 pub returns-in-Last-clause-step : goal.returns-in-Last-clause-step
 returns-in-Last-clause-step c =
     let last = c.in-Last in
-    taken_step c.args.self.now c.take.new.self (frame.Last last.last last.field-1 last.field-2) last.ensures 4 2 c.make.new.self c.make.result (omega arith) c.make.ensures.step
+    taken_step c.args.self.now c.take.new.self (frame.Last last.last last.field-1 last.field-2) last.ensures 4 2 c.make.new.self c.make.new.next c.make.result (omega arith) c.make.ensures.step
 
 pub returns-in-First-clause-step : goal.returns-in-First-clause-step
 returns-in-First-clause-step c =
     let first = c.in-First in
-    taken_step c.args.self.now c.take.new.self (frame.First first.first first.place first.context) first.ensures 6 2 c.after_first.new.self c.after_first.result (omega arith) c.after_first.ensures.step
+    taken_step c.args.self.now c.take.new.self (frame.First first.first first.place first.context) first.ensures 6 2 c.after_first.new.self c.after_first.new.next c.after_first.result (omega arith) c.after_first.ensures.step
 
 pub returns-in-Script-clause-step : goal.returns-in-Script-clause-step
 returns-in-Script-clause-step c =
     let script = c.in-Script in
-    taken_step c.args.self.now c.take.new.self (frame.Script script.core script.scripts script.side script.field-3 script.field-4) script.ensures 3 2 c.with_script.new.self c.with_script.result (omega arith) c.with_script.ensures.step
+    taken_step c.args.self.now c.take.new.self (frame.Script script.core script.scripts script.side script.field-3 script.field-4) script.ensures 3 2 c.with_script.new.self c.with_script.new.next c.with_script.result (omega arith) c.with_script.ensures.step

@@ -28,7 +28,7 @@ pub returns-in-Text-clause-step : goal.returns-in-Text-clause-step
 returns-in-Text-clause-step c =
     let p = c.args.self.now in
     let inner = taken_innermost p.style p.frames.stack.items c.in-Text.ensures.0 c.take.new.self.stack.items frame.Text c.take.result c.in-Text.ensures.1 c.take.ensures in
-    taken_step p c.take.new.self frame.Text inner 6 2 c.end_text.new.self c.end_text.result (omega arith) c.end_text.ensures.step
+    taken_step p c.take.new.self frame.Text inner 6 2 c.end_text.new.self c.end_text.new.next c.end_text.result (omega arith) c.end_text.ensures.step
 
 pub returns-in-Close-clause-holds : goal.returns-in-Close-clause-holds
 returns-in-Close-clause-holds c = λ s h.
@@ -60,7 +60,7 @@ returns-in_default-piece c =
     let stands : left_of p ≡ Next (unit_of u) others = c.peek.ensures ∙ ap (λ n. put_back n others) c.in-Unit.is in
     record {
       holds = λ s h. c.word.ensures.holds s (word_behind s p c.args.words c.in-Words.place c.in-Words.alphabet c.in-Words.ensures.0 c.in-Words.ensures.1 h (unit_of u) others stands (other_piece u.piece c.in_default-piece.not-Close));
-      step = step_within p p c.word.new.self c.word.result 1 2 (omega arith) c.word.ensures.step;
+      step = step_within p p c.word.new.self c.word.new.next c.word.result 1 2 (omega arith) c.word.ensures.step;
     }
 
 pub returns-in-End-clause-holds : goal.returns-in-End-clause-holds

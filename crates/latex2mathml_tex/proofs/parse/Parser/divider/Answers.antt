@@ -33,4 +33,4 @@ pub returns-clause-step : goal.returns-clause-step
 returns-clause-step c =
     let p = c.args.self.now in
     let less : unit_count (units_at c.take_delimiter.new.self) ≤ unit_count (left_of p) = no_more_taken (delimiter_of ∷ []) (left_of p) (units_at c.take_delimiter.new.self) (delimiter_text c.in-Some.delimiter) c.in-Some.ensures.next in
-    step_within p (record p { input = c.take_delimiter.new.self; builder = c.put_divider.new.builder }) c.put.new.self c.put.result 2 13 (omega (arith, less)) c.put.ensures.step
+    step_within p (record p { input = c.take_delimiter.new.self; builder = c.put_divider.new.builder }) c.put.new.self c.put.new.next c.put.result 2 13 (omega (arith, less)) c.put.ensures.step

@@ -33,7 +33,7 @@ returns-then-eq-clause-step c =
     let p = c.args.self.now in
     let q = c.take_text.new.self in
     let took = took_some string_bytes c.args.at (BeforeArgument Name) p q _ c.in-Some.name c.in-Some.is c.in_ok-name.ensures in
-    text_within p q c.args.at (BeforeArgument Name) (string_bytes c.in-Some.name) took 5 5 c.make_table.new.self c.make_table.result (omega arith) c.make_table.ensures.step
+    text_within p q c.args.at (BeforeArgument Name) (string_bytes c.in-Some.name) took 5 5 c.make_table.new.self c.make_table.new.next c.make_table.result (omega arith) c.make_table.ensures.step
 
 pub returns-clause-holds : goal.returns-clause-holds
 returns-clause-holds c = λ s g.

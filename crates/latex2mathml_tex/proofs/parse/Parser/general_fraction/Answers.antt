@@ -49,4 +49,4 @@ returns-clause-step c =
     let place = c.args.place in
     let outline = c.in-Some.outline in
     let took = subst (λ (x : Option Outline). TookBy (an_outline place) p q (option_map outline_of x)) c.in-Some.is c.in_ok-outline.ensures in
-    handed_within (an_outline place) p q (outline_of outline) 10 13 c.open.new.self c.open.result took (omega arith) c.open.ensures.step
+    handed_within (an_outline place) p q (outline_of outline) 10 13 c.open.new.self c.open.new.next c.open.result took (omega arith) c.open.ensures.step

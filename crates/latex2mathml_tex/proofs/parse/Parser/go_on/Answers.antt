@@ -17,14 +17,14 @@ returns-in-Some-clause-step c =
     let taken : past_space (left_of p) ≡ put_back c.peek.result behind = sym c.skip_space.ensures.left ∙ passed c.peek.result c.skip_space.new.self c.advance.new.self c.peek.ensures c.advance.ensures.left in
     let one : unit_count (past_space (left_of p)) ≡ suc (unit_count behind) = ap unit_count (taken ∙ ap (λ n. put_back n behind) c.in-Unit.is) in
     let space = no_more_past_space (left_of p) in
-    step_within p (record p { input = c.advance.new.self }) c.take_mark.new.self c.take_mark.result 13 2 (omega (arith, one, space)) c.take_mark.ensures.step
+    step_within p (record p { input = c.advance.new.self }) c.take_mark.new.self c.take_mark.new.next c.take_mark.result 13 2 (omega (arith, one, space)) c.take_mark.ensures.step
 
 pub returns-clause-step : goal.returns-clause-step
 returns-clause-step c =
     let p = c.args.self.now in
     let less = no_more_past_space (left_of p) in
     let skipped : unit_count (units_at c.skip_space.new.self) ≡ unit_count (past_space (left_of p)) = ap unit_count c.skip_space.ensures.left in
-    step_within p (record p { input = c.skip_space.new.self; builder = c.scripted.new.builder }) c.put.new.self c.put.result 2 2 (omega (arith, skipped, less)) c.put.ensures.step
+    step_within p (record p { input = c.skip_space.new.self; builder = c.scripted.new.builder }) c.put.new.self c.put.new.next c.put.result 2 2 (omega (arith, skipped, less)) c.put.ensures.step
 
 pub returns-clause-holds : goal.returns-clause-holds
 returns-clause-holds c = λ s g.

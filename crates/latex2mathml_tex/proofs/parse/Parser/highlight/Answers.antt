@@ -16,4 +16,4 @@ returns-clause-holds c = λ s g.
 
 pub returns-clause-step : goal.returns-clause-step
 returns-clause-step c =
-    box_within OnColor c.args.place c.args.self.now c.take_color.new.self c.in-Some.color c.open_box.new.self c.open_box.result c.in_ok-color.ensures c.in-Some.is c.open_box.ensures.step
+    box_within OnColor c.args.place c.args.self.now c.take_color.new.self c.in-Some.color c.open_box.new.self c.open_box.new.next c.open_box.result c.in_ok-color.ensures c.in-Some.is c.open_box.ensures.step

@@ -32,4 +32,4 @@ returns-clause-step c =
     let p = c.args.self.now in
     let i = c.take_delimiter.new.self in
     let less = no_more_taken (delimiter_of ∷ []) (left_of p) (units_at i) (delimiter_text c.in-Some.opening) c.in-Some.ensures.next in
-    step_within p (record p { input = i }) c.open.new.self c.open.result 6 13 (omega (arith, less)) c.open.ensures.step
+    step_within p (record p { input = i }) c.open.new.self c.open.new.next c.open.result 6 13 (omega (arith, less)) c.open.ensures.step

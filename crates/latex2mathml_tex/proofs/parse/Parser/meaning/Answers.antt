@@ -125,25 +125,25 @@ pub returns-in-Substack-clause-holds : goal.returns-in-Substack-clause-holds
 returns-in-Substack-clause-holds c = λ s g. c.begin_substack.ensures.holds s (rw c.in-Substack.is at g)
 
 pub returns-in-Styled-clause-step : goal.returns-in-Styled-clause-step
-returns-in-Styled-clause-step c = step_within c.args.self.now c.args.self.now c.open.new.self c.open.result 6 13 (omega arith) c.open.ensures.step
+returns-in-Styled-clause-step c = step_within c.args.self.now c.args.self.now c.open.new.self c.open.new.next c.open.result 6 13 (omega arith) c.open.ensures.step
 
 pub returns-in-Accent-clause-step : goal.returns-in-Accent-clause-step
-returns-in-Accent-clause-step c = step_within c.args.self.now c.args.self.now c.open-in-Accent.new.self c.open-in-Accent.result 6 13 (omega arith) c.open-in-Accent.ensures.step
+returns-in-Accent-clause-step c = step_within c.args.self.now c.args.self.now c.open-in-Accent.new.self c.open-in-Accent.new.next c.open-in-Accent.result 6 13 (omega arith) c.open-in-Accent.ensures.step
 
 pub returns-in-Brace-clause-step : goal.returns-in-Brace-clause-step
-returns-in-Brace-clause-step c = step_within c.args.self.now c.args.self.now c.open-in-Brace.new.self c.open-in-Brace.result 6 13 (omega arith) c.open-in-Brace.ensures.step
+returns-in-Brace-clause-step c = step_within c.args.self.now c.args.self.now c.open-in-Brace.new.self c.open-in-Brace.new.next c.open-in-Brace.result 6 13 (omega arith) c.open-in-Brace.ensures.step
 
 pub returns-in-Stack-clause-step : goal.returns-in-Stack-clause-step
-returns-in-Stack-clause-step c = step_within c.args.self.now c.args.self.now c.open-in-Stack.new.self c.open-in-Stack.result 10 13 (omega arith) c.open-in-Stack.ensures.step
+returns-in-Stack-clause-step c = step_within c.args.self.now c.args.self.now c.open-in-Stack.new.self c.open-in-Stack.new.next c.open-in-Stack.result 10 13 (omega arith) c.open-in-Stack.ensures.step
 
 pub returns-in-StackedRelation-clause-step : goal.returns-in-StackedRelation-clause-step
-returns-in-StackedRelation-clause-step c = step_within c.args.self.now c.args.self.now c.open-in-StackedRelation.new.self c.open-in-StackedRelation.result 10 13 (omega arith) c.open-in-StackedRelation.ensures.step
+returns-in-StackedRelation-clause-step c = step_within c.args.self.now c.args.self.now c.open-in-StackedRelation.new.self c.open-in-StackedRelation.new.next c.open-in-StackedRelation.result 10 13 (omega arith) c.open-in-StackedRelation.ensures.step
 
 pub returns-in-Slash-clause-step : goal.returns-in-Slash-clause-step
-returns-in-Slash-clause-step c = step_within c.args.self.now c.args.self.now c.open-in-Slash.new.self c.open-in-Slash.result 6 13 (omega arith) c.open-in-Slash.ensures.step
+returns-in-Slash-clause-step c = step_within c.args.self.now c.args.self.now c.open-in-Slash.new.self c.open-in-Slash.new.next c.open-in-Slash.result 6 13 (omega arith) c.open-in-Slash.ensures.step
 
 pub returns-in-Classed-clause-step : goal.returns-in-Classed-clause-step
-returns-in-Classed-clause-step c = step_within c.args.self.now c.args.self.now c.open-in-Classed.new.self c.open-in-Classed.result 6 13 (omega arith) c.open-in-Classed.ensures.step
+returns-in-Classed-clause-step c = step_within c.args.self.now c.args.self.now c.open-in-Classed.new.self c.open-in-Classed.new.next c.open-in-Classed.result 6 13 (omega arith) c.open-in-Classed.ensures.step
 
 pub returns-in-Middle-clause-step : goal.returns-in-Middle-clause-step
 returns-in-Middle-clause-step c = refused_step c.args.self.now c.refuse.new.self c.args.self.now.input _ c.refuse.result c.refuse.ensures.parser c.refuse.ensures.state (omega arith) c.requires.begin.elements

@@ -26,7 +26,7 @@ pub returns-then-is-clause-step : goal.returns-then-is-clause-step
 returns-then-is-clause-step c =
     let p = c.args.self.now in
     let next = unit_next (left_of p) (units_at c.advance.new.self) _ _ c.in-Unit.unit c.skip_space.ensures.left (passed c.peek.result c.skip_space.new.self c.advance.new.self c.peek.ensures c.advance.ensures.left) c.in-Unit.is in
-    closing_step p c.advance.new.self c.take-then-is.new.self c.take-then-is.result (unit_of c.in-Unit.unit) c.end_row.new.self c.end_row.result c.take-then-is.ensures next c.end_row.ensures.step
+    closing_step p c.advance.new.self c.take-then-is.new.self c.take-then-is.result (unit_of c.in-Unit.unit) c.end_row.new.self c.end_row.new.next c.end_row.result c.take-then-is.ensures next c.end_row.ensures.step
 
 pub returns-in-Fault-clause-holds : goal.returns-in-Fault-clause-holds
 returns-in-Fault-clause-holds c = λ s h.
@@ -53,10 +53,10 @@ pub returns-in-End-clause-step : goal.returns-in-End-clause-step
 returns-in-End-clause-step c =
     let p = c.args.self.now in
     let due = c.requires.due in
-    ended_step p c.args.ending c.args.place c.args.row c.args.context due.0 due.1 c.skip_space.new.self c.take.new.self c.take.result c.end_of_text.new.self c.end_of_text.result c.take.ensures c.skip_space.ensures.left c.end_of_text.ensures.step
+    ended_step p c.args.ending c.args.place c.args.row c.args.context due.0 due.1 c.skip_space.new.self c.take.new.self c.take.result c.end_of_text.new.self c.end_of_text.new.next c.end_of_text.result c.take.ensures c.skip_space.ensures.left c.end_of_text.ensures.step
 
 pub returns-else-is-clause-step : goal.returns-else-is-clause-step
 returns-else-is-clause-step c =
     let p = c.args.self.now in
     let next = unit_next (left_of p) (units_at c.advance.new.self) _ _ c.in-Unit.unit c.skip_space.ensures.left (passed c.peek.result c.skip_space.new.self c.advance.new.self c.peek.ensures c.advance.ensures.left) c.in-Unit.is in
-    unit_step p c.advance.new.self (unit_of c.in-Unit.unit) c.begin_atom.new.self c.begin_atom.result next c.begin_atom.ensures.step
+    unit_step p c.advance.new.self (unit_of c.in-Unit.unit) c.begin_atom.new.self c.begin_atom.new.next c.begin_atom.result next c.begin_atom.ensures.step

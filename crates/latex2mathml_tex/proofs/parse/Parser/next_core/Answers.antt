@@ -38,4 +38,4 @@ returns-in-Unit-clause-step c =
     let i = c.skip_space.new.self in
     let behind = c.advance.new.self in
     let less = one_less_next (left_of p) i c.skip_space.ensures.left c.peek.result c.peek.ensures c.in-Unit.unit behind c.in-Unit.is c.advance.ensures.left in
-    step_within p (record p { input = behind }) c.begin.new.self c.begin.result 13 1 (omega (arith, less)) c.begin.ensures.step
+    step_within p (record p { input = behind }) c.begin.new.self c.begin.new.next c.begin.result 13 1 (omega (arith, less)) c.begin.ensures.step

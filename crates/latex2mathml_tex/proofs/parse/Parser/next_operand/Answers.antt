@@ -17,7 +17,7 @@ pub returns-in-Some-clause-step : goal.returns-in-Some-clause-step
 returns-in-Some-clause-step c =
     let p = c.args.self.now in
     let took = rw c.in-Some.is at c.in_ok-put.ensures in
-    step_within p (record p { input = c.put_symbol_operand.new.input; builder = c.put_symbol_operand.new.builder }) c.deliver_operand.new.self c.deliver_operand.result 2 1 (omega (arith, took.fewer)) c.deliver_operand.ensures.step
+    step_within p (record p { input = c.put_symbol_operand.new.input; builder = c.put_symbol_operand.new.builder }) c.deliver_operand.new.self c.deliver_operand.new.next c.deliver_operand.result 2 1 (omega (arith, took.fewer)) c.deliver_operand.ensures.step
 
 pub returns-clause-holds : goal.returns-clause-holds
 returns-clause-holds c = λ s g.

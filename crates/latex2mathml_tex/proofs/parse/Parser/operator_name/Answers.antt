@@ -27,6 +27,6 @@ returns-clause-step c =
     elim c.if-take_character.branch [
       | then-take_character w ↦ (
           let less = no_more_taken (a_character 42 ∷ []) (left_of p) (units_at i) (42 ∷ []) w.if-take_character.ensures.next in
-          step_within p (record p { input = i }) c.open.new.self c.open.result 6 13 (omega (arith, less)) c.open.ensures.step)
-      | else-take_character w ↦ step_within p (record p { input = i }) c.open.new.self c.open.result 6 13 (rw w.if-take_character.ensures.next.1 (omega arith)) c.open.ensures.step
+          step_within p (record p { input = i }) c.open.new.self c.open.new.next c.open.result 6 13 (omega (arith, less)) c.open.ensures.step)
+      | else-take_character w ↦ step_within p (record p { input = i }) c.open.new.self c.open.new.next c.open.result 6 13 (rw w.if-take_character.ensures.next.1 (omega arith)) c.open.ensures.step
     ]

@@ -46,7 +46,7 @@ returns-else-is_no_operand-clause-step c =
     let i = c.skip_space.new.self in
     let behind = c.advance.new.self in
     let less = one_less_next (left_of p) i c.skip_space.ensures.left c.peek.result c.peek.ensures c.in-Unit.unit behind c.in-Unit.is c.advance.ensures.left in
-    step_within p (record p { input = behind }) c.begin_operand.new.self c.begin_operand.result 13 1 (omega (arith, less)) c.begin_operand.ensures.step
+    step_within p (record p { input = behind }) c.begin_operand.new.self c.begin_operand.new.next c.begin_operand.result 13 1 (omega (arith, less)) c.begin_operand.ensures.step
 
 pub returns-in-Fault-clause-step : goal.returns-in-Fault-clause-step
 returns-in-Fault-clause-step c =

@@ -45,4 +45,4 @@ returns-clause-step c =
     let q = c.take_length.new.self in
     let place = c.args.place in
     let took = subst (λ (x : Option ℤ). TookValue place BeforeLengthInBraces lengths.width_of (λ text. refusal_at LengthTooLarge place) p q x) c.in-Some.is c.in_ok-height.ensures in
-    value_within lengths.width_of (λ text. refusal_at LengthTooLarge place) place BeforeLengthInBraces p q c.in-Some.height 6 13 c.open_box.new.self c.open_box.result took (omega arith) c.open_box.ensures.step
+    value_within lengths.width_of (λ text. refusal_at LengthTooLarge place) place BeforeLengthInBraces p q c.in-Some.height 6 13 c.open_box.new.self c.open_box.new.next c.open_box.result took (omega arith) c.open_box.ensures.step

@@ -37,7 +37,7 @@ returns-in_default-clause-step c =
     let place = c.args.place in
     let took = subst (λ (x : Option ℤ). TookValue place (InLength AtBracket) lengths.width_of (λ text. refusal_at LengthTooLarge place) p_in q x) c.in_default.is c.in_ok-height.ensures in
     let less = no_more_taken (a_character 91 ∷ []) (left_of p) (units_at i) (91 ∷ []) c.if-take_character.ensures.next in
-    step_within p p_in q (Ok state.Refused) 13 13 (omega (arith, less)) (value_refused_within lengths.width_of (λ text. refusal_at LengthTooLarge place) place (InLength AtBracket) p_in q 13 (omega arith) c.requires.begin.elements took)
+    step_within p p_in q state.Refused (Ok tt) 13 13 (omega (arith, less)) (value_refused_within lengths.width_of (λ text. refusal_at LengthTooLarge place) place (InLength AtBracket) p_in q 13 (omega arith) c.requires.begin.elements took)
 
 pub returns-then-take_character-clause-holds : goal.returns-then-take_character-clause-holds
 returns-then-take_character-clause-holds c = λ s g.
@@ -63,7 +63,7 @@ returns-then-take_character-clause-step c =
     let place = c.args.place in
     let took = subst (λ (x : Option ℤ). TookValue place (InLength AtBracket) lengths.width_of (λ text. refusal_at LengthTooLarge place) p_in q x) c.in-Some.is c.in_ok-height.ensures in
     let less = no_more_taken (a_character 91 ∷ []) (left_of p) (units_at i) (91 ∷ []) c.if-take_character.ensures.next in
-    step_within p p_in c.bar.new.self c.bar.result 13 13 (omega (arith, less)) (value_within lengths.width_of (λ text. refusal_at LengthTooLarge place) place (InLength AtBracket) p_in q c.in-Some.height 13 13 c.bar.new.self c.bar.result took (omega arith) c.bar.ensures.step)
+    step_within p p_in c.bar.new.self c.bar.new.next c.bar.result 13 13 (omega (arith, less)) (value_within lengths.width_of (λ text. refusal_at LengthTooLarge place) place (InLength AtBracket) p_in q c.in-Some.height 13 13 c.bar.new.self c.bar.new.next c.bar.result took (omega arith) c.bar.ensures.step)
 
 pub returns-clause-holds : goal.returns-clause-holds
 returns-clause-holds c = λ s g.
@@ -79,4 +79,4 @@ pub returns-clause-step : goal.returns-clause-step
 returns-clause-step c =
     let p = c.args.self.now in
     let i = c.take_character.new.self in
-    step_within p (record p { input = i }) c.bar-2.new.self c.bar-2.result 13 13 (rw c.if-take_character.ensures.next.1 (omega arith)) c.bar-2.ensures.step
+    step_within p (record p { input = i }) c.bar-2.new.self c.bar-2.new.next c.bar-2.result 13 13 (rw c.if-take_character.ensures.next.1 (omega arith)) c.bar-2.ensures.step

@@ -24,7 +24,7 @@ returns-then-take_character-clause-step c =
     let p = c.args.self.now in
     let i = c.take_character.new.self in
     let less = no_more_taken (a_character 91 ∷ []) (left_of p) (units_at i) (91 ∷ []) c.if-take_character.ensures.next in
-    step_within p (record p { input = i }) c.open.new.self c.open.result 6 13 (omega (arith, less)) c.open.ensures.step
+    step_within p (record p { input = i }) c.open.new.self c.open.new.next c.open.result 6 13 (omega (arith, less)) c.open.ensures.step
 
 pub returns-clause-holds : goal.returns-clause-holds
 returns-clause-holds c = λ s g.

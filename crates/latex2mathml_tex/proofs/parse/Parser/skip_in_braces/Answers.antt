@@ -9,4 +9,4 @@ returns-clause-holds c = λ s g.
     c.skip.ensures.holds s (passed_begins s c.args.self.now c.pass.new.self c.args.context BeforeStar (a_skip c.args.place BeforeLengthInBraces) c.in_ok-pass.ensures g)
 
 pub returns-clause-step : goal.returns-clause-step
-returns-clause-step c = passed_step c.args.self.now c.pass.new.self BeforeStar 13 13 c.skip.new.self c.skip.result c.in_ok-pass.ensures (omega arith) c.skip.ensures.step
+returns-clause-step c = passed_step c.args.self.now c.pass.new.self BeforeStar 13 13 c.skip.new.self c.skip.new.next c.skip.result c.in_ok-pass.ensures (omega arith) c.skip.ensures.step

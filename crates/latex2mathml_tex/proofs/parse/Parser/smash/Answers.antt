@@ -19,7 +19,7 @@ returns-then-take_in_brackets-clause-step c =
     let p = c.args.self.now in
     let i = c.take_in_brackets.new.self in
     let less = no_more_taken (in_brackets 116) (left_of p) (units_at i) (91 ∷ 116 ∷ 93 ∷ []) c.if-take_in_brackets.ensures in
-    step_within p (record p { input = i }) c.open_box.new.self c.open_box.result 6 13 (omega (arith, less)) c.open_box.ensures.step
+    step_within p (record p { input = i }) c.open_box.new.self c.open_box.new.next c.open_box.result 6 13 (omega (arith, less)) c.open_box.ensures.step
 
 pub returns-then-take_in_brackets-2-clause-holds : goal.returns-then-take_in_brackets-2-clause-holds
 returns-then-take_in_brackets-2-clause-holds c = λ s g.
@@ -37,7 +37,7 @@ returns-then-take_in_brackets-2-clause-step c =
     let i = c.take_in_brackets.new.self in
     let j = c.take_in_brackets-2.new.self in
     let less = no_more_taken (in_brackets 98) (units_at i) (units_at j) (91 ∷ 98 ∷ 93 ∷ []) c.if-take_in_brackets-2.ensures in
-    step_within p (record p { input = j }) c.open_box-then-take_in_brackets-2.new.self c.open_box-then-take_in_brackets-2.result 6 13 (let same = ap unit_count c.if-take_in_brackets.ensures.1 in omega (arith, less, same)) c.open_box-then-take_in_brackets-2.ensures.step
+    step_within p (record p { input = j }) c.open_box-then-take_in_brackets-2.new.self c.open_box-then-take_in_brackets-2.new.next c.open_box-then-take_in_brackets-2.result 6 13 (let same = ap unit_count c.if-take_in_brackets.ensures.1 in omega (arith, less, same)) c.open_box-then-take_in_brackets-2.ensures.step
 
 pub returns-clause-holds : goal.returns-clause-holds
 returns-clause-holds c = λ s g.
@@ -53,4 +53,4 @@ pub returns-clause-step : goal.returns-clause-step
 returns-clause-step c =
     let p = c.args.self.now in
     let j = c.take_in_brackets-2.new.self in
-    step_within p (record p { input = j }) c.open_box-2.new.self c.open_box-2.result 6 13 (rw (c.if-take_in_brackets-2.ensures.1, c.if-take_in_brackets.ensures.1) (omega arith)) c.open_box-2.ensures.step
+    step_within p (record p { input = j }) c.open_box-2.new.self c.open_box-2.new.next c.open_box-2.result 6 13 (rw (c.if-take_in_brackets-2.ensures.1, c.if-take_in_brackets.ensures.1) (omega arith)) c.open_box-2.ensures.step

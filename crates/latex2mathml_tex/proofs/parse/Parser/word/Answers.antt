@@ -41,7 +41,7 @@ returns-in_default c =
     let left : unit_count (left_of p) ≡ suc (unit_count (units_at i)) = ap unit_count stands in
     record {
       holds = λ s h. c.begin_word.ensures.holds s (word_begins s p c.args.words c.args.place c.args.alphabet h i u stands);
-      step = step_within p (record p { input = i }) c.begin_word.new.self c.begin_word.result 13 1 (omega (arith, left)) c.begin_word.ensures.step;
+      step = step_within p (record p { input = i }) c.begin_word.new.self c.begin_word.new.next c.begin_word.result 13 1 (omega (arith, left)) c.begin_word.ensures.step;
     }
 
 pub returns-in-Close-clause-step : goal.returns-in-Close-clause-step

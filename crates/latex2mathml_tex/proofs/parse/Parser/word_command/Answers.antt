@@ -72,8 +72,8 @@ returns-in_default-meaning c =
     let none : IsNoWord c.in-Some-look_up.meaning = record { no_sign = other.not-Shows; no_dots = other.not-Dots; no_space = other.not-Spacing; no_words = other.not-Words; no_alphabet = λ b e. other.not-Changes (code_change.ToAlphabet b) e } in
     let rule = not_in_words a name (sym c.in_default.ensures) c.in-Some-look_up.meaning c.in-Some-look_up.ensures none in
     record {
-      holds = λ s g. command_refused p q says.parser s c.args.words name c.args.place a c.refuse_command-in_default-meaning.result says.state says.refusal rule g;
-      step = command_step p q says.parser c.args.words.count c.refuse_command-in_default-meaning.result says.state c.requires.elements;
+      holds = λ s g. command_refused p q says.parser s c.args.words name c.args.place a c.refuse_command-in_default-meaning.new.next c.refuse_command-in_default-meaning.result says.state says.refusal rule g;
+      step = command_step p q says.parser c.args.words.count c.refuse_command-in_default-meaning.new.next c.refuse_command-in_default-meaning.result says.state c.requires.elements;
     }
 
 pub returns-in-ToAlphabet-clause-holds : goal.returns-in-ToAlphabet-clause-holds
@@ -94,8 +94,8 @@ returns-in_default-change c =
     let none = other_change c.in-Some-look_up.meaning c.in-Changes.change c.in-Changes.is c.in_default-change.not-ToAlphabet in
     let rule = not_in_words a name (sym c.in_default.ensures) c.in-Some-look_up.meaning c.in-Some-look_up.ensures none in
     record {
-      holds = λ s g. command_refused p q says.parser s c.args.words name c.args.place a c.refuse_command.result says.state says.refusal rule g;
-      step = command_step p q says.parser c.args.words.count c.refuse_command.result says.state c.requires.elements;
+      holds = λ s g. command_refused p q says.parser s c.args.words name c.args.place a c.refuse_command.new.next c.refuse_command.result says.state says.refusal rule g;
+      step = command_step p q says.parser c.args.words.count c.refuse_command.new.next c.refuse_command.result says.state c.requires.elements;
     }
 
 pub returns-in_ok-name-in-None-clause-holds : goal.returns-in_ok-name-in-None-clause-holds

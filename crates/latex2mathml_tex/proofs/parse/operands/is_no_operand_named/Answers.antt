@@ -1,6 +1,6 @@
 use Rattle.std.proofs.Common.{sym}
 use Rattle.latex2mathml_tex_units.proofs.{Listings.one_of_nine, Names.is_other}
-use Rattle.latex2mathml_tex.proofs.parse.begin.is_no_operand_named.Goals as goal
+use Rattle.latex2mathml_tex.proofs.parse.operands.is_no_operand_named.Goals as goal
 
 pub returns-in_default : goal.returns-in_default
 returns-in_default c =
