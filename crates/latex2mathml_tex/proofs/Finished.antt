@@ -1,5 +1,5 @@
 -- Rows that end as they are: nothing in them is left to be finished.
-use Rattle.std.proofs.Common.{◌≡◌, ℕ, Bool, true, false, List, arith, drop, refl, sym, ap, subst}
+use Rattle.std.proofs.Common.{◌≡◌, ℕ, List, arith, drop, refl, sym, ap, subst}
 use Rattle.latex2mathml_elements.specs.Element.{Element}
 use Rattle.latex2mathml_tex_grammar.specs.{Next.past_space, Rests.finished}
 use Rattle.latex2mathml_tex_grammar.specs.Reading.{Read}
@@ -16,7 +16,8 @@ use Rattle.latex2mathml_tex_commands.specs.declared.meaning.Style.{Style}
 use Rattle.latex2mathml_tex_atoms.specs.declared.atoms.Row.{Row}
 use Rattle.latex2mathml_tex.specs.declared.parse.Parser.{Parser}
 use Rattle.latex2mathml_tex.specs.declared.parse.State.TheVariants as state
-use Rattle.latex2mathml_tex.specs.declared.parse.frames.Frames.{Frames}
+use Rattle.latex2mathml_tex.specs.declared.parse.frames.{Braced.Braced, Frames.Frames}
+use Rattle.latex2mathml_tex.specs.declared.parse.frames.Braced.TheVariants as braced
 use Rattle.latex2mathml_tex.specs.declared.parse.frames.Ending.TheVariants as ending
 use Rattle.latex2mathml_tex.specs.declared.parse.frames.Frame.TheVariants as frame
 use Rattle.latex2mathml_tex.proofs.{NoAtom.row_closed, NoAtom.text_ended, Resting.row_finished}
@@ -30,13 +31,13 @@ module _ (style : Style) (row : Row) (xs : List Element) (is : IsFinished row) w
 
 module _ (p : Parser) (fr : Frames) (row : Row) (s : Start) (h : Holds s p state.Next) where
   -- a group or an operand ends with a closing brace
-  pub braces_closed : (is_operand : Bool) (took : TookRow (braced_ending is_operand) row p.frames.stack.items fr.stack.items) (i : Input) (u : Unit) → past_space (left_of p) ≡ Next (unit_of u) (units_at i) → u.piece ≡ piece.Close → ClosesRow (braced_ending is_operand) took.place row s (record p { input = i; frames = fr })
-  braces_closed true took i u next is =
+  pub braces_closed : (b : Braced) (took : TookRow (braced_ending b) row p.frames.stack.items fr.stack.items) (i : Input) (u : Unit) → past_space (left_of p) ≡ Next (unit_of u) (units_at i) → u.piece ≡ piece.Close → ClosesRow (braced_ending b) took.place row s (record p { input = i; frames = fr })
+  braces_closed braced.Operand took i u next is =
       let f = frame.Row ending.Operand took.place took.context row in
       let inner : IsInnermost p.style p.frames.stack.items f fr.stack.items = on_top took.before in
       let ended = row_closed p ending.Operand took.place row took.context fr.stack.items inner s h i fr f u inner next (rw is refl) in
       row_finished s (record p { input = i; frames = fr }) p.builder took.context.style row row (as_it_is took.context.style row (elements_of p) took.finished) (own_elements took.context.style row (elements_of p) took.finished) ending.Operand took.place u ended
-  braces_closed false took i u next is =
+  braces_closed braced.Group took i u next is =
       let f = frame.Row ending.Group took.place took.context row in
       let inner : IsInnermost p.style p.frames.stack.items f fr.stack.items = on_top took.before in
       let ended = row_closed p ending.Group took.place row took.context fr.stack.items inner s h i fr f u inner next (rw is refl) in

@@ -1,11 +1,12 @@
 -- The innermost frame of a stack of frames.
-use Rattle.std.specs.Prelude.{◌≡◌, ℕ, Bool, true, false, List, [], ◌∷◌, ◌++◌, None}
+use Rattle.std.specs.Prelude.{◌≡◌, ℕ, List, [], ◌∷◌, ◌++◌, None}
 use Rattle.latex2mathml_tex_atoms.specs.Adding.{IsAdded}
 use Rattle.latex2mathml_tex_atoms.specs.declared.atoms.{Context.Context, Core.Core, Row.Row}
 use Rattle.latex2mathml_tex_atoms.specs.Models.{IsFinished, empty_row}
 use Rattle.latex2mathml_tex_commands.specs.declared.meaning.Style.{Style}
 use Rattle.latex2mathml_tex_commands.specs.declared.meaning.Style.TheVariants as style
-use Rattle.latex2mathml_tex.specs.declared.parse.frames.{Ending.Ending, Frame.Frame}
+use Rattle.latex2mathml_tex.specs.declared.parse.frames.{Braced.Braced, Ending.Ending, Frame.Frame}
+use Rattle.latex2mathml_tex.specs.declared.parse.frames.Braced.TheVariants as braced
 use Rattle.latex2mathml_tex.specs.declared.parse.frames.Ending.TheVariants as ending
 use Rattle.latex2mathml_tex.specs.declared.parse.frames.Frame.TheVariants as frame
 
@@ -51,7 +52,7 @@ pub record TookRow (ending : Ending) (row : Row) (old new : List Frame) : Type 0
   pub before : old ≡ new ++ frame.Row ending place context row ∷ []
   pub finished : IsFinished row
 
--- the ending of a row in braces: of an operand, or else of a group
-abbrev pub braced_ending : Bool → Ending
-braced_ending true = ending.Operand
-braced_ending false = ending.Group
+-- the ending of a row in braces
+abbrev pub braced_ending : Braced → Ending
+braced_ending braced.Group = ending.Group
+braced_ending braced.Operand = ending.Operand

@@ -47,6 +47,13 @@ pub(crate) enum Ending {
     Cell(Table),
 }
 
+/// What a row in braces is.
+#[derive(Clone, Copy)]
+pub(crate) enum Braced {
+    Group,
+    Operand,
+}
+
 /// The kind of a table, which determines how it ends.
 #[derive(Clone, Copy)]
 pub(crate) enum TableKind {
@@ -390,17 +397,22 @@ impl Frames {
         Some(row)
     }
 
-    /// Takes off the row of a group or an operand in braces, if it is the innermost frame and is finished. Returns whether it is
-    /// an operand, and the row.
+    /// Takes off the row of a group or an operand in braces, if it is the innermost frame and is finished.
     #[inline(always)]
-    pub(crate) fn take_braced(&mut self) -> Option<(bool, Row)>
+    pub(crate) fn take_braced(&mut self) -> Option<(Braced, Row)>
         ensures { MatchOption result (self.new ≡ self.old)
             (λ braced. TookRow (braced_ending braced.0) braced.1
             self.old.stack.items self.new.stack.items) }
     {
         let braced = match self.stack.as_slice().last() {
-            Some(Frame::Row(Ending::Group, _, _, row)) if row.is_finished() => (false, *row),
-            Some(Frame::Row(Ending::Operand, _, _, row)) if row.is_finished() => (true, *row),
+            Some(Frame::Row(Ending::Group, _, _, row)) if row.is_finished() => (
+                Braced::Group,
+                *row,
+            ),
+            Some(Frame::Row(Ending::Operand, _, _, row)) if row.is_finished() => (
+                Braced::Operand,
+                *row,
+            ),
             _ => return None,
         };
         self.stack.truncate(self.stack.as_slice().len() - 1);

@@ -1,5 +1,5 @@
-//! How rows go on. Most of their atoms are letters, numbers and signs without scripts: for these, no frame is copied, and no
-//! state is made.
+//! How what is innermost goes on or ends, while that needs no copy of its frame. Most atoms of rows are letters, numbers and
+//! signs without scripts: for these, no state is made either.
 ghost use Rattle.std.specs.Prelude.{◌≡◌, ◌+◌, IfOk};
 ghost use Rattle.latex2mathml_tex_commands.specs.Meanings.{meaning_of};
 ghost use Rattle.latex2mathml_tex.specs.{Frames.Start, RowCharacters.IsRowInnermost, RowCharacters.ends_or_marks, RowCharacters.is_symbol, RowCommands.begins_atoms};
@@ -125,7 +125,7 @@ impl<'a> Parser<'a> {
     }
 
     /// Begins or ends what comes next in the innermost frame. No frame is copied for an operand, for a character or a group that
-    /// begins an atom in each row, and where a finished row ends with a brace or with the text.
+    /// begins an atom in each row, nor where a finished row ends with a brace or with the text.
     #[inline(never)]
     pub(crate) fn begin_next(&mut self, next: &mut State) -> Result<(), AllocError>
         requires { Ready self.old State.Next }
@@ -152,7 +152,7 @@ impl<'a> Parser<'a> {
         ensures step { Advances 1 self.old self.new next.new result }
     {
         if let Piece::Close = unit.piece {
-            return self.close_brace(unit, next);
+            return self.end_in_braces(unit, next);
         }
         if let Some(context) = self.frames.row_context(self.style) {
             match unit.piece {
@@ -173,7 +173,7 @@ impl<'a> Parser<'a> {
 
     /// Ends the innermost frame with this closing brace, which comes next.
     #[inline(never)]
-    fn close_brace(&mut self, unit: Unit<'a>, next: &mut State) -> Result<(), AllocError>
+    fn end_in_braces(&mut self, unit: Unit<'a>, next: &mut State) -> Result<(), AllocError>
         requires ready { Ready self.old State.Next }
         requires next { left_of self.old
             ≡ units.Next (unit_of unit) (units_behind self.old.input) }
@@ -182,9 +182,9 @@ impl<'a> Parser<'a> {
         ensures step { Advances 1 self.old self.new next.new result }
     {
         match self.frames.take_braced() {
-            Some((is_operand, row)) => {
+            Some((braced, row)) => {
                 self.input.advance();
-                self.close_braces(is_operand, row, next)
+                self.close_braced(braced, row, next)
             }
             None => self.next_part(next),
         }

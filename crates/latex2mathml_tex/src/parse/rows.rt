@@ -9,7 +9,7 @@ ghost use Rattle.latex2mathml_tex.specs.{RowCharacters.IsRowInnermost, RowCharac
 ghost use Rattle.latex2mathml_tex.specs.Steps.{Awaits, AwaitsAtom, BeginsDivider, BeginsIn, BeginsRest, CanBegin, CanMake, ClosesRow, EndsFormula, EndsRow, EndsText, EndsWithText, HasElements, HoldsIn, InnermostIs, Advances, LeadsOn, MadeAtom, Ready, Took, TookMark, TookUnmarked, atom_made, core_made, ending_weight, level, row_makes, Closes, Follows, Holds, to_do};
 ghost use Rattle.latex2mathml_tex_atoms.specs.declared.atoms.{Context.Context, Row.Row};
 
-use crate::parse::frames::{Ending, Frame, Last, Table};
+use crate::parse::frames::{Braced, Ending, Frame, Last, Table};
 use crate::parse::scripts::{Mark, mark_of};
 use crate::parse::symbols::{put_letter, put_symbol};
 use crate::parse::{Parser, State};
@@ -319,8 +319,8 @@ impl<'a> Parser<'a> {
         match ending {
             Ending::Text => unreachable!(),
             Ending::Cell(table) => self.close_cell(table, place, row, unit, next),
-            Ending::Group => self.close_braces(false, row, next),
-            Ending::Operand => self.close_braces(true, row, next),
+            Ending::Group => self.close_braced(Braced::Group, row, next),
+            Ending::Operand => self.close_braced(Braced::Operand, row, next),
             Ending::Degree => {
                 put_row(&mut self.builder, row.count)?;
                 let context = self.frames.innermost(self.style).context();
@@ -348,27 +348,26 @@ impl<'a> Parser<'a> {
 
     /// Ends a finished row of an operand or a group, whose closing brace was taken.
     #[inline(always)]
-    pub(crate) fn close_braces(
+    pub(crate) fn close_braced(
         &mut self,
-        is_operand: bool,
+        braced: Braced,
         row: Row,
         next: &mut State,
     ) -> Result<(), AllocError>
-        requires { CanMake (row_makes (braced_ending is_operand)) (row.count + 0) self.old }
+        requires { CanMake (row_makes (braced_ending braced)) (row.count + 0) self.old }
         ensures holds { (s : Start) (place : ℕ)
-            → ClosesRow (braced_ending is_operand) place row s self.old
+            → ClosesRow (braced_ending braced) place row s self.old
             → OnOk result (Holds s self.new next.new) }
         ensures step { Advances 13 self.old self.new next.new result }
     {
         put_row(&mut self.builder, row.count)?;
-        if is_operand {
-            *next = State::Operand(Operand {
+        *next = match braced {
+            Braced::Group => State::Core(Core::new(Kind::Plain(Class::Ordinary), row.high)),
+            Braced::Operand => State::Operand(Operand {
                 class: row.class,
                 high: row.high,
-            });
-            return Ok(());
-        }
-        *next = State::Core(Core::new(Kind::Plain(Class::Ordinary), row.high));
+            }),
+        };
         Ok(())
     }
 

@@ -6,10 +6,10 @@ use Rattle.latex2mathml_tex.proofs.Rows.{step_within}
 use Rattle.latex2mathml_tex.proofs.parse.Parser.close.Goals as goal
 
 pub returns-in-Group-clause-holds : goal.returns-in-Group-clause-holds
-returns-in-Group-clause-holds c = λ s g. c.close_braces.ensures.holds s c.args.place (rw c.in-Group.is at g)
+returns-in-Group-clause-holds c = λ s g. c.close_braced.ensures.holds s c.args.place (rw c.in-Group.is at g)
 
 pub returns-in-Operand-clause-holds : goal.returns-in-Operand-clause-holds
-returns-in-Operand-clause-holds c = λ s g. c.close_braces-in-Operand.ensures.holds s c.args.place (rw c.in-Operand.is at g)
+returns-in-Operand-clause-holds c = λ s g. c.close_braced-in-Operand.ensures.holds s c.args.place (rw c.in-Operand.is at g)
 
 pub returns-in_ok-put_row-in-Degree-clause-holds : goal.returns-in_ok-put_row-in-Degree-clause-holds
 returns-in_ok-put_row-in-Degree-clause-holds c = λ s g.

@@ -1,7 +1,0 @@
-use Rattle.std.proofs.Common.{refl}
-use Rattle.latex2mathml_tex.proofs.Closing.{group_closed}
-use Rattle.latex2mathml_tex.proofs.parse.Parser.close_braces.Goals as goal
-
-pub returns-clause-holds : goal.returns-clause-holds
-returns-clause-holds c = λ s place g.
-    group_closed s c.args.self.now c.put_row.new.builder place c.args.row c.in_ok-put_row.ensures c.new.result (λ x. rw c.new.ensures refl) (rw c.if-is_operand.false at g)
