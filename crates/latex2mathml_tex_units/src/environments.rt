@@ -4,6 +4,7 @@ ghost use Rattle.latex2mathml_tex_grammar.specs.Environments;
 ghost use Rattle.latex2mathml_tex_units.specs.Environments.{entry_of, environment_of, layout_of};
 ghost use Rattle.latex2mathml_attributes.specs.Columns.{columns_of};
 
+use crate::comparing::are_same;
 use crate::scanning::Argument;
 use latex2mathml_attributes::columns::{Column, Columns};
 use latex2mathml_tex_commands::meaning::Style;
@@ -77,7 +78,7 @@ fn search(table: &'static [Environment], name: &str) -> Option<&'static Environm
     let mut entries = table;
     'entries: while !entries.is_empty() {
         let entry = &entries[0];
-        if entry.name == name {
+        if are_same(entry.name, name) {
             return Some(entry);
         }
         entries = &entries[1..];

@@ -1,12 +1,12 @@
 //! Names, columns and lengths, which are found among the units that are left and taken or skipped.
-ghost use Rattle.std.specs.Prelude.{◌≡◌, ◌≤◌, IfOk, OnOk, string_bytes};
+ghost use Rattle.std.specs.Prelude.{◌≡◌, ◌≤◌, ℕ, IfOk, OnOk, string_bytes};
 ghost use Rattle.latex2mathml_tex_grammar.specs.Scanning.{past, past_break, scan};
 ghost use Rattle.latex2mathml_tex_units.specs.{Left.SameUnits, Left.unit_count, Left.units_at, Scans.IsFound, Scans.behind_text, Scans.spot_of};
 
 use crate::error::{TexError, TexErrorKind};
 use crate::input::Input;
-use crate::scanning::{Deed, Spot};
-use crate::unit::Next;
+use crate::scanning::{Argument, Deed, Spot};
+use crate::unit::{Next, Piece};
 use std::alloc::{AllocError, Global};
 
 impl<'a> Input<'a> {
@@ -26,6 +26,7 @@ impl<'a> Input<'a> {
     {
         let mut spot = spot;
         'units: loop {
+            self.take_name_characters(spot, text)?;
             match self.peek() {
                 Next::Fault(fault, at) => return Ok(spot.fault(fault, at)),
                 Next::End(_) => return Ok(spot.end(place)),
@@ -61,8 +62,43 @@ impl<'a> Input<'a> {
         }
     }
 
-    /// Skips what is found from this spot on, if it is there.
+    /// Takes the characters that come next, if this spot is in a name, and appends them to `text`.
+    #[inline(always)]
+    fn take_name_characters(&mut self, spot: Spot, text: &mut String) -> Result<(), AllocError>
+        ensures found { OnOk result ((place : ℕ) → behind_text (string_bytes text.new)
+            (scan place (units_at self.new) (spot_of spot))
+            ≡ behind_text (string_bytes text.old)
+            (scan place (units_at self.old) (spot_of spot))) }
+        ensures fewer { unit_count (units_at self.new) ≤ unit_count (units_at self.old) }
+        ensures same { SameUnits self.old self.new }
+    {
+        let Spot::InArgument(Argument::Name) = spot else {
+            return Ok(());
+        };
+        'characters: while let Next::Unit(unit) = self.peek()
+            && let Piece::Character(c) = unit.piece
+            && c != '$'
+        {
+            text.push(c)?;
+            self.advance();
+        }
+        Ok(())
+    }
+
+    /// Skips what is found from this spot on, if it is there. Mostly nothing is, as the next unit says.
     pub fn pass(&mut self, alloc: Global, spot: Spot) -> Result<(), AllocError>
+        ensures { OnOk result (units_at self.new ≡ past (spot_of spot) (units_at self.old)) }
+    {
+        if let Next::Unit(unit) = self.peek()
+            && !spot.may_take(unit.piece)
+        {
+            return Ok(());
+        }
+        self.pass_scanned(alloc, spot)
+    }
+
+    /// Skips what is found from this spot on, if it is there, unit by unit.
+    fn pass_scanned(&mut self, alloc: Global, spot: Spot) -> Result<(), AllocError>
         ensures { OnOk result (units_at self.new ≡ past (spot_of spot) (units_at self.old)) }
     {
         let start = self.taken;

@@ -1,11 +1,11 @@
 //! What each unit does when the name of an environment, its columns, a color or a length is taken unit by unit. A spot is
 //! where a unit is. White space is ignored.
-ghost use Rattle.std.specs.Prelude.{◌≡◌, ℕ, [], Some};
+ghost use Rattle.std.specs.Prelude.{◌≡◌, ℕ, [], IsFalse, Some};
 ghost use Rattle.latex2mathml_tex_grammar.specs.Refusal.{refusal_at};
 ghost use Rattle.latex2mathml_tex_grammar.specs.{Commands.meaning_of, Meaning.takes_words};
 ghost use Rattle.latex2mathml_tex_grammar.specs.Scanning;
-ghost use Rattle.latex2mathml_tex_grammar.specs.Scanning.{scan};
-ghost use Rattle.latex2mathml_tex_grammar.specs.Units.{End, Stop};
+ghost use Rattle.latex2mathml_tex_grammar.specs.Scanning.{past, scan};
+ghost use Rattle.latex2mathml_tex_grammar.specs.Units.{End, Next, Stop, Units, unit};
 ghost use Rattle.latex2mathml_tex_units.specs.{Errors.kind_of_error, Taking.kind_of, Taking.piece_of};
 ghost use Rattle.latex2mathml_tex_units.specs.Scans.{IsFound, argument_of, deed_of, length_end_of, spot_of};
 
@@ -386,6 +386,24 @@ impl Spot {
         match piece {
             Piece::Space => Deed::Passes(self),
             piece => self.deed_there(piece),
+        }
+    }
+
+    /// Whether something may be taken from this spot on, where this unit comes next.
+    #[inline(always)]
+    pub(crate) fn may_take(self, piece: Piece) -> bool
+        ensures { IsFalse result → (place : ℕ) (l : Units)
+            → let units = Next (unit (piece_of piece.entry) place) l
+            in past (spot_of self) units ≡ units }
+    {
+        match (self, piece) {
+            (_, Piece::Space) => true,
+            (Spot::BeforeStar, Piece::Character(c)) => c == '*',
+            (Spot::BeforeLength | Spot::BeforePosition, Piece::Character(c)) => c == '[',
+            (Spot::BeforeStar | Spot::BeforeLength | Spot::BeforePosition, _) => false,
+            (Spot::BeforeRow, Piece::Command(_)) => true,
+            (Spot::BeforeRow, _) => false,
+            _ => true,
         }
     }
 
