@@ -80,7 +80,7 @@ pub(crate) struct Parser<'a> {
     pub(crate) frames: Frames,
     pub(crate) builder: Builder,
     /// Why the formula is refused. It is kept here so that what each step returns is small.
-    refusal: TexError,
+    pub(crate) refusal: TexError,
 }
 
 impl<'a> Parser<'a> {
