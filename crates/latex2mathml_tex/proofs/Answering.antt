@@ -1,6 +1,6 @@
 -- From the parser's last state to the answer.
-use Rattle.std.proofs.Common.{◌≡◌, ◌≤◌, ◌∙◌, ℕ, Bool, true, false, List, [], ◌∷◌, ◌++◌, Option, Some, None, Result, Ok, Err, IfOk, IfSome, ap, drop, length, option_map, refl, reverse, subst, sym, take}
-use Rattle.std.specs.Str.{chars}
+use Rattle.std.proofs.Common.{◌≡◌, ◌∙◌, ℕ, Bool, true, false, List, [], ◌∷◌, ◌++◌, IfOk, IfSome, IsFalse, IsTrue, MatchOption, Option, Some, None, Result, Ok, Err, ap, drop, option_map, refl, reverse, subst, sym, take}
+use Rattle.std.specs.{Prelude.⊤, Str.chars}
 use Rattle.latex2mathml_elements.specs.{Annotated.IsAnnotatedMathElement, Annotated.annotated_print, Characters.IsAllowed, Dollars.IsDollarFree, Element.Element, Element.children, Print.formula_print}
 use Rattle.latex2mathml_elements.proofs.{Annotated.annotated_print_as_elements, Characters.annotated_dollar_free, Characters.dollar_free, OneElement.print_as_elements}
 use Rattle.latex2mathml_trees.specs.MathSchema.{IsMathElement}
@@ -12,11 +12,13 @@ use Rattle.latex2mathml_tex_grammar.specs.{Rules.WholeText, Rules.rows_of_text, 
 use Rattle.latex2mathml_tex_grammar.proofs.{AllowedReadings.markup_allowed, AllowedReadings.markup_with_source_allowed, Readings.expanded, Readings.has_expansion, Readings.rows_end_text, Readings.same_expansion}
 use Rattle.latex2mathml_tex_units.specs.MacroTables.{macros_in}
 use Rattle.latex2mathml_tex_commands.specs.Meanings.{style_of}
-use Rattle.latex2mathml_tex.specs.{Answers.IsAnswer, Answers.IsAnswerWithSource, Answers.IsRefusal, Levels.CoreMade, Levels.RuleLeads, ReadRows.AreUppermost, ReadRows.HasRead}
+use Rattle.latex2mathml_tex.specs.{Answers.IsAnswer, Answers.IsAnswerWithSource, Answers.IsRefusal, Levels.CoreMade, Levels.RuleLeads, ReadRows.AreUppermost, ReadRows.HasCome}
 use Rattle.latex2mathml_tex_atoms.specs.Models.{top}
-use Rattle.latex2mathml_tex_units.specs.Errors.{IfRefused, is_outside_error, is_outside_kind, kind_of_error, refusal_of}
+use Rattle.latex2mathml_tex_units.specs.Errors.{is_outside_kind, kind_of_error, refusal_of}
 use Rattle.latex2mathml_tex.specs.Frames.{ReadsAs, Start, Whole, context_at, inside, whole_level}
-use Rattle.latex2mathml_tex.specs.Steps.{Begins, Holds, elements_of, left_of, level, start_of}
+use Rattle.latex2mathml_tex.specs.Steps.{Begins, Holds, Ready, elements_of, last_state, left_of, level, start_of}
+use Rattle.std.specs.declared.alloc.AllocError.{AllocError}
+use Rattle.latex2mathml_tex_commands.specs.declared.meaning.Style.{Style as CodeStyle}
 use Rattle.latex2mathml_tex_units.specs.declared.{error.TexError.TexError, error.TexErrorKind.TexErrorKind, macros.table.Macros.Macros}
 use Rattle.latex2mathml_tex.specs.declared.parse.{Form.Form, Parser.Parser}
 use Rattle.latex2mathml_tex_units.specs.declared.error.TexErrorKind.TheVariants as kind
@@ -62,15 +64,27 @@ begins_rows p e =
       leads = subst (λ fs. RuleLeads (rows_of_text (context_at (inside s fs xs))) (CoreMade (inside s fs xs)) (left_of p)) (sym e) (record { to = rows_made s (left_of p) refl refl });
     }
 
-module _ (read : Form) (p : Parser) where
-  -- the formula is read
-  pub read_row : (q : Parser) (count : ℕ) → Holds (start_of read p) q (state.End count) → count ≤ length (elements_of q) → HasRead (ReadsAs read (style_of p.style) (left_of p)) count (elements_of q)
-  read_row q count h all = let (row, at, same, d) = h.claims in (row, (at, d, record { elements = same; all = all }))
+-- the last state says what a formula that is read in this form comes to
+has_come : (read : Form) (p q : Parser) (found : Option ℕ) → Holds (start_of read p) q (last_state found) → Ready q (last_state found)
+    → HasCome (ReadsAs read (style_of p.style) (left_of p)) found q.refusal (elements_of q)
+has_come read p q (Some count) h ready =
+    let (row, at, same, d) = h.claims in
+    (row, (at, d, record { elements = same; all = ready.may_come }))
+has_come read p q None h ready = refused (refusal_of q.refusal) h.claims
+  where
+    refused : (o : Option Refusal) → IfSome o (λ r. Whole (start_of read p) (Refused r)) → IfSome o (λ r. ReadsAs read (style_of p.style) (left_of p) (Refused r))
+    refused None h = h
+    refused (Some r) d = d
 
-  -- the formula is refused
-  pub refused : (o : Option Refusal) → IfSome o (λ r. Whole (start_of read p) (Refused r)) → IfSome o (λ r. ReadsAs read (style_of p.style) (left_of p) (Refused r))
-  refused None h = h
-  refused (Some r) d = d
+-- the same of the result of reading, for units and a style that are those of the parser
+pub come : (read : Form) (style : CodeStyle) (l : Units) (p q : Parser) (result : Result (Option ℕ) AllocError) → left_of p ≡ l → p.style ≡ style
+    → IfOk result (λ found. Holds (start_of read p) q (last_state found))
+    → IfOk result (λ found. Ready q (last_state found))
+    → IfOk result (λ found. HasCome (ReadsAs read (style_of style) l) found q.refusal (elements_of q))
+come read style l p q (Ok found) units same h ready =
+    subst (λ l. HasCome (ReadsAs read (style_of style) l) found q.refusal (elements_of q)) units
+    (subst (λ s. HasCome (ReadsAs read (style_of s) (left_of p)) found q.refusal (elements_of q)) same (has_come read p q found h ready))
+come read style l p q (Err error) units same h ready = tt
 
 -- Reading as atoms, and then as rows, if the atoms are refused because of `&` or `\\`
 
@@ -82,51 +96,70 @@ found_outside : (k : TexErrorKind) → is_outside_kind k ≡ is_outside_found (k
 found_outside kind.OutsideTable = refl
 found_outside k = refl
 
+-- units may be read in this form: as rows only if they are refused as atoms because of `&` or `\\`
+abbrev pub MayBeRead : Form → Style → Units → Type 0
+MayBeRead form.Atoms style l = ⊤
+MayBeRead form.Rows style l = (r : Refusal) × ReadsAs form.Atoms style l (Refused r) × (is_outside r.kind ≡ true)
+
 -- what holds of the refusal of `&` or `\\`
 outside_so : (P : Refusal → Type 0) (found : Option Kind) (place : ℕ) → is_outside_found found ≡ true → IfSome (option_map (λ k. refusal_at k place) found) P → (r : Refusal) × P r × (is_outside r.kind ≡ true)
 outside_so P None place s h = cc
 outside_so P (Some k) place s h = (refusal_at k place, h, s)
 
-pub refused_outside : {A : Type 0} (P : Refusal → Type 0) (result : Result A TexError) → is_outside_error result ≡ true → IfRefused result P → (r : Refusal) × P r × (is_outside r.kind ≡ true)
-refused_outside P (Ok x) s h = cc
-refused_outside P (Err error) s h = outside_so P (kind_of_error error.kind) error.place (sym (found_outside error.kind) ∙ s) h
+-- units that are refused as atoms because of `&` or `\\` may be read as rows
+pub rows_next : (read : Form) (style : Style) (l : Units) (found : Option ℕ) (error : TexError) (xs : List Element) → (read ≡ form.Atoms) × (found ≡ None) × IsTrue (is_outside_kind error.kind)
+    → HasCome (ReadsAs read style l) found error xs → MayBeRead form.Rows style l
+rows_next form.Atoms style l None error xs (a, n, s) h =
+    outside_so (λ r. ReadsAs form.Atoms style l (Refused r)) (kind_of_error error.kind) error.place (sym (found_outside error.kind) ∙ s) h
+rows_next form.Atoms style l (Some n) error xs (a, is, s) h = cc
+rows_next form.Rows style l found error xs (a, n, s) h = cc
 
 -- what holds of other refusals
 others_so : (P Q : Refusal → Type 0) (found : Option Kind) (place : ℕ) → is_outside_found found ≡ false → ((r : Refusal) → is_outside r.kind ≡ false → P r → Q r) → IfSome (option_map (λ k. refusal_at k place) found) P → IfSome (option_map (λ k. refusal_at k place) found) Q
 others_so P Q None place s f h = tt
 others_so P Q (Some k) place s f h = f (refusal_at k place) s h
 
-pub read_as_atoms : (result : Result ℕ TexError) (style : Style) (l : Units) (xs : List Element) → IfOk result (λ n. HasRead (ReadsAs form.Atoms style l) n xs) → IfOk result (λ n. HasRead (ReadsFormula style l) n xs)
-read_as_atoms (Ok n) style l xs (row, (at, d, upper)) = (row, (at, as_atoms d refl, upper))
-read_as_atoms (Err error) style l xs h = tt
+-- what the units come to as atoms, if that is no refusal because of `&` or `\\`
+come_as_atoms : (style : Style) (l : Units) (found : Option ℕ) (error : TexError) (xs : List Element) → (found ≡ None → IsFalse (is_outside_kind error.kind))
+    → HasCome (ReadsAs form.Atoms style l) found error xs → HasCome (ReadsFormula style l) found error xs
+come_as_atoms style l (Some n) error xs s (row, (at, d, upper)) = (row, (at, as_atoms d refl, upper))
+come_as_atoms style l None error xs s h =
+    others_so (λ r. ReadsAs form.Atoms style l (Refused r)) (λ r. ReadsFormula style l (Refused r)) (kind_of_error error.kind) error.place (sym (found_outside error.kind) ∙ s refl) (λ r t d. as_atoms d t) h
 
-pub refused_as_atoms : {A : Type 0} (result : Result A TexError) (style : Style) (l : Units) → is_outside_error result ≡ false → IfRefused result (λ r. ReadsAs form.Atoms style l (Refused r)) → IfRefused result (λ r. ReadsFormula style l (Refused r))
-refused_as_atoms (Ok x) style l s h = tt
-refused_as_atoms (Err error) style l s h =
-    others_so (λ r. ReadsAs form.Atoms style l (Refused r)) (λ r. ReadsFormula style l (Refused r)) (kind_of_error error.kind) error.place (sym (found_outside error.kind) ∙ s) (λ r t d. as_atoms d t) h
-
+-- what the units come to as rows
 module _ (style : Style) (l : Units) (r : Refusal) (asked : ReadsAs form.Atoms style l (Refused r)) (s : is_outside r.kind ≡ true) where
-  pub read_as_rows : (result : Result ℕ TexError) (xs : List Element) → IfOk result (λ n. HasRead (ReadsAs form.Rows style l) n xs) → IfOk result (λ n. HasRead (ReadsFormula style l) n xs)
-  read_as_rows (Ok n) xs (row, (at, (p, t, e), upper)) = (row, (at, subst (ReadsFormula style l) (sym e) (as_rows asked s t), upper))
-  read_as_rows (Err error) xs h = tt
-
   rows_refuse : (o : Option Refusal) → IfSome o (λ q. ReadsAs form.Rows style l (Refused q)) → IfSome o (λ q. ReadsFormula style l (Refused q))
   rows_refuse None h = tt
   rows_refuse (Some q) (p, t, e) = subst (ReadsFormula style l) (sym e) (as_rows asked s t)
 
-  pub refused_as_rows : {A : Type 0} (result : Result A TexError) → IfRefused result (λ q. ReadsAs form.Rows style l (Refused q)) → IfRefused result (λ q. ReadsFormula style l (Refused q))
-  refused_as_rows (Ok x) h = tt
-  refused_as_rows (Err error) h = rows_refuse (refusal_of error) h
+  come_as_rows : (found : Option ℕ) (error : TexError) (xs : List Element) → HasCome (ReadsAs form.Rows style l) found error xs → HasCome (ReadsFormula style l) found error xs
+  come_as_rows (Some n) error xs (row, (at, (p, t, e), upper)) = (row, (at, subst (ReadsFormula style l) (sym e) (as_rows asked s t), upper))
+  come_as_rows None error xs h = rows_refuse (refusal_of error) h
+
+-- what the units come to in the form in which they are read last
+pub come_at_last : (read : Form) (style : Style) (l : Units) (found : Option ℕ) (error : TexError) (xs : List Element) → MayBeRead read style l
+    → (read ≡ form.Atoms → found ≡ None → IsFalse (is_outside_kind error.kind))
+    → HasCome (ReadsAs read style l) found error xs → HasCome (ReadsFormula style l) found error xs
+come_at_last form.Atoms style l found error xs may s h = come_as_atoms style l found error xs (s refl) h
+come_at_last form.Rows style l found error xs (r, asked, is) s h = come_as_rows style l r asked is found error xs h
 
 -- what is left to read is what the text expands to
 pub expands_so : (m : Macros) (table : Table) (text : List ℕ) (l : Units) → l ≡ expanded (macros_in m) text → SameMacros table (macros_in m) → IsExpansion table text l
 expands_so m table text l e same = same_expansion (λ name. sym (same name)) (rw e (has_expansion (macros_in m) text))
 
--- the row is a reading of the text
-pub reading_of : (result : Result ℕ TexError) (table : Table) (tex : List ℕ) (l : Units) (read style : Style) (xs : List Element) → IsExpansion table (chars tex) l → read ≡ style → IfOk result (λ n. HasRead (ReadsFormula read l) n xs) → IfOk result (λ n. (row : Row) × IsReading table (chars tex) style row × AreUppermost row n xs)
+-- why the units are refused is why the text is
+refusal_is : (o : Option Refusal) (table : Table) (tex : List ℕ) (l : Units) (style : Style) → IsExpansion table (chars tex) l → IfSome o (λ r. ReadsFormula style l (Refused r)) → IfSome o (IsRefusal table tex style)
+unfolding formula.IsRefusal
+refusal_is None table tex l style units h = tt
+refusal_is (Some r) table tex l style units d = (l, units, d)
+
+-- what the units of a text come to is a reading of the text, or a refusal of it
+pub read_text : (found : Option ℕ) (error : TexError) (table : Table) (tex : List ℕ) (l : Units) (read style : Style) (xs : List Element) → IsExpansion table (chars tex) l → read ≡ style
+    → HasCome (ReadsFormula read l) found error xs
+    → MatchOption found (IfSome (refusal_of error) (IsRefusal table tex style)) (λ n. (row : Row) × IsReading table (chars tex) style row × AreUppermost row n xs)
 unfolding IsReading
-reading_of (Ok n) table tex l read style xs units e (row, (at, d, upper)) = (row, (l, units, (at, subst (λ s. ReadsFormula s l (Read row (End at))) e d)), upper)
-reading_of (Err error) table tex l read style xs units e h = tt
+read_text (Some n) error table tex l read style xs units e (row, (at, d, upper)) = (row, (l, units, (at, subst (λ s. ReadsFormula s l (Read row (End at))) e d)), upper)
+read_text None error table tex l read style xs units e h = refusal_is (refusal_of error) table tex l style units (subst (λ s. IfSome (refusal_of error) (λ r. ReadsFormula s l (Refused r))) e h)
 
 -- what was appended is an answer
 pub answered : (table : Table) (tex : List ℕ) (style : Style) (count : ℕ) (xs : List Element) (old new : List ℕ) → (row : Row) × IsReading table (chars tex) style row × AreUppermost row count xs → new ≡ old ++ formula_print (is_display style) (children (reverse (take count xs))) → (markup : List ℕ) × IsAnswer table tex style markup × (new ≡ old ++ markup)
@@ -140,16 +173,6 @@ answered_with_source table tex style count xs ys old new (row, reading, upper) o
     let shown : top ys ≡ row_element row.elements = rw upper.elements (ap top one) in
     let markup : new ≡ old ++ row_print_with_source style (chars tex) row = is ∙ ap (λ x. old ++ annotated_print (is_display style) x (source_text (chars tex))) shown in
     (row_print_with_source style (chars tex) row, (row, reading, refl), markup)
-
-refusal_is : (o : Option Refusal) (table : Table) (tex : List ℕ) (l : Units) (style : Style) → IsExpansion table (chars tex) l → IfSome o (λ r. ReadsFormula style l (Refused r)) → IfSome o (IsRefusal table tex style)
-unfolding formula.IsRefusal
-refusal_is None table tex l style units h = tt
-refusal_is (Some r) table tex l style units d = (l, units, d)
-
--- the refusal is that of the text
-pub refuses_text : {A : Type 0} (result : Result A TexError) (table : Table) (tex : List ℕ) (l : Units) (read style : Style) → IsExpansion table (chars tex) l → read ≡ style → IfRefused result (λ r. ReadsFormula read l (Refused r)) → IfRefused result (IsRefusal table tex style)
-refuses_text (Ok a) table tex l read style units e h = tt
-refuses_text (Err error) table tex l read style units e h = refusal_is (refusal_of error) table tex l style units (subst (λ s. IfSome (refusal_of error) (λ r. ReadsFormula s l (Refused r))) e h)
 
 -- An answer is one `math` element, and can be in a page of XML or between dollar signs.
 

@@ -1,17 +1,17 @@
 //! Converts the text of a formula to its markup.
-ghost use Rattle.std.specs.Prelude.{◌≡◌, ℕ, ◌++◌, ◌≤◌, [], IfOk, List, OnOk, length, string_bytes};
+ghost use Rattle.std.specs.Prelude.{◌≡◌, ℕ, ◌++◌, ◌≤◌, IfOk, IfSome, IsFalse, IsTrue, List, MatchBool, MatchOption, None, OnOk, length, string_bytes};
 ghost use Rattle.std.specs.Str.{chars};
 ghost use Rattle.latex2mathml_elements.specs.{Characters.IsAllowed, Dollars.IsDollarFree, Element.children};
 ghost use Rattle.latex2mathml_elements.specs.Annotated.{IsAnnotatedMathElement, alternative_start, annotated_print};
 ghost use Rattle.latex2mathml_elements.specs.Print.{formula_print, math_tag};
 ghost use Rattle.latex2mathml_builder.specs.Built.{elements_in, uppermost};
 ghost use Rattle.latex2mathml_trees.specs.MathSchema.{IsMathElement};
-ghost use Rattle.latex2mathml_tex_units.specs.{Errors.IfRefused, Errors.is_outside_error, Expanded.expanded_text, MacroTables.AreDefined, MacroTables.Holding};
+ghost use Rattle.latex2mathml_tex_units.specs.{Errors.IfRefused, Errors.is_outside_kind, Errors.refusal_of, Expanded.expanded_text, MacroTables.AreDefined, MacroTables.Holding};
 ghost use Rattle.latex2mathml_tex.specs.Answers.{IsAnswer, IsAnswerWithSource, IsRefusal, style_in};
 ghost use Rattle.latex2mathml_tex_commands.specs.Meanings.{style_of};
-ghost use Rattle.latex2mathml_tex.specs.{Frames.ReadsAs, ReadRows.AreUppermost, ReadRows.HasRead, Steps.left_of};
+ghost use Rattle.latex2mathml_tex.specs.{Frames.ReadsAs, ReadRows.AreUppermost, ReadRows.HasCome};
 ghost use Rattle.latex2mathml_tex_atoms.specs.Models.{top};
-ghost use Rattle.latex2mathml_tex_grammar.specs.{Formulas.IsReading, Formulas.source_text, Makes.is_display, Reading.Refused, Rows.Row};
+ghost use Rattle.latex2mathml_tex_grammar.specs.{Formulas.IsReading, Formulas.source_text, Makes.is_display, Rows.Row};
 
 use crate::annotation::{append_alternative, append_annotation};
 use crate::parse::{Form, Parser};
@@ -125,6 +125,7 @@ impl<'a> Converter<'a> {
 
     /// Appends the answer of [`tex_to_mathml`] to a text, whatever was converted before. If the formula is refused, the text is
     /// unchanged. If memory runs out, a part of the markup may have been appended to it.
+    #[inline]
     pub fn append(
         &mut self,
         text: &mut String,
@@ -139,12 +140,14 @@ impl<'a> Converter<'a> {
             IfRefused result (IsRefusal table tex.now (style_in display))) }
         ensures unchanged { IfRefused result (λ r. string_bytes text.new ≡ string_bytes text.old) }
     {
-        let count = self.read(macros, tex, display)?;
-        write_math(&self.parser.builder, count, display, &mut self.works, text)?;
-        Ok(())
+        if self.append_math(text, macros, tex, display, false)? {
+            return Ok(());
+        }
+        Err(self.parser.refusal())
     }
 
     /// Appends the answer of [`tex_to_mathml_with_source`] to a text, in the same way as `append`.
+    #[inline]
     pub fn append_with_source(
         &mut self,
         text: &mut String,
@@ -159,79 +162,102 @@ impl<'a> Converter<'a> {
             IfRefused result (IsRefusal table tex.now (style_in display))) }
         ensures unchanged { IfRefused result (λ r. string_bytes text.new ≡ string_bytes text.old) }
     {
-        let count = self.read(macros, tex, display)?;
-        put_row(&mut self.parser.builder, count)?;
-        write_annotated_math(&self.parser.builder, tex, display, &mut self.works, text)?;
-        Ok(())
+        if self.append_math(text, macros, tex, display, true)? {
+            return Ok(());
+        }
+        Err(self.parser.refusal())
     }
 
-    /// Reads a formula. Its elements are then the uppermost ones of the builder. Returns how many there are. If `&` or `\\` is
-    /// outside of all tables, the formula is read once more, as rows.
+    /// Appends the answer with an annotation or without, and returns whether there is one. If the formula is refused, the parser
+    /// has the reason. Only this function reads formulas, so that the loop of the parser becomes a part of it.
+    fn append_math(
+        &mut self,
+        text: &mut String,
+        macros: &Macros<'a>,
+        tex: &'a str,
+        display: DisplayStyle,
+        is_annotated: bool,
+    ) -> Result<bool, AllocError>
+        ensures read { Holding macros.now (λ table. IfOk result (λ is_read. MatchBool is_read
+            ((markup : List ℕ)
+            × MatchBool is_annotated
+            (IsAnswerWithSource table tex.now (style_in display) markup)
+            (IsAnswer table tex.now (style_in display) markup)
+            × (string_bytes text.new ≡ string_bytes text.old ++ markup))
+            (IfSome (refusal_of self.new.parser.refusal)
+            (IsRefusal table tex.now (style_in display))))) }
+        ensures unchanged { IfOk result (λ is_read. IsFalse is_read
+            → string_bytes text.new ≡ string_bytes text.old) }
+    {
+        let Some(count) = self.read(macros, tex, display)? else {
+            return Ok(false);
+        };
+        if is_annotated {
+            put_row(&mut self.parser.builder, count)?;
+            write_annotated_math(&self.parser.builder, tex, display, &mut self.works, text)?;
+            return Ok(true);
+        }
+        write_math(&self.parser.builder, count, display, &mut self.works, text)?;
+        Ok(true)
+    }
+
+    /// Reads a formula. Its elements are then the uppermost ones of the builder. Returns how many there are, or `None` if the
+    /// formula is refused; the parser then has the reason. If `&` or `\\` is outside of all tables, the formula is read once
+    /// more, as rows.
+    #[inline]
     fn read(
         &mut self,
         macros: &Macros<'a>,
         tex: &'a str,
         display: DisplayStyle,
-    ) -> Result<usize, TexError>
-        ensures reading { Holding macros.now (λ table. IfOk result (λ count. (row : Row)
-            × IsReading table (chars tex.now) (style_in display) row
-            × AreUppermost row count (elements_in self.new.parser.builder))) }
-        ensures refusal { Holding macros.now (λ table.
-            IfRefused result (IsRefusal table tex.now (style_in display))) }
+    ) -> Result<Option<usize>, AllocError>
+        ensures { Holding macros.now (λ table. IfOk result (λ read. MatchOption read
+            (IfSome (refusal_of self.new.parser.refusal)
+            (IsRefusal table tex.now (style_in display)))
+            (λ count. (row : Row) × IsReading table (chars tex.now) (style_in display) row
+            × AreUppermost row count (elements_in self.new.parser.builder)))) }
     {
         let style = style_for(display);
-        let result = self.read_as(Form::Atoms, macros, tex, style);
-        if is_outside_table(&result) {
-            return self.read_as(Form::Rows, macros, tex, style);
+        let mut form = Form::Atoms;
+        'forms: loop {
+            let read = self.read_as(form, macros, tex, style)?;
+            if !is_to_be_rows(form, read, &self.parser.refusal) {
+                return Ok(read);
+            }
+            form = Form::Rows;
         }
-        result
     }
 
-    /// Reads a formula in this form.
+    /// Reads a formula in this form. Returns how many elements it has, or `None` if it is refused.
+    #[inline]
     fn read_as(
         &mut self,
         form: Form,
         macros: &Macros<'a>,
         tex: &'a str,
         style: Style,
-    ) -> Result<usize, TexError>
-        ensures reading { IfOk result (λ count.
-            HasRead (ReadsAs form (style_of style) (expanded_text macros.now (chars tex.now)))
-            count (elements_in self.new.parser.builder)) }
-        ensures refusal { IfRefused result (λ r.
-            ReadsAs form (style_of style) (expanded_text macros.now (chars tex.now)) (Refused r)) }
+    ) -> Result<Option<usize>, AllocError>
+        ensures { IfOk result (λ read.
+            HasCome (ReadsAs form (style_of style) (expanded_text macros.now (chars tex.now)))
+            read self.new.parser.refusal (elements_in self.new.parser.builder)) }
     {
         self.parser.restart(macros, tex, style)?;
-        read_formula(&mut self.parser, form)
+        self.parser.finish(form)
     }
 }
 
-/// Whether a formula is refused because of `&` or `\\`.
-fn is_outside_table(answer: &Result<usize, TexError>) -> bool
-    ensures { result ≡ is_outside_error answer.now }
+/// Whether a formula is to be read as rows, after it was read in this form: it was read as atoms, and is refused because of `&`
+/// or `\\`.
+#[inline]
+fn is_to_be_rows(form: Form, read: Option<usize>, refusal: &TexError) -> bool
+    ensures yes { IsTrue result → (form ≡ Form.Atoms) × (read ≡ None)
+        × IsTrue (is_outside_kind refusal.now.kind) }
+    ensures no { IsFalse result → form ≡ Form.Atoms → read ≡ None
+        → IsFalse (is_outside_kind refusal.now.kind) }
 {
-    matches!(
-        answer,
-        Err(TexError {
-            kind: TexErrorKind::OutsideTable,
-            ..
-        })
-    )
-}
-
-/// Reads the formula of a parser in this form. Returns how many elements it has.
-fn read_formula(parser: &mut Parser, form: Form) -> Result<usize, TexError>
-    requires { parser.old.frames.stack.items ≡ [] }
-    ensures reading { IfOk result (λ count.
-        HasRead (ReadsAs form (style_of parser.old.style) (left_of parser.old)) count
-        (elements_in parser.new.builder)) }
-    ensures refusal { IfRefused result (λ r.
-        ReadsAs form (style_of parser.old.style) (left_of parser.old) (Refused r)) }
-{
-    match parser.finish(form)? {
-        Some(count) => Ok(count),
-        None => Err(parser.refusal()),
-    }
+    matches!(form, Form::Atoms)
+        && read.is_none()
+        && matches!(refusal.kind, TexErrorKind::OutsideTable)
 }
 
 /// Appends a `math` element of the `count` uppermost elements.
@@ -247,7 +273,7 @@ fn write_math(
         ++ formula_print (is_display (style_in display))
         (children (uppermost count builder.now))) }
 {
-    text.push_str(opening_tag(display))?;
+    append_opening_tag(display, text)?;
     builder.write(count, works, text)?;
     text.push_str("</math>")?;
     Ok(())
@@ -275,16 +301,19 @@ fn write_annotated_math(
     Ok(())
 }
 
-fn opening_tag(display: DisplayStyle) -> &'static str
-    ensures { result.now ≡ math_tag (is_display (style_in display)) }
+/// Appends the opening tag of a `math` element. The length of each text is known where it is appended.
+#[inline]
+fn append_opening_tag(display: DisplayStyle, text: &mut String) -> Result<(), AllocError>
+    ensures { OnOk result (string_bytes text.new
+        ≡ string_bytes text.old ++ math_tag (is_display (style_in display))) }
 {
     match display {
-        DisplayStyle::Block => {
-            "<math xmlns=\"http://www.w3.org/1998/Math/MathML\" display=\"block\">"
-        }
-        DisplayStyle::Inline => {
-            "<math xmlns=\"http://www.w3.org/1998/Math/MathML\" display=\"inline\">"
-        }
+        DisplayStyle::Block => text.push_str(
+            "<math xmlns=\"http://www.w3.org/1998/Math/MathML\" display=\"block\">",
+        ),
+        DisplayStyle::Inline => text.push_str(
+            "<math xmlns=\"http://www.w3.org/1998/Math/MathML\" display=\"inline\">",
+        ),
     }
 }
 

@@ -80,7 +80,7 @@ pub(crate) struct Parser<'a> {
     pub(crate) frames: Frames,
     pub(crate) builder: Builder,
     /// Why the formula is refused. It is kept here so that a state is small.
-    refusal: TexError,
+    pub(crate) refusal: TexError,
 }
 
 impl<'a> Parser<'a> {

@@ -4,3 +4,4 @@ pub mod Faults
 pub mod Replies
 pub mod Requests
 pub mod Runs
+pub mod Texts

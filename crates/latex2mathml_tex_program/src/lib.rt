@@ -6,6 +6,7 @@ mod fault;
 mod reply;
 mod request;
 mod serving;
+mod texts;
 
 pub use definitions::TextFiles;
 pub use fault::Fault;

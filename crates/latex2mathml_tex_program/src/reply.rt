@@ -4,6 +4,7 @@ ghost use Rattle.latex2mathml_tex_units.specs.{ErrorTexts.error_text, Errors.ref
 ghost use Rattle.latex2mathml_tex_program.specs.Replies.{AreFormulas, AreReplies, HoldsFormula, IsLine, IsMarkup, IsNoMarkup, IsReply};
 
 use crate::request::{Display, Format};
+use crate::texts::first_text;
 use latex2mathml_tex::{
     Converter, DisplayStyle, Macros, TexError, tex_to_mathml, tex_to_mathml_with_source,
 };
@@ -87,19 +88,10 @@ pub fn replies<'a>(
     let mut room = String::new(alloc);
     let mut replies = String::new(alloc);
     let mut rest = texts;
-    while let Some((tex, more)) = rest.split_once('\0') {
+    'formulas: while !rest.is_empty() {
+        let (tex, more) = first_text(rest);
         append_reply(&mut converter, &mut room, macros, tex, format, &mut replies)?;
         rest = more;
-    }
-    if !rest.is_empty() {
-        append_reply(
-            &mut converter,
-            &mut room,
-            macros,
-            rest,
-            format,
-            &mut replies,
-        )?;
     }
     Ok(replies)
 }
@@ -152,6 +144,7 @@ fn append_markup<'a>(
 }
 
 /// Appends the reply that says why a formula is refused. The message is first written to `room`.
+#[cold]
 fn append_refusal(
     replies: &mut String,
     error: &TexError,
@@ -161,19 +154,11 @@ fn append_refusal(
         ≡ string_bytes replies.old ++ (codes "error\n" ++ (error_text error.now ++ 0 ∷ []))) }
 {
     room.clear();
-    match write!(room, "{error}") {
-        Ok(()) => append_said(replies, "error\n", room.as_str()),
-        Err(_) => Err(AllocError),
+    if write!(room, "{error}").is_err() {
+        return Err(AllocError);
     }
-}
-
-/// Appends a line that says what kind of reply it is, what the reply says, and a NUL.
-fn append_said(replies: &mut String, kind: &str, said: &str) -> Result<(), AllocError>
-    ensures { OnOk result (string_bytes replies.new
-        ≡ string_bytes replies.old ++ (kind.now ++ (said.now ++ 0 ∷ []))) }
-{
-    replies.push_str(kind)?;
-    replies.push_str(said)?;
+    replies.push_str("error\n")?;
+    replies.push_str(room.as_str())?;
     replies.push('\0')?;
     Ok(())
 }

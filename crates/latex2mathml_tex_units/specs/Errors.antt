@@ -1,5 +1,5 @@
 -- The refusals that errors report.
-use Rattle.std.specs.Prelude.{Bool, true, false, IfErr, IfSome, Option, Result, Ok, Err, Some, None, option_map, string_bytes}
+use Rattle.std.specs.Prelude.{Bool, true, false, IfErr, IfSome, Option, Result, Some, None, option_map, string_bytes}
 use Rattle.latex2mathml_attributes.specs.declared.attributes.Side.{Side}
 use Rattle.latex2mathml_attributes.specs.declared.attributes.Side.TheVariants as side
 use Rattle.latex2mathml_tex_grammar.specs.Refusal as refusal
@@ -61,10 +61,6 @@ IfRefused result P = IfErr result (λ error. IfSome (refusal_of error) P)
 abbrev pub is_outside_kind : TexErrorKind → Bool
 is_outside_kind kind.OutsideTable = true
 is_outside_kind k = false
-
-abbrev pub is_outside_error : {A : Type 0} → Result A TexError → Bool
-is_outside_error (Ok x) = false
-is_outside_error (Err error) = is_outside_kind error.kind
 
 -- the error of running out of memory: no place of the text is at fault
 abbrev pub out_of_memory : TexError
