@@ -164,6 +164,19 @@ begun out old start inner end whole new below behind writes puts puts_inner is =
     ∙ append_assoc out start (inner ++ (end ++ old))
     ∙ ap (λ l. out ++ l) (sym (ap (λ l. l ++ old) is ∙ append_assoc start (inner ++ end) old ∙ ap (λ l. start ++ l) (append_assoc inner end old)))
 
+-- the start tag of a cell is written, and the rest of the cell follows
+pub cell_begun : (out start rest run new whole : List ℕ) → new ≡ out ++ start → run ≡ rest → whole ≡ start ++ rest → new ++ run ≡ out ++ whole
+cell_begun out start rest run new whole writes follows is =
+    ap (λ l. l ++ run) writes
+    ∙ append_assoc out start run
+    ∙ ap (λ l. out ++ (start ++ l)) follows
+    ∙ ap (λ l. out ++ l) (sym is)
+
+-- what is due comes after that
+pub before_due : (out new run first below : List ℕ) → new ++ run ≡ out ++ first → new ++ (run ++ below) ≡ out ++ (first ++ below)
+before_due out new run first below is =
+    sym (append_assoc new run below) ∙ ap (λ l. l ++ below) is ∙ append_assoc out first below
+
 -- the first of some is written, and the others are due before everything else
 pub others_due : (out old first others all below whole : List ℕ) → all ≡ first ++ others → below ≡ others ++ old → whole ≡ out ++ (first ++ below) → whole ≡ out ++ (all ++ old)
 others_due out old first others all below whole is puts writes =

@@ -1,40 +1,45 @@
 //! Writes the rows and the cells of tables.
-ghost use Rattle.std.specs.Prelude.{◌≡◌, ◌+◌, ◌-◌, ◌<◌, ◌≤◌, ◌++◌, OnOk, codes, drop, length, string_bytes};
+ghost use Rattle.std.specs.Prelude.{◌≡◌, ◌+◌, ◌-◌, ◌<◌, ◌≤◌, ◌++◌, IfOk, OnOk, codes, drop, length, string_bytes};
 ghost use Rattle.latex2mathml_elements.specs.Print.{cell_tag};
 ghost use Rattle.latex2mathml_builder.specs.Built.{settled_in};
 ghost use Rattle.latex2mathml_attributes.specs.Columns.{column_of, columns_of};
-ghost use Rattle.latex2mathml_builder.specs.Due.{AreIn, Writes, cell_loads, cell_prints, in_cells, load, row_loads, row_prints, settled_from};
+ghost use Rattle.latex2mathml_builder.specs.Due.{AreIn, Begins, cell_loads, cell_prints, in_cells, load, row_loads, row_prints, run_print, run_weight, settled_from};
 
 use crate::builder::Builder;
 use crate::part::Part;
-use crate::works::Work;
+use crate::works::{Run, Work};
 use latex2mathml_attributes::columns::{Column, Columns};
 use latex2mathml_attributes::tag::Container;
 use std::alloc::AllocError;
 
 impl Builder {
-    /// Writes what precedes the cells of the row that a settled element becomes, and pushes what follows on the list.
+    /// Writes what precedes the cells of the row that a settled element becomes, and pushes what follows on the list. Returns a
+    /// run of no elements.
+    #[inline(never)]
     pub(crate) fn write_row(
         &self,
         columns: Columns,
         place: usize,
         works: &mut Vec<Work>,
         out: &mut String,
-    ) -> Result<(), AllocError>
+    ) -> Result<Run, AllocError>
         requires one { place < length self.now.settled }
         requires inside { AreIn self.now works.old.items }
         ensures inside { OnOk result (AreIn self.now works.new.items) }
-        ensures print { OnOk result (Writes self.now (string_bytes out.old) works.old.items
+        ensures one { IfOk result (λ run. run.end ≤ length self.now.settled) }
+        ensures print { IfOk result (λ run. Begins self.now (string_bytes out.old) works.old.items
             (row_prints (columns_of columns) (settled_from self.now place 1))
-            (string_bytes out.new) works.new.items) }
-        ensures weight { OnOk result (load self.now works.new.items
+            (string_bytes out.new) run works.new.items) }
+        ensures weight { IfOk result (λ run. load self.now works.new.items
+            + run_weight self.now run
             < load self.now works.old.items
             + row_loads (columns_of columns) (settled_from self.now place 1)) }
     {
         let (first, count) = self.cells_at(place);
         out.push_str("<mtr>")?;
         self.push_work(Work::End("</mtr>"), works)?;
-        self.push_work(Work::Cells(columns, first, first, count), works)
+        self.push_work(Work::Cells(columns, first, first, count), works)?;
+        Ok(self.run(0, 0, ""))
     }
 
     /// Returns the place of the first of the settled elements in the cells of such a row, and how many there are.
@@ -53,28 +58,26 @@ impl Builder {
         }
     }
 
-    /// Writes a cell up to its contents, which are a settled element of a row that begins at `start`, and pushes what follows
-    /// on the list.
+    /// Writes a cell up to its contents, which are a settled element of a row that begins at `start`. Returns what follows.
+    #[inline(never)]
     pub(crate) fn write_cell(
         &self,
         columns: Columns,
         start: usize,
         place: usize,
-        works: &mut Vec<Work>,
         out: &mut String,
-    ) -> Result<(), AllocError>
+    ) -> Result<Run, AllocError>
         requires one { place < length self.now.settled }
         requires row { start ≤ place }
-        requires inside { AreIn self.now works.old.items }
-        ensures inside { OnOk result (AreIn self.now works.new.items) }
-        ensures print { OnOk result (Writes self.now (string_bytes out.old) works.old.items
-            (cell_prints (columns_of columns) (place - start) (settled_from self.now place 1))
-            (string_bytes out.new) works.new.items) }
-        ensures weight { OnOk result (load self.now works.new.items
-            < load self.now works.old.items + cell_loads (settled_from self.now place 1)) }
+        ensures one { IfOk result (λ run. run.end ≤ length self.now.settled) }
+        ensures print { IfOk result (λ run. string_bytes out.new ++ run_print self.now run
+            ≡ string_bytes out.old
+            ++ cell_prints (columns_of columns) (place - start) (settled_from self.now place 1)) }
+        ensures weight { IfOk result (λ run. run_weight self.now run
+            < cell_loads (settled_from self.now place 1)) }
     {
         start_cell(columns.column_at(place - start), out)?;
-        self.push_work(Work::Elements(self.run(place, 1, "</mtd>")), works)
+        Ok(self.run(place, 1, "</mtd>"))
     }
 }
 
