@@ -13,10 +13,38 @@ use latex2mathml_attributes::tag::Container;
 use std::alloc::AllocError;
 
 impl Builder {
-    /// Writes what precedes the cells of the row that a settled element becomes, and pushes what follows on the list. Returns a
-    /// run of no elements.
+    /// Writes the first of some rows up to the contents of its first cell. Returns what follows, and pushes the other rows and the
+    /// end tag of their table on the list.
     #[inline(never)]
-    pub(crate) fn write_row(
+    pub(crate) fn write_rows(
+        &self,
+        columns: Columns,
+        first: usize,
+        count: usize,
+        works: &mut Vec<Work>,
+        out: &mut String,
+    ) -> Result<Run, AllocError>
+        requires some { 0 < count }
+        requires all { first + count ≤ length self.now.settled }
+        requires inside { AreIn self.now works.old.items }
+        ensures inside { OnOk result (AreIn self.now works.new.items) }
+        ensures one { IfOk result (λ run. run.end ≤ length self.now.settled) }
+        ensures print { IfOk result (λ run. Begins self.now (string_bytes out.old) works.old.items
+            (row_prints (columns_of columns) (settled_from self.now first count)
+            ++ codes "</mtable>") (string_bytes out.new) run works.new.items) }
+        ensures weight { IfOk result (λ run. load self.now works.new.items
+            + run_weight self.now run < load self.now works.old.items
+            + (1 + row_loads (columns_of columns) (settled_from self.now first count))) }
+    {
+        // No place is greater than this length, so none overflows.
+        let _ = self.settled_len();
+        self.push_work(Work::Rows(columns, first + 1, count - 1), works)?;
+        self.write_row(columns, first, works, out)
+    }
+
+    /// Writes the row that a settled element becomes, up to the contents of its first cell. Returns what follows, and pushes the
+    /// other cells and the end tag of the row on the list.
+    fn write_row(
         &self,
         columns: Columns,
         place: usize,
@@ -37,14 +65,13 @@ impl Builder {
     {
         let (first, count) = self.cells_at(place);
         out.push_str("<mtr>")?;
-        self.push_work(Work::End("</mtr>"), works)?;
-        self.push_work(Work::Cells(columns, first, first, count), works)?;
-        Ok(self.run(0, 0, ""))
+        self.write_cells(columns, first, first, count, works, out)
     }
 
     /// Returns the place of the first of the settled elements in the cells of such a row, and how many there are.
     fn cells_at(&self, place: usize) -> (usize, usize)
         requires { place < length self.now.settled }
+        ensures some { 0 < result.1 }
         ensures within { result.0 + result.1 ≤ length self.now.settled }
         ensures elements { settled_from self.now result.0 result.1
             ≡ in_cells (drop place (settled_in self.now)) }
@@ -58,9 +85,39 @@ impl Builder {
         }
     }
 
-    /// Writes a cell up to its contents, which are a settled element of a row that begins at `start`. Returns what follows.
+    /// Writes the first of some cells up to its contents. They are those of a row that begins with the settled element at `start`.
+    /// Returns what follows, and pushes the other cells and the end tag of the row on the list.
     #[inline(never)]
-    pub(crate) fn write_cell(
+    pub(crate) fn write_cells(
+        &self,
+        columns: Columns,
+        start: usize,
+        first: usize,
+        count: usize,
+        works: &mut Vec<Work>,
+        out: &mut String,
+    ) -> Result<Run, AllocError>
+        requires some { 0 < count }
+        requires row { start ≤ first }
+        requires all { first + count ≤ length self.now.settled }
+        requires inside { AreIn self.now works.old.items }
+        ensures inside { OnOk result (AreIn self.now works.new.items) }
+        ensures one { IfOk result (λ run. run.end ≤ length self.now.settled) }
+        ensures print { IfOk result (λ run. Begins self.now (string_bytes out.old) works.old.items
+            (cell_prints (columns_of columns) (first - start) (settled_from self.now first count)
+            ++ codes "</mtr>") (string_bytes out.new) run works.new.items) }
+        ensures weight { IfOk result (λ run. load self.now works.new.items
+            + run_weight self.now run < load self.now works.old.items
+            + (1 + cell_loads (settled_from self.now first count))) }
+    {
+        // No place is greater than this length, so none overflows.
+        let _ = self.settled_len();
+        self.push_work(Work::Cells(columns, start, first + 1, count - 1), works)?;
+        self.write_cell(columns, start, first, out)
+    }
+
+    /// Writes a cell up to its contents, which are a settled element of a row that begins at `start`. Returns what follows.
+    fn write_cell(
         &self,
         columns: Columns,
         start: usize,

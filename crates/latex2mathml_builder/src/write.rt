@@ -118,18 +118,11 @@ impl Builder {
     {
         match work {
             Work::Elements(run) => Ok(run),
-            Work::End(tag) => Ok(self.run(0, 0, tag)),
-            Work::Rows(_, _, 0) => Ok(self.run(0, 0, "")),
-            Work::Rows(columns, first, count) => {
-                let _ = self.settled_len();
-                self.push_work(Work::Rows(columns, first + 1, count - 1), works)?;
-                self.write_row(columns, first, works, out)
-            }
-            Work::Cells(_, _, _, 0) => Ok(self.run(0, 0, "")),
+            Work::Rows(_, _, 0) => Ok(self.run(0, 0, "</mtable>")),
+            Work::Rows(columns, first, count) => self.write_rows(columns, first, count, works, out),
+            Work::Cells(_, _, _, 0) => Ok(self.run(0, 0, "</mtr>")),
             Work::Cells(columns, start, first, count) => {
-                let _ = self.settled_len();
-                self.push_work(Work::Cells(columns, start, first + 1, count - 1), works)?;
-                self.write_cell(columns, start, first, out)
+                self.write_cells(columns, start, first, count, works, out)
             }
         }
     }
@@ -184,9 +177,7 @@ impl Builder {
             }
             Part::Table(style, columns, first, count) => {
                 start_with_attributes("<mtable", &Attributes::styled(*style), out)?;
-                self.push_work(Work::End("</mtable>"), works)?;
-                self.push_work(Work::Rows(*columns, *first, *count), works)?;
-                Ok(self.run(0, 0, ""))
+                self.write_rows(*columns, *first, *count, works, out)
             }
         }
     }
