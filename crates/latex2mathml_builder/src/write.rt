@@ -1,6 +1,6 @@
 //! Writes elements as markup.
 ghost use Rattle.std.specs.Prelude.{◌≡◌, ◌+◌, ◌<◌, ◌≤◌, ◌∷◌, ◌++◌, [], false, IfOk, OnOk, codes, length, set, string_bytes};
-ghost use Rattle.latex2mathml_elements.specs.Element.{children};
+ghost use Rattle.latex2mathml_elements.specs.Element.{children, space};
 ghost use Rattle.latex2mathml_elements.specs.Print.{attributes_text, container_name, pair_name, print, prints, triple_name};
 ghost use Rattle.latex2mathml_builder.specs.Built.{Fits, element_in, elements_in, is_token_part, uppermost};
 ghost use Rattle.latex2mathml_attributes.specs.Names.{attributes_if_any, attributes_of, container_of, pair_of, triple_of};
@@ -150,7 +150,7 @@ impl Builder {
         match part {
             Part::Token(_, _, _, _) => unreachable!(),
             Part::Space(width) => {
-                append_space(*width, out)?;
+                write_space(*width, out)?;
                 Ok(self.run(0, 0, ""))
             }
             Part::Rectangle(extent) => {
@@ -245,6 +245,21 @@ impl Builder {
     {
         let _ = self;
         Ok(works.push(work)?)
+    }
+}
+
+/// Appends a space, in eighteenths of an em. Those that most formulas have are texts of their own, of lengths that are known.
+#[inline(never)]
+fn write_space(width: i32, out: &mut String) -> Result<(), AllocError>
+    ensures { OnOk result (string_bytes out.new ≡ string_bytes out.old ++ print (space width)) }
+{
+    match width {
+        3 => out.push_str("<mspace width=\"0.167em\"/>"),
+        4 => out.push_str("<mspace width=\"0.222em\"/>"),
+        5 => out.push_str("<mspace width=\"0.278em\"/>"),
+        18 => out.push_str("<mspace width=\"1em\"/>"),
+        36 => out.push_str("<mspace width=\"2em\"/>"),
+        _ => append_space(width, out),
     }
 }
 
