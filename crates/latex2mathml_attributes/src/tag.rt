@@ -78,8 +78,9 @@ impl Container {
         }
     }
 
-    /// Appends the start tag without attributes. Each is a text of its own, of a length that is known.
-    #[inline(always)]
+    /// Appends the start tag without attributes. Each is a text of its own, of a length that is known. Inlined, this would be one of
+    /// many branches of its caller, which the compiler takes for rare, and the text would be copied by a call.
+    #[inline(never)]
     pub fn append_start_tag(self, out: &mut String) -> Result<(), AllocError>
         ensures { OnOk result (string_bytes out.new ≡ string_bytes out.old
             ++ ((codes "<" ++ container_name (container_of self)) ++ codes ">")) }
@@ -118,8 +119,9 @@ impl Pair {
         }
     }
 
-    /// Appends the start tag without attributes. Each is a text of its own, of a length that is known.
-    #[inline(always)]
+    /// Appends the start tag without attributes. Each is a text of its own, of a length that is known. Inlined, this would be one of
+    /// many branches of its caller, which the compiler takes for rare, and the text would be copied by a call.
+    #[inline(never)]
     pub fn append_start_tag(self, out: &mut String) -> Result<(), AllocError>
         ensures { OnOk result (string_bytes out.new ≡ string_bytes out.old
             ++ ((codes "<" ++ pair_name (pair_of self)) ++ codes ">")) }
@@ -160,8 +162,9 @@ impl Triple {
         }
     }
 
-    /// Appends the start tag without attributes. Each is a text of its own, of a length that is known.
-    #[inline(always)]
+    /// Appends the start tag without attributes. Each is a text of its own, of a length that is known. Inlined, this would be one of
+    /// many branches of its caller, which the compiler takes for rare, and the text would be copied by a call.
+    #[inline(never)]
     pub fn append_start_tag(self, out: &mut String) -> Result<(), AllocError>
         ensures { OnOk result (string_bytes out.new ≡ string_bytes out.old
             ++ ((codes "<" ++ triple_name (triple_of self)) ++ codes ">")) }

@@ -25,6 +25,11 @@ pub short_is_text : (letter : ℕ) (text : List ℕ) → IsAscii (letter ∷ [])
 short_is_text letter text h is =
     IsUtf8-append (short_start letter) (text ++ short_end letter) (start_is_text letter h) (IsUtf8-append text (short_end letter) is (end_is_text letter h))
 
+-- a text and the end tag of an operator
+pub ended_is_text : (text : List ℕ) → IsUtf8 text → IsUtf8 (text ++ codes "</mo>")
+ended_is_text text is =
+    IsUtf8-append text (codes "</mo>") is (IsUtf8-from_ascii _ (ascii_markup (codes "</mo>") refl))
+
 -- a text of one, two or three bytes is these
 pub one_byte : (bytes : List ℕ) → length bytes ≡ 1 → IsUtf8 bytes → IsUtf8 (slice_index_or bytes 0 0 ∷ [])
 one_byte [] h is = absurd (omega arith)

@@ -5,6 +5,7 @@ pub mod Opens
 pub mod Parts
 pub mod Places
 pub mod Sound
+pub mod Spaces
 pub mod Tables
 pub mod Tokens
 pub mod Written

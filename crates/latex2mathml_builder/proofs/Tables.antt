@@ -157,16 +157,33 @@ module _ (columns : Columns) (xs : List Element) (first count : ℕ) (some : 0 <
 
 -- What is written before the cells of a row or in a cell, and what is due after that
 
-pub begun : (out old start inner end whole new below behind : List ℕ) → new ≡ out ++ start → below ≡ end ++ old → behind ≡ inner ++ below → whole ≡ start ++ (inner ++ end) → new ++ behind ≡ out ++ (whole ++ old)
-begun out old start inner end whole new below behind writes puts puts_inner is =
-    ap (λ l. l ++ behind) writes
-    ∙ ap (λ l. (out ++ start) ++ l) (puts_inner ∙ ap (λ l. inner ++ l) puts)
-    ∙ append_assoc out start (inner ++ (end ++ old))
-    ∙ ap (λ l. out ++ l) (sym (ap (λ l. l ++ old) is ∙ append_assoc start (inner ++ end) old ∙ ap (λ l. start ++ l) (append_assoc inner end old)))
+pub begun : (out old start inner whole new both : List ℕ) → new ≡ out ++ start → both ≡ new ++ (inner ++ old) → whole ≡ start ++ inner → both ≡ out ++ (whole ++ old)
+begun out old start inner whole new both writes puts is =
+    puts
+    ∙ ap (λ l. l ++ (inner ++ old)) writes
+    ∙ append_assoc out start (inner ++ old)
+    ∙ ap (λ l. out ++ l) (sym (ap (λ l. l ++ old) is ∙ append_assoc start inner old))
+
+-- the first of some is followed by the others and an end tag
+pub ended : (every first others end : List ℕ) → every ≡ first ++ others → every ++ end ≡ first ++ (others ++ end)
+ended every first others end is = ap (λ l. l ++ end) is ∙ append_assoc first others end
+
+-- the start tag of a cell is written, and the rest of the cell follows
+pub cell_begun : (out start rest run new whole : List ℕ) → new ≡ out ++ start → run ≡ rest → whole ≡ start ++ rest → new ++ run ≡ out ++ whole
+cell_begun out start rest run new whole writes follows is =
+    ap (λ l. l ++ run) writes
+    ∙ append_assoc out start run
+    ∙ ap (λ l. out ++ (start ++ l)) follows
+    ∙ ap (λ l. out ++ l) (sym is)
+
+-- what is due comes after that
+pub before_due : (out new run first below : List ℕ) → new ++ run ≡ out ++ first → new ++ (run ++ below) ≡ out ++ (first ++ below)
+before_due out new run first below is =
+    sym (append_assoc new run below) ∙ ap (λ l. l ++ below) is ∙ append_assoc out first below
 
 -- the first of some is written, and the others are due before everything else
-pub others_due : (out old first others all below whole : List ℕ) → all ≡ first ++ others → below ≡ others ++ old → whole ≡ out ++ (first ++ below) → whole ≡ out ++ (all ++ old)
-others_due out old first others all below whole is puts writes =
+pub others_due : (out old first others every below whole : List ℕ) → every ≡ first ++ others → below ≡ others ++ old → whole ≡ out ++ (first ++ below) → whole ≡ out ++ (every ++ old)
+others_due out old first others every below whole is puts writes =
     writes
     ∙ ap (λ l. out ++ (first ++ l)) puts
     ∙ ap (λ l. out ++ l) (sym (ap (λ l. l ++ old) is ∙ append_assoc first others old))

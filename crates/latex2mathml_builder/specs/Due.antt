@@ -1,5 +1,5 @@
 -- What is still to be written of the elements of a builder. The work that was pushed last is done first.
-use Rattle.std.specs.Prelude.{◌≡◌, ℕ, suc, ◌+◌, ◌-◌, ◌≤◌, Bool, true, List, [], ◌∷◌, ◌++◌, drop, length, reverse, sum_by, take}
+use Rattle.std.specs.Prelude.{◌≡◌, ℕ, suc, ◌+◌, ◌-◌, ◌≤◌, Bool, true, List, [], ◌∷◌, ◌++◌, codes, drop, length, reverse, sum_by, take}
 use Rattle.std.specs.List.{All, flat_map}
 use Rattle.latex2mathml_elements.specs.Element.{Element, Elements, Rows, Cells, token, space, rectangle, container, pair, triple, table, none, more, one_row, more_rows, one_cell, more_cells, children, Mrow}
 use Rattle.latex2mathml_elements.specs.Columns.{Columns, column_at}
@@ -34,9 +34,8 @@ run_print b run = prints (children (elements_of b run)) ++ run.tag.now
 
 abbrev pub work_print : Built → Work → List ℕ
 work_print b (work.Elements run) = run_print b run
-work_print b (work.Rows columns first count) = row_prints (columns_of columns) (settled_from b first count)
-work_print b (work.Cells columns start first count) = cell_prints (columns_of columns) (first - start) (settled_from b first count)
-work_print b (work.End tag) = tag.now
+work_print b (work.Rows columns first count) = row_prints (columns_of columns) (settled_from b first count) ++ codes "</mtable>"
+work_print b (work.Cells columns start first count) = cell_prints (columns_of columns) (first - start) (settled_from b first count) ++ codes "</mtr>"
 
 abbrev pub due : Built → List Work → List ℕ
 due b ws = flat_map (work_print b) (reverse ws)
@@ -46,7 +45,6 @@ abbrev pub IsIn : Built → Work → Type 0
 IsIn b (work.Elements run) = run.end ≤ length b.settled
 IsIn b (work.Rows columns first count) = first + count ≤ length b.settled
 IsIn b (work.Cells columns start first count) = (start ≤ first) × (first + count ≤ length b.settled)
-IsIn b (work.End tag) = Unit {0}
 
 unfoldable pub AreIn : Built → List Work → Type 0
 AreIn b = All (IsIn b)
@@ -106,7 +104,6 @@ abbrev pub work_weight : Built → Work → ℕ
 work_weight b (work.Elements run) = 1 + run_weight b run
 work_weight b (work.Rows columns first count) = 1 + row_loads (columns_of columns) (settled_from b first count)
 work_weight b (work.Cells columns start first count) = 1 + cell_loads (settled_from b first count)
-work_weight b (work.End tag) = 1
 
 abbrev pub load : Built → List Work → ℕ
 load b = sum_by (work_weight b)

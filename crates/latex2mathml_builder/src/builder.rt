@@ -348,7 +348,7 @@ impl Builder {
 
     /// Replaces the `count` uppermost elements by one. They become settled, with the first two of them exchanged if the flag
     /// says so.
-    #[inline(never)]
+    #[inline(always)]
     fn wrap(&mut self, count: usize, is_exchanged: bool, whole: Part) -> Result<(), AllocError>
         requires some { 0 < count }
         requires all { count ≤ length (elements_in self.old) }
@@ -403,6 +403,7 @@ impl Builder {
 }
 
 /// Appends parts, with the first two of them exchanged if the flag says so.
+#[inline(never)]
 fn settle(settled: &mut Vec<Part>, parts: &[Part], is_exchanged: bool) -> Result<(), AllocError>
     ensures items { OnOk result (settled.new.items
         ≡ settled.old.items ++ ordered is_exchanged parts.now) }

@@ -7,5 +7,6 @@
 pub mod builder;
 mod part;
 mod rows;
+mod texts;
 pub mod works;
 mod write;

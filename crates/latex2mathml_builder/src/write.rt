@@ -1,21 +1,18 @@
 //! Writes elements as markup.
-ghost use Rattle.std.specs.Prelude.{◌≡◌, ◌+◌, ◌<◌, ◌≤◌, ◌∷◌, ◌++◌, [], false, IfOk, IsTrue, OnOk, codes, length, set, string_bytes};
-ghost use Rattle.std.specs.Str.{IsAscii, IsUtf8};
-ghost use Rattle.latex2mathml_elements.specs.Attributes.{plain};
-ghost use Rattle.latex2mathml_elements.specs.Element.{children, token};
-ghost use Rattle.latex2mathml_elements.specs.Print.{attributes_text, container_name, pair_name, print, prints, start_tag, token_name, triple_name};
+ghost use Rattle.std.specs.Prelude.{◌≡◌, ◌+◌, ◌<◌, ◌≤◌, ◌∷◌, ◌++◌, [], false, IfOk, OnOk, codes, length, set, string_bytes};
+ghost use Rattle.latex2mathml_elements.specs.Element.{children, space};
+ghost use Rattle.latex2mathml_elements.specs.Print.{attributes_text, container_name, pair_name, print, prints, triple_name};
 ghost use Rattle.latex2mathml_builder.specs.Built.{Fits, element_in, elements_in, is_token_part, uppermost};
-ghost use Rattle.latex2mathml_attributes.specs.Names.{attributes_if_any, attributes_of, container_of, pair_of, token_of, triple_of};
-ghost use Rattle.latex2mathml_tokens.specs.Escape.{content};
-ghost use Rattle.latex2mathml_builder.specs.Names.{short_end, short_start};
+ghost use Rattle.latex2mathml_attributes.specs.Names.{attributes_if_any, attributes_of, container_of, pair_of, triple_of};
 ghost use Rattle.latex2mathml_builder.specs.Due.{AreIn, Begins, IsIn, Writes, arranged, due, load, run_print, run_weight, settled_from, weight, weights, work_print, work_weight};
 
 use crate::builder::Builder;
 use crate::part::Part;
+use crate::texts::write_token;
 use crate::works::{Run, Work, Works};
 use latex2mathml_attributes::attributes::Attributes;
-use latex2mathml_attributes::tag::{Container, Pair, Token, Triple};
-use latex2mathml_trees::append::{append_content, append_space};
+use latex2mathml_attributes::tag::{Container, Pair, Triple};
+use latex2mathml_trees::append::append_space;
 use std::alloc::AllocError;
 
 impl Builder {
@@ -44,9 +41,9 @@ impl Builder {
         Ok(())
     }
 
-    /// Writes an element that holds no text. The list is empty before and after that.
+    /// Writes an element that holds no text, and all that is in it. The list is empty before and after that.
     #[inline(never)]
-    #[tactic(auto, unfolding(crate::specs::Due::AreIn))]
+    #[tactic(auto, using(std::proofs::lemmas::Grind::common_steps), unfolding(crate::specs::Due::AreIn))]
     fn write_outer(
         &self,
         part: &Part,
@@ -60,56 +57,19 @@ impl Builder {
         ensures print { OnOk result (string_bytes out.new
             ≡ string_bytes out.old ++ print (element_in self.now part.now)) }
     {
-        let run = self.write_start(part, works, out)?;
-        self.write_run(run, works, out)?;
-        self.finish(works, out)
-    }
-
-    /// Does all works of the list.
-    #[tactic(auto, using(std::proofs::lemmas::Grind::common_steps), unfolding(crate::specs::Due::AreIn))]
-    fn finish(&self, works: &mut Vec<Work>, out: &mut String) -> Result<(), AllocError>
-        requires { AreIn self.now works.old.items }
-        ensures none { OnOk result (works.new.items ≡ []) }
-        ensures print { OnOk result (string_bytes out.new
-            ≡ string_bytes out.old ++ due self.now works.old.items) }
-    {
-        'works: while let Some(work) = works.pop() {
-            self.do_work(work, works, out)?;
-        }
-        Ok(())
-    }
-
-    /// Does a work.
-    fn do_work(&self, work: Work, works: &mut Vec<Work>, out: &mut String) -> Result<(), AllocError>
-        requires one { IsIn self.now work }
-        requires inside { AreIn self.now works.old.items }
-        ensures inside { OnOk result (AreIn self.now works.new.items) }
-        ensures print { OnOk result (Writes self.now (string_bytes out.old) works.old.items
-            (work_print self.now work) (string_bytes out.new) works.new.items) }
-        ensures weight { OnOk result (load self.now works.new.items
-            < load self.now works.old.items + work_weight self.now work) }
-    {
-        match work {
-            Work::End(tag) => out.push_str(tag),
-            Work::Elements(run) => self.write_run(run, works, out),
-            Work::Rows(_, _, 0) => Ok(()),
-            Work::Rows(columns, first, count) => {
-                let _ = self.settled_len();
-                self.push_work(Work::Rows(columns, first + 1, count - 1), works)?;
-                self.write_row(columns, first, works, out)
-            }
-            Work::Cells(_, _, _, 0) => Ok(()),
-            Work::Cells(columns, start, first, count) => {
-                let _ = self.settled_len();
-                self.push_work(Work::Cells(columns, start, first + 1, count - 1), works)?;
-                self.write_cell(columns, start, first, works, out)
-            }
+        let mut next = self.write_start(part, works, out)?;
+        'works: loop {
+            self.write_run(next, works, out)?;
+            let Some(work) = works.pop() else {
+                return Ok(());
+            };
+            next = self.begin_work(work, works, out)?;
         }
     }
 
     /// Writes settled elements and the end tag after them. If one of them holds no text, this pushes the others on the list,
     /// writes what precedes the children of that one, and goes on with its children.
-    #[inline(never)]
+    #[inline(always)]
     fn write_run(&self, run: Run, works: &mut Vec<Work>, out: &mut String) -> Result<(), AllocError>
         requires one { run.end ≤ length self.now.settled }
         requires inside { AreIn self.now works.old.items }
@@ -138,6 +98,35 @@ impl Builder {
         out.push_str(left.tag)
     }
 
+    /// Begins a work, which is no longer on the list. Returns what comes next, and pushes what follows that on the list.
+    #[inline(always)]
+    fn begin_work(
+        &self,
+        work: Work,
+        works: &mut Vec<Work>,
+        out: &mut String,
+    ) -> Result<Run, AllocError>
+        requires one { IsIn self.now work }
+        requires inside { AreIn self.now works.old.items }
+        ensures inside { OnOk result (AreIn self.now works.new.items) }
+        ensures one { IfOk result (λ run. run.end ≤ length self.now.settled) }
+        ensures print { IfOk result (λ run. Begins self.now (string_bytes out.old) works.old.items
+            (work_print self.now work) (string_bytes out.new) run works.new.items) }
+        ensures weight { IfOk result (λ run. load self.now works.new.items
+            + run_weight self.now run
+            < load self.now works.old.items + work_weight self.now work) }
+    {
+        match work {
+            Work::Elements(run) => Ok(run),
+            Work::Rows(_, _, 0) => Ok(self.run(0, 0, "</mtable>")),
+            Work::Rows(columns, first, count) => self.write_rows(columns, first, count, works, out),
+            Work::Cells(_, _, _, 0) => Ok(self.run(0, 0, "</mtr>")),
+            Work::Cells(columns, start, first, count) => {
+                self.write_cells(columns, start, first, count, works, out)
+            }
+        }
+    }
+
     /// Writes what precedes the children of an element that holds no text. Returns what follows, up to the end tag, except
     /// what it pushes on the list.
     #[inline(always)]
@@ -161,7 +150,7 @@ impl Builder {
         match part {
             Part::Token(_, _, _, _) => unreachable!(),
             Part::Space(width) => {
-                append_space(*width, out)?;
+                write_space(*width, out)?;
                 Ok(self.run(0, 0, ""))
             }
             Part::Rectangle(extent) => {
@@ -188,9 +177,7 @@ impl Builder {
             }
             Part::Table(style, columns, first, count) => {
                 start_with_attributes("<mtable", &Attributes::styled(*style), out)?;
-                self.push_work(Work::End("</mtable>"), works)?;
-                self.push_work(Work::Rows(*columns, *first, *count), works)?;
-                Ok(self.run(0, 0, ""))
+                self.write_rows(*columns, *first, *count, works, out)
             }
         }
     }
@@ -261,132 +248,19 @@ impl Builder {
     }
 }
 
-/// Appends an element that holds this text.
-#[inline(always)]
-fn write_token(
-    tag: Token,
-    attributes: &Option<Attributes>,
-    text: &str,
-    out: &mut String,
-) -> Result<(), AllocError>
-    ensures { OnOk result (string_bytes out.new ≡ string_bytes out.old
-        ++ print (token (token_of tag) (attributes_if_any attributes.now) text.now)) }
-{
-    match attributes {
-        None => write_plain(tag, text, out),
-        Some(attributes) => write_with_attributes(tag, attributes, text, out),
-    }
-}
-
-/// Appends an element with attributes that holds this text.
+/// Appends a space, in eighteenths of an em. Those that most formulas have are texts of their own, of lengths that are known.
 #[inline(never)]
-#[tactic(auto, using(std::proofs::lemmas::Grind::common_steps))]
-fn write_with_attributes(
-    tag: Token,
-    attributes: &Attributes,
-    text: &str,
-    out: &mut String,
-) -> Result<(), AllocError>
-    ensures { OnOk result (string_bytes out.new ≡ string_bytes out.old
-        ++ print (token (token_of tag) (attributes_of attributes.now) text.now)) }
+fn write_space(width: i32, out: &mut String) -> Result<(), AllocError>
+    ensures { OnOk result (string_bytes out.new ≡ string_bytes out.old ++ print (space width)) }
 {
-    start_token(tag, attributes, out)?;
-    write_content(text, out)?;
-    out.push_str(tag.end())
-}
-
-/// Appends an element without attributes that holds this text.
-#[inline(always)]
-fn write_plain(tag: Token, text: &str, out: &mut String) -> Result<(), AllocError>
-    ensures { OnOk result (string_bytes out.new ≡ string_bytes out.old
-        ++ print (token (token_of tag) plain text.now)) }
-{
-    match tag {
-        Token::Mi => write_short(b'i', text, out),
-        Token::Mn => write_short(b'n', text, out),
-        Token::Mo => write_short(b'o', text, out),
-        Token::Mtext => write_mtext(text, out),
+    match width {
+        3 => out.push_str("<mspace width=\"0.167em\"/>"),
+        4 => out.push_str("<mspace width=\"0.222em\"/>"),
+        5 => out.push_str("<mspace width=\"0.278em\"/>"),
+        18 => out.push_str("<mspace width=\"1em\"/>"),
+        36 => out.push_str("<mspace width=\"2em\"/>"),
+        _ => append_space(width, out),
     }
-}
-
-/// Appends an `mtext` element without attributes.
-#[inline(never)]
-fn write_mtext(text: &str, out: &mut String) -> Result<(), AllocError>
-    ensures { OnOk result (string_bytes out.new ≡ string_bytes out.old
-        ++ (codes "<mtext>" ++ (content text.now ++ codes "</mtext>"))) }
-{
-    out.push_str("<mtext>")?;
-    append_content(text, out)?;
-    out.push_str("</mtext>")
-}
-
-/// Appends an element without attributes that holds this text. Its name is `m` and this letter. Most texts are one character,
-/// of which no byte is escaped. One push of all takes less time than one for each of its three pieces.
-#[inline(always)]
-fn write_short(letter: u8, text: &str, out: &mut String) -> Result<(), AllocError>
-    requires { IsAscii (letter ∷ []) }
-    ensures { OnOk result (string_bytes out.new ≡ string_bytes out.old
-        ++ (short_start letter ++ (content text.now ++ short_end letter))) }
-{
-    match text.as_bytes() {
-        [a] if is_kept(*a) => push_bytes(
-            &[b'<', b'm', letter, b'>', *a, b'<', b'/', b'm', letter, b'>'],
-            out,
-        ),
-        [a, b] if is_kept(*a) && is_kept(*b) => push_bytes(
-            &[
-                b'<', b'm', letter, b'>', *a, *b, b'<', b'/', b'm', letter, b'>',
-            ],
-            out,
-        ),
-        [a, b, c] if is_kept(*a) && is_kept(*b) && is_kept(*c) => push_bytes(
-            &[
-                b'<', b'm', letter, b'>', *a, *b, *c, b'<', b'/', b'm', letter, b'>',
-            ],
-            out,
-        ),
-        _ => write_long(letter, text, out),
-    }
-}
-
-/// The same for any text.
-#[inline(never)]
-fn write_long(letter: u8, text: &str, out: &mut String) -> Result<(), AllocError>
-    requires { IsAscii (letter ∷ []) }
-    ensures { OnOk result (string_bytes out.new ≡ string_bytes out.old
-        ++ (short_start letter ++ (content text.now ++ short_end letter))) }
-{
-    push_bytes(&[b'<', b'm', letter, b'>'], out)?;
-    append_content(text, out)?;
-    push_bytes(&[b'<', b'/', b'm', letter, b'>'], out)
-}
-
-/// Appends bytes that are a text.
-#[inline(always)]
-fn push_bytes(bytes: &[u8], out: &mut String) -> Result<(), AllocError>
-    requires { IsUtf8 bytes.now }
-    ensures { OnOk result (string_bytes out.new ≡ string_bytes out.old ++ bytes.now) }
-{
-    out.push_str(unsafe { str::from_utf8_unchecked(bytes) })
-}
-
-/// Appends a text as contents. Most texts are one character.
-#[inline(always)]
-fn write_content(text: &str, out: &mut String) -> Result<(), AllocError>
-    ensures { OnOk result (string_bytes out.new ≡ string_bytes out.old ++ content text.now) }
-{
-    match text.as_bytes() {
-        [byte] if byte.is_ascii() && is_kept(*byte) => out.push(char::from(*byte)),
-        _ => append_content(text, out),
-    }
-}
-
-/// Whether contents keep the byte as it is.
-#[inline(always)]
-fn is_kept(byte: u8) -> bool
-    ensures { IsTrue result → content (byte ∷ []) ≡ byte ∷ [] }
-{
-    !matches!(byte, b'&' | b'<' | b'>' | b'$')
 }
 
 /// Appends the start tag of an element that holds any number of elements.
@@ -443,25 +317,10 @@ fn start_triple(
     }
 }
 
-/// Appends the start tag of an element that holds a text.
-#[inline(always)]
-#[tactic(auto, using(std::proofs::lemmas::Grind::common_steps))]
-fn start_token(tag: Token, attributes: &Attributes, out: &mut String) -> Result<(), AllocError>
-    ensures { OnOk result (string_bytes out.new ≡ string_bytes out.old
-        ++ start_tag (token_name (token_of tag)) (attributes_of attributes.now)) }
-{
-    if let Token::Mo = tag {
-        if let Some(whole) = attributes.usual_operator() {
-            return out.push_str(whole);
-        }
-    }
-    start_with_attributes(tag.start(), attributes, out)
-}
-
 /// Appends a start tag: `beginning` and the attributes.
 #[inline(never)]
 #[tactic(auto, using(std::proofs::lemmas::Grind::common_steps))]
-fn start_with_attributes(
+pub(crate) fn start_with_attributes(
     beginning: &'static str,
     attributes: &Attributes,
     out: &mut String,
