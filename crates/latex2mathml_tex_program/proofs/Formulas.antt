@@ -1,51 +1,59 @@
 -- The formulas of an input, and the replies to them.
-use Rattle.std.proofs.Common.{◌≡◌, ◌≢◌, ◌∙◌, ◌==◌, ℕ, ◌<◌, false, true, true-eqb, List, [], ◌∷◌, ◌++◌, None, Some, drop, length, refl, sym, ap, subst, take, arith, append-nil, append_assoc, slice_index_or}
-use Rattle.std.proofs.lemmas.Bool.{eq-eqb, eqb-true}
+use Rattle.std.proofs.Common.{◌≡◌, ◌≢◌, ◌∙◌, ◌==◌, ℕ, ◌<◌, ◌≤◌, Bool, false, true, true-eqb, List, [], ◌∷◌, ◌++◌, None, Some, drop, length, refl, sym, ap, subst, take, arith, append-nil, append_assoc}
+use Rattle.std.proofs.lemmas.Bool.{eqb-true}
 use Rattle.std.proofs.lemmas.Grind.{common_steps}
+use Rattle.std.proofs.lemmas.List.Quantifiers.{position-Some}
+use Rattle.std.proofs.lemmas.List.Sums.{fails_before_first}
 use Rattle.std.proofs.lemmas.Str.{IsCharBoundary-after_ascii, IsUtf8-drop}
+use Rattle.std.specs.List.{get_or, position, position_or_len}
 use Rattle.std.specs.Str.{IsCharBoundary, IsUtf8}
-use Rattle.memchr.specs.Find.{IsFirstByte, is_byte}
 use Rattle.latex2mathml_tex_grammar.specs.Macros.{Table}
 use Rattle.latex2mathml_tex_program.specs.Replies.{AreFormulas, AreReplies, IsReply, IsWithoutNul, no_formula, unended, ended, no_reply, one_more}
 use Rattle.latex2mathml_tex_program.specs.Texts.{IsFirstText, before_nul, last}
 use Rattle.latex2mathml_tex_program.specs.declared.request.Format.{Format}
 
+abbrev is_nul : ℕ → Bool
+is_nul byte = byte == 0
+
 -- a text of which no byte is a NUL
-nul_free : (text : List ℕ) → ((i : ℕ) → i < length text → slice_index_or text i 0 ≢ 0) → IsWithoutNul text
+nul_free : (text : List ℕ) → ((i : ℕ) → i < length text → is_nul (get_or text i 0) ≡ false) → IsWithoutNul text
 nul_free text other = record { none = λ before after is. holds before after is }
   where
     holds : (before after : List ℕ) → text ≢ before ++ 0 ∷ after
     holds before after is =
-        let there : slice_index_or (before ++ 0 ∷ after) (length before) 0 ≡ 0 = grind (arith, common_steps) in
+        let there : get_or (before ++ 0 ∷ after) (length before) 0 ≡ 0 = grind (arith, common_steps) in
         let inside : length before < length (before ++ 0 ∷ after) = grind (arith, common_steps) in
-        other (length before) (rw is inside) (rw is there)
+        let no : is_nul (get_or (before ++ 0 ∷ after) (length before) 0) ≡ false = rw is at other (length before) (rw is inside) in
+        absurd (rw there at no)
 
 -- the text before the first NUL, and what follows the NUL
-pub split_at_nul : (texts text behind rest : List ℕ) (place : ℕ) → IsFirstByte (is_byte 0) texts (Some place)
+pub split_at_nul : (texts text behind rest : List ℕ) (place : ℕ) → position is_nul texts ≡ Some place
     → text ≡ take place texts → behind ≡ drop place texts → rest ≡ drop 1 behind → IsFirstText texts text rest
-split_at_nul texts text behind rest place (none, here) front back after =
-    let inside = none.high in
-    let nul : slice_index_or texts place 0 ≡ 0 = eqb-true _ 0 here in
+split_at_nul texts text behind rest place found front back after =
+    let (inside, here, before) = position-Some is_nul texts place 0 found in
+    let nul : get_or texts place 0 ≡ 0 = eqb-true _ 0 here in
     let parts : texts ≡ text ++ 0 ∷ rest = rw (after, back, front) (grind (arith, common_steps)) in
-    before_nul parts (nul_free text (λ i within is.
-    let before : i < place = grind (arith, common_steps) in
-    let same : slice_index_or text i 0 ≡ slice_index_or texts i 0 = grind (arith, common_steps) in
-    none.before i (omega arith) before (eq-eqb _ 0 (sym same ∙ is))))
+    before_nul parts (nul_free text (λ i within.
+    let early : i < place = grind (arith, common_steps) in
+    let same : get_or text i 0 ≡ get_or texts i 0 = grind (arith, common_steps) in
+    rw same (before i early)))
 
 -- a character begins behind the NUL
-pub begins_after_nul : (texts behind : List ℕ) (place : ℕ) → IsUtf8 texts → IsFirstByte (is_byte 0) texts (Some place)
+pub begins_after_nul : (texts behind : List ℕ) (place : ℕ) → IsUtf8 texts → position is_nul texts ≡ Some place
     → behind ≡ drop place texts → IsCharBoundary behind 1
-begins_after_nul texts behind place utf8 (none, here) back =
-    let inside = none.high in
-    let nul : slice_index_or texts place 0 ≡ 0 = eqb-true _ 0 here in
-    let first : slice_index_or (drop place texts) 0 0 ≡ 0 = grind (arith, common_steps) in
+begins_after_nul texts behind place utf8 found back =
+    let (inside, here, before) = position-Some is_nul texts place 0 found in
+    let nul : get_or texts place 0 ≡ 0 = eqb-true _ 0 here in
+    let first : get_or (drop place texts) 0 0 ≡ 0 = grind (arith, common_steps) in
     let some : 0 < length (drop place texts) = grind (arith, common_steps) in
     let text : IsUtf8 (drop place texts) = IsUtf8-drop texts place utf8 (omega arith, λ l high. omega arith) in
     subst (λ l. IsCharBoundary l 1) (sym back) (IsCharBoundary-after_ascii (drop place texts) 0 text some (omega arith))
 
 -- no byte is a NUL
-pub all_without_nul : (texts : List ℕ) → IsFirstByte (is_byte 0) texts None → IsFirstText texts texts []
-all_without_nul texts none = last (nul_free texts (λ i inside is. none i (omega arith) inside (eq-eqb _ 0 is)))
+pub all_without_nul : (texts : List ℕ) → position is_nul texts ≡ None → IsFirstText texts texts []
+all_without_nul texts none =
+    let all : length texts ≤ position_or_len is_nul texts = grind (arith, common_steps) in
+    last (nul_free texts (λ i inside. fails_before_first is_nul texts i 0 (omega arith)))
 
 -- a text that is not at its end, and one that is
 pub some_left : (rest : List ℕ) → false ≡ (length rest == 0) → rest ≢ []
