@@ -403,16 +403,25 @@ impl Builder {
 }
 
 /// Appends parts, with the first two of them exchanged if the flag says so.
-#[inline(never)]
+#[inline(always)]
 fn settle(settled: &mut Vec<Part>, parts: &[Part], is_exchanged: bool) -> Result<(), AllocError>
     ensures items { OnOk result (settled.new.items
         ≡ settled.old.items ++ ordered is_exchanged parts.now) }
     ensures err { OnErr result (settled.new.items ≡ settled.old.items) }
 {
     let first = settled.as_slice().len();
-    settled.extend_from_slice(parts)?;
+    append_parts(settled, parts)?;
     if is_exchanged && parts.len() >= 2 {
         settled.swap(first, first + 1);
     }
     Ok(())
+}
+
+/// Appends parts. All that settle parts call this one, and have the rest inlined: most of it is known there.
+#[inline(never)]
+fn append_parts(settled: &mut Vec<Part>, parts: &[Part]) -> Result<(), AllocError>
+    ensures items { OnOk result (settled.new.items ≡ settled.old.items ++ parts.now) }
+    ensures err { OnErr result (settled.new.items ≡ settled.old.items) }
+{
+    settled.extend_from_slice(parts)
 }

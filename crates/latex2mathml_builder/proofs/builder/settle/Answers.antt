@@ -10,7 +10,7 @@ returns-then-parts-ge2-clause-items c =
     let parts = c.args.parts.now in
     let first = length c.as_slice-first.result.now in
     c.swap.ensures.items
-    ∙ ap (λ l. swap l first (first + 1)) c.in_ok-extend_from_slice.ensures.items
+    ∙ ap (λ l. swap l first (first + 1)) c.in_ok-append_parts.ensures.items
     ∙ ap (λ n. swap (old ++ parts) n (n + 1)) (ap length c.as_slice-first.ensures.value)
     ∙ exchanged_behind old parts c.if-parts-ge2.true
     ∙ ap (λ b. old ++ ordered b parts) (sym c.if-is_exchanged.true)
