@@ -32,7 +32,7 @@ pub(crate) fn list_units<'a>(
 {
     units.clear();
     let mut lexer = Lexer::new(text);
-    lexer.take_standing(macros.is_empty(), units)?;
+    lexer.take_common(macros.is_empty(), units)?;
     match lexer.end() {
         Some(place) => Ok(End::Text(place)),
         None => expand(alloc, macros, lexer, units),
