@@ -16,7 +16,9 @@ pub mod PuttingBodies
 pub mod Runs
 pub mod Scanned
 pub mod Standing
+pub mod Spaces
 pub mod Starts
+pub mod Steps
 pub mod Tables
 pub mod Taken
 pub mod Texts

@@ -11,7 +11,7 @@ use Rattle.latex2mathml_tex_grammar.specs.Units.{Units}
 use Rattle.latex2mathml_tex_grammar.proofs.Expanding.{expansion_end, expansion_stays}
 use Rattle.latex2mathml_tex_units.specs.{MacroTables.defined_in, MacroTables.or_usual, MacroTables.table_of, Taking.piece_of, Taking.unit_of, declared.macros.scope.Scope.Scope, declared.unit.Unit.Unit}
 use Rattle.latex2mathml_tex_units.specs.Standing.{AreStanding, IsUsual, Moves}
-use Rattle.latex2mathml_tex_units.proofs.Whole.{before-last}
+use Rattle.latex2mathml_tex_units.proofs.Whole.{before-last, moved_all}
 
 pub name_stands : (table : Table) (name : List ℕ) → SameMacros table usual_macros → usual_macros name ≡ None → word_named name ≡ None → role_of table (units.Command name) ≡ Stands
 name_stands table name same usual word = ap (λ x. name_role x name) (same name ∙ usual) ∙ ap word_role word
@@ -45,3 +45,15 @@ listed_end usual old us l m place table uses room none (taken, e, standing) hold
     ap (λ xs. before (map unit_of xs) (units.End place)) (e ∙ ap (λ o. o ++ taken) none)
     ∙ ap (before (map unit_of taken)) (sym (expansion_end table uses room place) ∙ ap (expansion table uses room) (sym is))
     ∙ sym (standing table uses room holds)
+
+-- the units so far and the expansion of what is left are those before more of them were taken
+pub standing_all : (usual : Bool) (old us : List Unit) (l m : Units) (table : Table) (uses room : ℕ) → Moves old us (λ taken. AreStanding usual taken l m) → IsUsual usual table
+    → before (map unit_of us) (expansion table uses room m) ≡ before (map unit_of old) (expansion table uses room l)
+standing_all usual old us l m table uses room (taken, e, standing) holds = moved_all old us (expansion table uses room l) (expansion table uses room m) _ refl (taken, e, standing table uses room holds)
+
+-- the same, where nothing is left
+pub standing_end : (usual : Bool) (old us : List Unit) (l m : Units) (place : ℕ) (table : Table) (uses room : ℕ) → Moves old us (λ taken. AreStanding usual taken l m) → IsUsual usual table → m ≡ units.End place
+    → before (map unit_of us) (units.End place) ≡ before (map unit_of old) (expansion table uses room l)
+standing_end usual old us l m place table uses room moved holds is =
+    ap (before (map unit_of us)) (sym (expansion_end table uses room place) ∙ ap (expansion table uses room) (sym is))
+    ∙ standing_all usual old us l m table uses room moved holds

@@ -5,7 +5,7 @@ use Rattle.std.proofs.lemmas.Str.{encodes-append, encodes-chars, IsCharBoundary-
 use Rattle.std.specs.Str.{chars, encode_utf8_all, IsUtf8, IsCharBoundary}
 
 -- the bytes of a text are those of the characters before its end, followed by its end
-text_bytes : (text rest w : List ℕ) → IsUtf8 text → IsUtf8 rest → chars text ≡ w ++ chars rest → text ≡ encode_utf8_all w ++ rest
+pub text_bytes : (text rest w : List ℕ) → IsUtf8 text → IsUtf8 rest → chars text ≡ w ++ chars rest → text ≡ encode_utf8_all w ++ rest
 text_bytes text rest w u v e =
     sym (encodes-chars text u) ∙ ap encode_utf8_all e ∙ encodes-append w (chars rest) ∙ ap (λ b. encode_utf8_all w ++ b) (encodes-chars rest v)
 

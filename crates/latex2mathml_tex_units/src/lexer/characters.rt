@@ -41,7 +41,7 @@ pub fn is_forbidden(c: char) -> bool
 
 /// Returns whether each byte is a printable character of ASCII that is a unit by itself.
 #[inline(always)]
-fn plain_bytes() -> &'static [bool]
+pub(crate) fn plain_bytes() -> &'static [bool]
     ensures { result.now ≡ plain_bytes }
 {
     &PLAIN_BYTES
@@ -80,6 +80,18 @@ pub(crate) fn first_plain(text: &str) -> Option<(char, &str)>
     Some((char::from(first), text.split_at(1).1))
 }
 
+/// Returns the first character and the text after it, if the character is one of ASCII, which is one byte.
+#[inline(always)]
+pub(crate) fn first_ascii(text: &str) -> Option<(char, &str)>
+    ensures { IfSome result (λ found. chars text.now ≡ found.0 ∷ chars found.1.now) }
+{
+    let first = *text.as_bytes().first()?;
+    if !first.is_ascii() {
+        return None;
+    }
+    Some((char::from(first), text.split_at(1).1))
+}
+
 /// Returns the first character and the text after it.
 #[inline(always)]
 #[tactic(auto, using(std::proofs::lemmas::Str::chars_past_char))]
@@ -105,6 +117,18 @@ pub fn skip_run(class: Class, text: &str) -> &str
         rest = after;
     }
     rest
+}
+
+/// Returns what follows the white space at the start of the text. Mostly there is none, as the first byte says.
+#[inline(always)]
+pub(crate) fn skip_space(text: &str) -> &str
+    ensures { (w : List ℕ) × ((chars text.now ≡ w ++ chars result.now)
+        × Units.IsRun Units.is_space w (chars result.now)) }
+{
+    match text.as_bytes().first() {
+        Some(first) if *first > b' ' => text,
+        _ => skip_run(Class::Space, text),
+    }
 }
 
 /// Returns the letters at the start of the text, and what follows them. Each letter is one byte, so no character is decoded.

@@ -6,7 +6,7 @@ ghost use Rattle.latex2mathml_tex_grammar.specs.Units.{is_special};
 ghost use Rattle.latex2mathml_tex_units.specs.Taking.{IsCommentEnd, IsNear, IsStart};
 
 use crate::lexer::characters::{
-    Class, before, first_char, is_forbidden, is_space, skip_run, split_letters,
+    Class, before, first_char, is_forbidden, is_space, skip_run, skip_space, split_letters,
 };
 use crate::unit::{Fault, Piece};
 
@@ -39,7 +39,7 @@ pub(crate) fn front(text: &str) -> Start<'_>
         '\\' => command(after),
         c => {
             if is_space(c) {
-                Start::Piece(Piece::Space, skip_run(Class::Space, after))
+                Start::Piece(Piece::Space, skip_space(after))
             } else {
                 character(c, after)
             }
@@ -73,13 +73,13 @@ fn skip_comment(text: &str) -> &str
 
 /// Finds what is at the start of a text that consists of a backslash and this text.
 #[inline(always)]
-fn command(text: &str) -> Start<'_>
+pub(crate) fn command(text: &str) -> Start<'_>
     ensures start { IsStart (byte "\\" ∷ chars text.now) result }
     ensures near { IsNear result }
 {
     let (name, behind) = split_letters(text);
     if !name.is_empty() {
-        return Start::Piece(Piece::Command(name), skip_run(Class::Space, behind));
+        return Start::Piece(Piece::Command(name), skip_space(behind));
     }
     let Some((c, after)) = first_char(text) else {
         return Start::Fault(Fault::LoneBackslash, 0);

@@ -1,12 +1,14 @@
 //! Units that surely stay as they are when a text is expanded. Most units do, and few instructions tell those apart.
-ghost use Rattle.std.specs.Prelude.{◌≡◌, IsFalse, IsTrue, None, OnOk};
+ghost use Rattle.std.specs.Prelude.{◌≡◌, ◌∷◌, ◌++◌, ℕ, IfSome, IsFalse, IsTrue, List, None, OnOk, Some};
+ghost use Rattle.std.specs.Str.{byte, chars};
+ghost use Rattle.latex2mathml_tex_grammar.specs.Units.{Spells};
 ghost use Rattle.latex2mathml_tex_grammar.specs.{Definitions.word_named, Expansion.Stands, Expansion.role_of, Macros.Table, UsualMacros.usual_macros};
 ghost use Rattle.latex2mathml_tex_units.specs.{Left.units_left, Taking.piece_of, TurningForms.is_turning_form};
 ghost use Rattle.latex2mathml_tex_units.specs.Standing.{AreStanding, IsUsual, Moves};
 
 use crate::lexer::Lexer;
-use crate::lexer::characters::first_plain;
-use crate::lexer::slices::{Start, front};
+use crate::lexer::characters::{first_ascii, first_plain, plain_bytes, skip_space};
+use crate::lexer::slices::{Start, command, front};
 use crate::unit::{Piece, Unit};
 use std::alloc::AllocError;
 
@@ -45,6 +47,77 @@ impl<'a> Lexer<'a> {
         self.rest = rest;
         Ok(())
     }
+
+    /// Does the same with the units before the first one that is not common. Few formulas have another.
+    #[inline(always)]
+    pub(crate) fn take_common(
+        &mut self,
+        usual: bool,
+        units: &mut Vec<Unit<'a>>,
+    ) -> Result<(), AllocError>
+        ensures { OnOk result (Moves units.old.items units.new.items (λ taken.
+            AreStanding usual taken (units_left self.old) (units_left self.new))) }
+    {
+        let text = self.rest;
+        let bytes = text.as_bytes();
+        let start = self.place;
+        let mut at = 0;
+        'units: while at < bytes.len() {
+            let byte = bytes[at];
+            let place = start + at;
+            if plain_bytes()[usize::from(byte)] {
+                let piece = Piece::Character(char::from(byte));
+                units.push(Unit { piece, place })?;
+                at += 1;
+                continue;
+            }
+            let Some((piece, behind)) = common_piece(usual, text.split_at(at).1) else {
+                break;
+            };
+            units.push(Unit { piece, place })?;
+            at = text.len() - behind.len();
+        }
+        self.place = start + at;
+        self.rest = text.split_at(at).1;
+        Ok(())
+    }
+}
+
+/// Returns the piece at the start of the text and what follows it, if the piece is a common one that surely stays.
+#[inline(always)]
+fn common_piece(usual: bool, text: &str) -> Option<(Piece<'_>, &str)>
+    ensures begins { IfSome result (λ found. (w : List ℕ)
+        × (chars text.now ≡ w ++ chars found.1.now)
+        × Spells w (chars found.1.now) (Some (piece_of found.0))) }
+    ensures stays { IfSome result (λ found. (table : Table) → IsUsual usual table
+        → role_of table (piece_of found.0) ≡ Stands) }
+{
+    let (c, after) = first_ascii(text)?;
+    match c {
+        ' ' => Some((Piece::Space, skip_space(after))),
+        '{' => Some((Piece::Open, after)),
+        '}' => Some((Piece::Close, after)),
+        '\\' => common_command(usual, after),
+        _ => None,
+    }
+}
+
+/// Returns the command and what follows it, if it surely stays. The text is what follows its backslash.
+#[inline(always)]
+fn common_command(usual: bool, text: &str) -> Option<(Piece<'_>, &str)>
+    ensures begins { IfSome result (λ found. (w : List ℕ)
+        × (byte "\\" ∷ chars text.now ≡ w ++ chars found.1.now)
+        × Spells w (chars found.1.now) (Some (piece_of found.0))) }
+    ensures stays { IfSome result (λ found. (table : Table) → IsUsual usual table
+        → role_of table (piece_of found.0) ≡ Stands) }
+{
+    let Start::Piece(piece, behind) = command(text) else {
+        return None;
+    };
+    if !stands(usual, piece) {
+        return None;
+    }
+    Some((piece, behind))
 }
 
 /// Whether the piece surely stays, in a text where only the usual macros hold, if `usual` says so.

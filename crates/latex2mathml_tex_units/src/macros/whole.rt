@@ -32,6 +32,26 @@ pub(crate) fn list_units<'a>(
 {
     units.clear();
     let mut lexer = Lexer::new(text);
+    lexer.take_common(macros.is_empty(), units)?;
+    match lexer.end() {
+        Some(place) => Ok(End::Text(place)),
+        None => list_rest(alloc, macros, lexer, units),
+    }
+}
+
+/// Appends the units that the rest of a text expands to, which begins with one that is not common, and returns how they end.
+#[inline(never)]
+fn list_rest<'a>(
+    alloc: Global,
+    macros: &Macros<'a>,
+    rest: Lexer<'a>,
+    units: &mut Vec<Unit<'a>>,
+) -> Result<End, AllocError>
+    ensures { IfOk result (λ end. before (map unit_of units.new.items) (units_end end)
+        ≡ before (map unit_of units.old.items)
+        (expansion (macros_in macros.now) most_uses most_units (units_left rest.entry))) }
+{
+    let mut lexer = rest;
     lexer.take_standing(macros.is_empty(), units)?;
     match lexer.end() {
         Some(place) => Ok(End::Text(place)),

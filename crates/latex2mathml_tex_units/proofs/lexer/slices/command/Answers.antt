@@ -2,7 +2,7 @@ use Rattle.latex2mathml_tex_units.proofs.Starts.{forbidden_named, letters_named,
 use Rattle.latex2mathml_tex_units.proofs.lexer.slices.command.Goals as goal
 
 pub returns-then-not-is_empty-clause-start : goal.returns-then-not-is_empty-clause-start
-returns-then-not-is_empty-clause-start c = letters_named _ _ _ _ c.split_letters.ensures (cc) c.skip_run.ensures
+returns-then-not-is_empty-clause-start c = letters_named _ _ _ _ c.split_letters.ensures (cc) c.skip_space.ensures
 
 pub returns-then-is_forbidden-clause-start : goal.returns-then-is_forbidden-clause-start
 returns-then-is_forbidden-clause-start c = forbidden_named c.in-Some.c _ _ c.in-Some.ensures (cc)

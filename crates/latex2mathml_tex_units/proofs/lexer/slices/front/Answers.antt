@@ -13,4 +13,4 @@ pub returns-in-37-clause-start : goal.returns-in-37-clause-start
 returns-in-37-clause-start c = comment_begins _ _ _ (byte_begins c.in-Some.c _ _ _ c.in-Some.ensures c.in-37.is) c.skip_comment.ensures
 
 pub returns-then-is_space-clause-start : goal.returns-then-is_space-clause-start
-returns-then-is_space-clause-start c = space_begins c.in-Some.c _ _ _ c.in-Some.ensures (cc) c.skip_run.ensures
+returns-then-is_space-clause-start c = space_begins c.in-Some.c _ _ _ c.in-Some.ensures (cc) c.skip_space.ensures

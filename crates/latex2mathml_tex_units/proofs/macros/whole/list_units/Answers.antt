@@ -6,5 +6,5 @@ use Rattle.latex2mathml_tex_units.proofs.macros.whole.list_units.Goals as goal
 
 pub returns-in-Some : goal.returns-in-Some
 returns-in-Some c =
-    listed_end c.is_empty.result c.clear.new.self.items c.take_standing.new.units.items (units_left c.new-lexer.result) (units_left c.take_standing.new.self) c.in-Some.place (macros_in c.args.macros.now) most_uses most_units c.clear.ensures.items c.in_ok-take_standing.ensures (λ h name. ap (λ x. or_usual x name) (c.is_empty.ensures h name)) c.in-Some.ensures
+    listed_end c.is_empty.result c.clear.new.self.items c.take_common.new.units.items (units_left c.new-lexer.result) (units_left c.take_common.new.self) c.in-Some.place (macros_in c.args.macros.now) most_uses most_units c.clear.ensures.items c.in_ok-take_common.ensures (λ h name. ap (λ x. or_usual x name) (c.is_empty.ensures h name)) c.in-Some.ensures
     ∙ ap (expansion (macros_in c.args.macros.now) most_uses most_units) c.new-lexer.ensures
