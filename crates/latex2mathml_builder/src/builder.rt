@@ -22,7 +22,7 @@ use std::marker::Model;
 /// The stack of open elements. An element is open until another element is made of it. The last one is uppermost.
 /// Contracts refer to the list of open elements as `elements_in`, the uppermost first.
 ///
-/// An `Err` means out of memory, and changes nothing. Only `text` and `character` may leave their element without its text.
+/// An `Err` means out of memory, and changes nothing. Only `text` may leave its element without its text.
 #[derive(Drop)]
 pub struct Builder {
     /// The texts of the tokens, one after the other.
@@ -111,8 +111,7 @@ impl Builder {
     ) -> Result<(), AllocError>
         ensures elements { OnOk result
             (Puts (element_with_text tag attributes (encode_utf8 c)) self.old self.new) }
-        ensures err { OnErr result ((self.new ≡ self.old)
-            ⊎ Puts (element_with_text tag attributes []) self.old self.new) }
+        ensures err { OnErr result (self.new ≡ self.old) }
     {
         let start = self.texts.len();
         // Room for the element comes first, so that no character stays without its element.
