@@ -1,11 +1,11 @@
 -- The formulas of an input, and the replies to them.
-use Rattle.std.proofs.Common.{◌≡◌, ◌≢◌, ◌∙◌, ◌==◌, ℕ, ◌<◌, ◌≤◌, Bool, false, true, true-eqb, List, [], ◌∷◌, ◌++◌, None, Some, drop, length, refl, sym, ap, subst, take, arith, append-nil, append_assoc}
+use Rattle.std.proofs.Common.{◌≡◌, ◌≢◌, ◌∙◌, ◌==◌, ℕ, ◌<◌, ◌≤◌, Bool, false, true, true-eqb, List, [], ◌∷◌, ◌++◌, None, Some, drop, get_or, length, refl, sym, ap, subst, take, arith, append-nil, append_assoc}
 use Rattle.std.proofs.lemmas.Bool.{eqb-true}
 use Rattle.std.proofs.lemmas.Grind.{common_steps}
 use Rattle.std.proofs.lemmas.List.Quantifiers.{position-Some}
 use Rattle.std.proofs.lemmas.List.Sums.{fails_before_first}
-use Rattle.std.proofs.lemmas.Str.{IsCharBoundary-after_ascii, IsUtf8-drop}
-use Rattle.std.specs.List.{get_or, position, position_or_len}
+use Rattle.std.proofs.lemmas.Str.{IsCharBoundary-after_ascii, IsCharBoundary-before_ascii, IsUtf8-drop}
+use Rattle.std.specs.List.{position, position_or_len}
 use Rattle.std.specs.Str.{IsCharBoundary, IsUtf8}
 use Rattle.latex2mathml_tex_grammar.specs.Macros.{Table}
 use Rattle.latex2mathml_tex_program.specs.Replies.{AreFormulas, AreReplies, IsReply, IsWithoutNul, no_formula, unended, ended, no_reply, one_more}
@@ -21,10 +21,12 @@ nul_free text other = record { none = λ before after is. holds before after is 
   where
     holds : (before after : List ℕ) → text ≢ before ++ 0 ∷ after
     holds before after is =
-        let there : get_or (before ++ 0 ∷ after) (length before) 0 ≡ 0 = grind (arith, common_steps) in
-        let inside : length before < length (before ++ 0 ∷ after) = grind (arith, common_steps) in
-        let no : is_nul (get_or (before ++ 0 ∷ after) (length before) 0) ≡ false = rw is at other (length before) (rw is inside) in
-        absurd (rw there at no)
+        let i = length before in
+        let there : get_or (before ++ 0 ∷ after) i 0 ≡ 0 = grind (arith, common_steps) in
+        let inside : i < length (before ++ 0 ∷ after) = grind (arith, common_steps) in
+        let nul : get_or text i 0 ≡ 0 = rw is there in
+        let both : true ≡ false = ap is_nul (sym nul) ∙ other i (rw is inside) in
+        absurd (cc)
 
 -- the text before the first NUL, and what follows the NUL
 pub split_at_nul : (texts text behind rest : List ℕ) (place : ℕ) → position is_nul texts ≡ Some place
@@ -37,6 +39,13 @@ split_at_nul texts text behind rest place found front back after =
     let early : i < place = grind (arith, common_steps) in
     let same : get_or text i 0 ≡ get_or texts i 0 = grind (arith, common_steps) in
     rw same (before i early)))
+
+-- a character begins at the NUL
+pub begins_at_nul : (texts : List ℕ) (place : ℕ) → position is_nul texts ≡ Some place → IsCharBoundary texts place
+begins_at_nul texts place found =
+    let (inside, here, before) = position-Some is_nul texts place 0 found in
+    let nul : get_or texts place 0 ≡ 0 = eqb-true _ 0 here in
+    IsCharBoundary-before_ascii texts place inside (omega arith)
 
 -- a character begins behind the NUL
 pub begins_after_nul : (texts behind : List ℕ) (place : ℕ) → IsUtf8 texts → position is_nul texts ≡ Some place

@@ -1,6 +1,9 @@
 use Rattle.std.proofs.Common.{◌∙◌, sym}
-use Rattle.latex2mathml_tex_program.proofs.Formulas.{all_without_nul, begins_after_nul, split_at_nul}
+use Rattle.latex2mathml_tex_program.proofs.Formulas.{all_without_nul, begins_after_nul, begins_at_nul, split_at_nul}
 use Rattle.latex2mathml_tex_program.proofs.texts.first_text.Goals as goal
+
+pub split_at-requires : goal.split_at-requires
+split_at-requires c = begins_at_nul c.args.texts.now c.in-Some.place (sym c.first_nul.ensures ∙ c.in-Some.is)
 
 pub split_at-requires-in-Some : goal.split_at-requires-in-Some
 split_at-requires-in-Some c =
