@@ -1,19 +1,18 @@
 //! Delimiters, and the relations that have a sign of their own when negated.
 ghost use Rattle.std.specs.Prelude.{◌≡◌, map, option_map};
-ghost use Rattle.latex2mathml_tex_grammar.specs.Delimiters.{delimiter_characters, delimiter_commands, delimiter_of, entry_of_character, entry_of_name, negated_characters, negated_commands, negated_of, text_of};
+ghost use Rattle.latex2mathml_tex_grammar.specs.Delimiters.{delimiter_characters, delimiter_commands, delimiter_of, entry_of_character, negated_characters, negated_commands, negated_of, text_of};
 ghost use Rattle.latex2mathml_tex_commands.specs.{Delimiters.delimiter_text, Named.named_entry};
 ghost use Rattle.latex2mathml_tex_units.specs.Taking.{piece_of};
 
-use crate::comparing::are_same;
 use crate::unit::Piece;
-use latex2mathml_tex_commands::named::Named;
+use latex2mathml_tex_commands::named::{Named, find};
 
 /// Returns the delimiter that this piece is, if it is one. A point is the empty delimiter, which has no character.
 pub fn delimiter_of(piece: Piece) -> Option<Option<char>>
     ensures { delimiter_of (piece_of piece.entry) ≡ option_map delimiter_text result }
 {
     match piece {
-        Piece::Command(name) => find_name(delimiter_commands(), name).map(Some),
+        Piece::Command(name) => find(delimiter_commands(), name).map(Some),
         Piece::Character('.') => Some(None),
         Piece::Character(c) => delimiter_character(c).map(Some),
         Piece::Space | Piece::Open | Piece::Close => None,
@@ -25,22 +24,10 @@ pub fn negated_of(piece: Piece) -> Option<char>
     ensures { negated_of (piece_of piece.entry) ≡ text_of result }
 {
     match piece {
-        Piece::Command(name) => find_name(negated_commands(), name),
+        Piece::Command(name) => find(negated_commands(), name),
         Piece::Character(c) => negated_character(c),
         Piece::Space | Piece::Open | Piece::Close => None,
     }
-}
-
-/// Returns the character with this name, if the entries have one.
-fn find_name(table: &[Named], name: &str) -> Option<char>
-    ensures { result ≡ entry_of_name (map named_entry table.now) name.now }
-{
-    for entry in table {
-        if are_same(entry.name, name) {
-            return Some(entry.character);
-        }
-    }
-    None
 }
 
 #[tactic(auto, unfolding(latex2mathml_tex_grammar::specs::Delimiters::delimiter_characters))]

@@ -4,10 +4,10 @@ ghost use Rattle.latex2mathml_tex_grammar.specs.Environments;
 ghost use Rattle.latex2mathml_tex_units.specs.Environments.{entry_of, environment_of, layout_of};
 ghost use Rattle.latex2mathml_attributes.specs.Columns.{columns_of};
 
-use crate::comparing::are_same;
 use crate::scanning::Argument;
 use latex2mathml_attributes::columns::{Column, Columns};
 use latex2mathml_tex_commands::meaning::Style;
+use latex2mathml_tex_commands::named::are_same;
 
 /// A kind of table that has a name.
 #[derive(Clone, Copy)]

@@ -5,7 +5,6 @@
 #![tactic(auto)]
 
 pub mod braces;
-pub(crate) mod comparing;
 pub mod delimiters;
 pub mod dots;
 pub mod environments;
