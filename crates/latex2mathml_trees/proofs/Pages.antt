@@ -3,8 +3,8 @@ use Rattle.std.proofs.Common.{◌≡◌, ℕ, Bool, true, false, not, ◌&&◌, 
 use Rattle.std.specs.{Str.bytes_eq, List.list_all}
 use Rattle.std.proofs.{lemmas.Grind.common_steps, lemmas.Option.option_and_then_some}
 use Rattle.latex2mathml_trees.specs.Markup.{Name, Attribute, Event, open_tag, close_tag, OpenElements, lowest, above, at_start, add, mark, name_of, Schema, any_element, step, run, Runs, IsBalanced, spell_event, is_attribute, is_name}
-use Rattle.latex2mathml_trees.specs.MathSchema.{IsMathElement, child_table, holding, holding_table, holds, is_parent}
-use Rattle.latex2mathml_trees.specs.Pages.{IsPage, JoinsBalanced, JoinsMarkup, JoinsPages, is_in_table, may_stand_in_page, page_schema, takes_math}
+use Rattle.latex2mathml_trees.specs.MathSchema.{IsMathElement, child_table, holding, holding_table, holds, is_parent, may_be_in}
+use Rattle.latex2mathml_trees.specs.Pages.{IsPage, JoinsBalanced, JoinsMarkup, JoinsPages, is_in_table, page_schema, takes_math}
 use Rattle.latex2mathml_trees.proofs.Runs.{ending_as, joined, more, more-above, more-lowest, obeying, single, staying}
 
 -- levels on top of others: the lowest level becomes part of the highest of the others
@@ -124,7 +124,7 @@ joins_pages : JoinsPages
 joins_pages = record {
   nothing = ([], (false, staying));
   joined = λ page other m n. one_after_other page_schema page other (record { outer = λ name children met h. h; inner = λ parent name children met h. h }) m n;
-  wrapped = λ name attributes page valid valids free m. within_element page_schema name attributes page (page_within name free) (λ children met. holds_any (is_in_table name) (may_stand_in_page None name && holds (holding holding_table name) children met) free) valid valids m;
+  wrapped = λ name attributes page valid valids free m. within_element page_schema name attributes page (page_within name free) (λ children met. holds_any (is_in_table name) (may_be_in takes_math None name && holds (holding holding_table name) children met) free) valid valids m;
   element = λ markup m. (codes "math" ∷ [], (false, math_onto page_schema at_start markup (table_fits None refl) m));
   inserted = λ markup levels takes m. math_onto page_schema levels markup (table_fits (name_of levels) takes) m;
 }

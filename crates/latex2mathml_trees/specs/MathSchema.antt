@@ -73,17 +73,18 @@ abbrev pub is_outermost : Option Name → Bool
 is_outermost None = true
 is_outermost (Some parent) = false
 
--- whether an element of this name may be in that parent: `mtr` only in `mtable`, `mtd` only in `mtr`, and `math` in no element
-abbrev pub may_stand_in : Option Name → Name → Bool
-may_stand_in parent name =
+-- whether an element of this name may be in that parent: `mtr` only in `mtable`, `mtd` only in `mtr`, and `math` only where
+-- `takes_math` says so
+abbrev pub may_be_in : (Option Name → Bool) → Option Name → Name → Bool
+may_be_in takes_math parent name =
     if bytes_eq (codes "mtr") name then is_parent (codes "mtable") parent
     else if bytes_eq (codes "mtd") name then is_parent (codes "mtr") parent
-    else if bytes_eq (codes "math") name then is_outermost parent
+    else if bytes_eq (codes "math") name then takes_math parent
     else true
 
--- the schema of the markup of formulas
+-- the schema of the markup of formulas, in which `math` is in no element
 abbrev pub child_table : Schema
-child_table parent name children has_text = may_stand_in parent name && holds (holding holding_table name) children has_text
+child_table parent name children has_text = may_be_in is_outermost parent name && holds (holding holding_table name) children has_text
 
 -- one element that obeys the child table
 abbrev pub IsOneElement : List ℕ → Type 0

@@ -2,7 +2,7 @@
 use Rattle.std.specs.Prelude.{ℕ, Bool, true, not, ◌&&◌, IsTrue, List, [], ◌++◌, Option, Some, None, is_some, if◌then◌else◌, codes}
 use Rattle.std.specs.{Str.bytes_eq, List.list_all}
 use Rattle.latex2mathml_trees.specs.Markup.{Name, Attribute, OpenElements, Schema, Runs, IsBalanced, add, any_element, at_start, lowest, name_of, open_tag, close_tag, spell_event, is_attribute, is_name}
-use Rattle.latex2mathml_trees.specs.MathSchema.{IsMathElement, holding, holding_table, holds, is_parent}
+use Rattle.latex2mathml_trees.specs.MathSchema.{IsMathElement, holding, holding_table, holds, may_be_in}
 
 -- the child table names the element
 abbrev pub is_in_table : Name → Bool
@@ -13,18 +13,11 @@ abbrev pub takes_math : Option Name → Bool
 takes_math None = true
 takes_math (Some parent) = not (is_in_table parent)
 
--- where an element of the table may be in a page: as the table says, except for `math`
-abbrev pub may_stand_in_page : Option Name → Name → Bool
-may_stand_in_page parent name =
-    if bytes_eq (codes "mtr") name then is_parent (codes "mtable") parent
-    else if bytes_eq (codes "mtd") name then is_parent (codes "mtr") parent
-    else if bytes_eq (codes "math") name then takes_math parent
-    else true
-
--- the schema of a page: each element that the table names holds what the table says, and any other may hold anything
+-- the schema of a page: each element that the table names holds what the table says, and is where the table says, except for
+-- `math`. Any other element may hold anything.
 abbrev pub page_schema : Schema
 page_schema parent name children has_text =
-    if is_in_table name then may_stand_in_page parent name && holds (holding holding_table name) children has_text else true
+    if is_in_table name then may_be_in takes_math parent name && holds (holding holding_table name) children has_text else true
 
 -- each element is closed, and those of the table obey it
 abbrev pub IsPage : List ℕ → Type 0
