@@ -1,5 +1,6 @@
 -- Frames put on the parser's stack and taken off it, with the trees that were read.
-use Rattle.std.proofs.Common.{◌≡◌, ◌⊎◌, inl, inr, true, false, ℕ, List, [], ◌∷◌, ◌++◌, drop, refl, sym, ap, subst, ◌∙◌, reverse}
+use Rattle.std.proofs.Common.{◌≡◌, ◌⊎◌, inl, inr, true, false, ℕ, List, [], ◌∷◌, ◌++◌, drop, refl, sym, ap, subst, ◌∙◌, reverse, ◌-◌, arith, length, length-append, slice_set, take}
+use Rattle.std.proofs.Math.Seq.{set-append_seam, take-append_seam}
 use Rattle.std.proofs.lemmas.List.{reverse-append}
 use Rattle.std.specs.{Prelude.codes, Str.bytes_eq}
 use lib.Utf8.{encode}
@@ -30,6 +31,18 @@ innermost_push fs f = ap first_due (reverse-append fs (f ∷ []))
 -- the level inside one more frame
 pub inside_push : (input : List Tok) (fs gs : List Frame) (f : Frame) (ts : List Tree) → gs ≡ fs ++ f ∷ [] → inside input gs ts ≡ within input fs f ts
 inside_push input fs gs f ts e = ap (λ hs. inside input hs ts) e ∙ ap (λ hs. inside_all (whole input) hs ts) (reverse-append fs (f ∷ []))
+
+-- where the innermost frame is
+last_place : (fs : List Frame) (f : Frame) → length (fs ++ f ∷ []) - 1 ≡ length fs
+last_place fs f = omega (arith, length-append fs (f ∷ []))
+
+-- another frame is put in place of the innermost one
+pub replaced : (fs gs : List Frame) (f g : Frame) → gs ≡ fs ++ f ∷ [] → slice_set gs (length gs - 1) g ≡ fs ++ g ∷ []
+replaced fs gs f g e = rw e (ap (λ n. slice_set (fs ++ f ∷ []) n g) (last_place fs f) ∙ set-append_seam fs f [] g)
+
+-- the innermost frame is taken off
+pub left_below : (fs gs : List Frame) (f : Frame) → gs ≡ fs ++ f ∷ [] → take (length gs - 1) gs ≡ fs
+left_below fs gs f e = rw e (ap (λ n. take n (fs ++ f ∷ [])) (last_place fs f) ∙ take-append_seam fs (f ∷ []))
 
 -- a frame is put on
 pub put_on : (input : List Tok) (fs gs : List Frame) (f : Frame) (ts : List Tree) (place : List Tok) → gs ≡ fs ++ f ∷ [] → RuleLeads (remaining (standing_of f ts)) (Made (sort_made f) (inside input fs (drop (tree_count f) ts))) place → Leads (inside input gs ts) place

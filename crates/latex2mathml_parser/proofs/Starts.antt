@@ -3,14 +3,15 @@ use Rattle.std.proofs.Common.{◌≡◌, ◌≢◌, ℕ, ◌+◌, ◌*◌, ◌^�
 use Rattle.std.proofs.lemmas.Bool.{and_right, cond_both, not-true, or_parts}
 use Rattle.std.proofs.{lemmas.Bool.Decides.nat_tests, lemmas.List.Elements.All-cons, lemmas.List.Elements.All-nil}
 use Rattle.std.proofs.lemmas.Str.{encodes-chars, length-le-encodes}
-use Rattle.std.specs.Str.{byte, chars, IsUtf8}
+use Rattle.std.specs.{Char.is_ascii_alphabetic, Str.byte, Str.chars, Str.IsUtf8}
 use Rattle.latex2mathml_grammar.specs.Characters.{head, is_space}
 use Rattle.latex2mathml_grammar.specs.{Counts.backslashes, Counts.begins_with_backslash, Cutting.slice, Cutting.slices_of, Grammar.first_or_end}
 use Rattle.latex2mathml_grammar.specs.Beginnings.{BeginsWith, IsLongestRun}
 use Rattle.latex2mathml_parser.specs.{Lexing.IsStart, Marks.rest_of}
 use Rattle.latex2mathml_grammar.specs.Spelling.{Slice, SpellsAt, IsFirstSlice, begins_longer, character_token, takes_digit}
 use Rattle.latex2mathml_parser.specs.Unread.{Takes, unread_in, token_list}
-use Rattle.latex2mathml_tokens.specs.Tok.{Tok, EOF}
+use Rattle.latex2mathml_tokens.specs.Tok.{Tok, EOF, Letter}
+use Rattle.latex2mathml_tokens.specs.declared.attribute.Variant.TheVariants.{Italic}
 use Rattle.latex2mathml_parser.proofs.{Fronts.no_characters, Spellings.one_character}
 use Rattle.latex2mathml_grammar.proofs.OneList.{begun, cut_step, one_cut, only_space}
 use Rattle.latex2mathml_grammar.proofs.{Counting.count_one, Tokenizing.spells_dark, Tokenizing.step_shortens}
@@ -86,6 +87,10 @@ pub taken_character : (takes : Bool) (text : List ℕ) (c : ℕ) (after : List �
 taken_character takes text c after t e alone f no_digit =
     let parts = or_parts (begins_longer c) (is_space c) (not-true _ alone) in
     taken_uncounted takes takes text text c after t after (starts_here takes text c after e parts.1) e (λ b. cc (ap begins_longer b, parts.0)) (one_character takes text c after t e parts.0 parts.1 f) no_digit
+
+-- an ASCII letter is a token by itself
+pub letter_alone : (c : ℕ) → is_ascii_alphabetic c ≡ true → (not (begins_longer c || is_space c) ≡ true) × (character_token c ≡ Letter c Italic)
+letter_alone c e = (grind (arith, nat_tests), grind (arith, nat_tests))
 
 -- a slice that is a command is taken
 pub taken_command : (takes alone takes' : Bool) (text start : List ℕ) (c : ℕ) (after : List ℕ) (t : Tok) (n : ℕ) (rest : List ℕ) → IsStart takes text start alone → start ≡ c ∷ after → c ≡ byte "\\" → BeginsWith alone (byte "\\" ∷ after) t rest → takes' ≡ takes_digit (Some t) → 1 ≤ n → n ≤ 9 → IsTaken takes text t n takes' rest

@@ -156,6 +156,15 @@ innermost fs = first_due (reverse fs)
 abbrev pub IsOn : Frame → List Frame → List Frame → Type 0
 IsOn f fs gs = gs ≡ fs ++ f ∷ []
 
+-- this frame is on top of others
+abbrev pub IsInnermost : Frame → List Frame → Type 0
+IsInnermost f gs = (fs : List Frame) × IsOn f fs gs
+
+-- the frame is not one of a group
+abbrev pub IsNoGroup : Frame → Type 0
+IsNoGroup (frame.Members g n) = ⊥
+IsNoGroup f = Unit {0}
+
 -- no frame is on the stack, before or after
 abbrev pub AreEmpty : List Frame → List Frame → Type 0
 AreEmpty fs gs = (fs ≡ []) × (gs ≡ [])

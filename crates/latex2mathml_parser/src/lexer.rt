@@ -1,10 +1,11 @@
 //! The lexemes of a text, taken one at a time. White space in front of a lexeme is skipped when the lexeme is taken or
 //! looked for.
-ghost use Rattle.std.specs.Prelude.{◌≡◌, ◌≢◌, ◌∷◌, ℕ, List, IfOk, MatchBool, Some, codes, string_bytes};
+ghost use Rattle.std.specs.Prelude.{◌≡◌, ◌≢◌, ◌∷◌, ℕ, List, IfOk, MatchBool, MatchOption, Some, codes, string_bytes};
 ghost use Rattle.latex2mathml_grammar.specs.{Counts.backslashes, Grammar.first};
 ghost use Rattle.latex2mathml_parser.specs.Marks.{IsSeen, MarkStands, rest_of, sign_token};
 ghost use Rattle.latex2mathml_parser.specs.Unread.{GoesOn, OpensFor, Takes, TakesName, slices_in, token_list};
-ghost use Rattle.latex2mathml_tokens.specs.{Lexemes.lexeme_tok, Tok.Paren};
+ghost use Rattle.latex2mathml_tokens.specs.{Lexemes.lexeme_tok, Tok.Letter, Tok.Paren};
+ghost use Rattle.latex2mathml_tokens.specs.declared.attribute.Variant.TheVariants.{Italic};
 
 pub(crate) mod characters;
 pub(crate) mod mark;
@@ -76,6 +77,22 @@ impl<'a> Lexer<'a> {
             }
         }
         self.take_any()
+    }
+
+    /// Takes the next lexeme and counts it, if it is an ASCII letter that no white space precedes.
+    #[inline(always)]
+    pub(crate) fn take_letter(&mut self) -> Option<char>
+        ensures { MatchOption result (self.new ≡ self.old)
+            (λ c. Takes (Letter c Italic) self.old self.new) }
+    {
+        let (c, after) = first_ascii(self.rest)?;
+        if !c.is_ascii_alphabetic() {
+            return None;
+        }
+        self.rest = after;
+        self.takes_digit = false;
+        self.tokens += 1;
+        Some(c)
     }
 
     /// Takes the next lexeme and counts it, whatever it is. Only `take` calls this.

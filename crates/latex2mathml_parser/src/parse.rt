@@ -18,9 +18,11 @@ mod marks;
 use crate::Steps;
 use crate::lexer::Lexer;
 use frames::{Due, Frame, Frames};
+use latex2mathml_parts::kind::Kind;
 use latex2mathml_parts::parts::Parts;
 use latex2mathml_parts::work::Works;
 use latex2mathml_tokens::LatexError;
+use latex2mathml_tokens::attribute::Variant;
 use latex2mathml_tokens::lexeme::Lexeme;
 use latex2mathml_tokens::token::Token;
 use std::alloc::{AllocError, Global};
@@ -147,8 +149,21 @@ impl<'a> Parser<'a> {
         }
     }
 
-    /// Reads what is due, or ends the innermost group.
+    /// Reads what is due, or ends the innermost group. Most lexemes are letters, which need no look at what is due.
+    #[inline(always)]
     fn next(&mut self) -> Result<State, AllocError>
+        requires { HasTrees 0 self.old }
+        ensures holds { Keeps State.Next self.old self.new result }
+        ensures step { IsStep 0 (weight_of State.Next self.old) self.old self.new result }
+    {
+        match self.lexer.take_letter() {
+            Some(c) => self.put_leaf(Kind::Letter(c, Variant::Italic)),
+            None => self.next_lexeme(),
+        }
+    }
+
+    /// Does the same, whatever comes next.
+    fn next_lexeme(&mut self) -> Result<State, AllocError>
         requires { HasTrees 0 self.old }
         ensures holds { Keeps State.Next self.old self.new result }
         ensures step { IsStep 0 (weight_of State.Next self.old) self.old self.new result }

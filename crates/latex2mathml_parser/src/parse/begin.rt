@@ -30,7 +30,7 @@ impl<'a> Parser<'a> {
         ensures step { IsStep (opens (lexeme_tok lexeme.entry)) 13 self.old self.new result }
     {
         match symbol(lexeme) {
-            Some(leaf) => self.put(leaf),
+            Some(leaf) => self.put_leaf(leaf),
             None => self.begin(lexeme),
         }
     }

@@ -2,7 +2,7 @@
 
 ghost use Rattle.std.specs.Prelude.{◌≡◌, ◌+◌, ◌<◌, List, vec_len};
 ghost use Rattle.latex2mathml_grammar.specs.Grammar.{under_slash};
-ghost use Rattle.latex2mathml_parser.specs.Frames.{tree_count, unfit, with_script};
+ghost use Rattle.latex2mathml_parser.specs.Frames.{IsInnermost, IsNoGroup, tree_count, unfit, with_script};
 ghost use Rattle.latex2mathml_parser.specs.Claims.{Delivers, EndsGroup, EndsInnermost, Keeps};
 ghost use Rattle.latex2mathml_parser.specs.Claims.{Proceeds, Puts, after_operator, after_single};
 ghost use Rattle.latex2mathml_parser.specs.Steps.{HasTrees, IsStep, due_in, frame_weight, last_tree};
@@ -28,23 +28,42 @@ impl<'a> Parser<'a> {
         ensures holds { Keeps State.Part self.old self.new result }
         ensures step { IsStep 0 3 self.old self.new result }
     {
-        let Some(frame) = self.frames.pop() else {
+        let Some(frame) = self.frames.last() else {
             return Ok(State::End);
         };
+        if let Frame::Members(group, count) = frame {
+            return self.end_member(group, count);
+        }
+        self.frames.drop_last();
         self.deliver(frame)
     }
 
-    /// Gives a frame, which was taken off the stack, the part that it waits for.
+    /// Counts the last tree as a member of the innermost group, in place. The next member, or the end, is then due.
+    #[inline(always)]
+    fn end_member(&mut self, group: Group, count: usize) -> Result<State, AllocError>
+        requires trees { HasTrees 1 self.old }
+        requires innermost { IsInnermost (Frame.Members group count) self.old.frames.stack.items }
+        ensures holds { Keeps State.Part self.old self.new result }
+        ensures step { IsStep 0 3 self.old self.new result }
+    {
+        // All members are among the parts, so their number fits in a `usize`.
+        let _ = self.parts.len();
+        self.frames.replace(Frame::Members(group, count + 1));
+        Ok(State::Next)
+    }
+
+    /// Gives a frame, which was taken off the stack and is no group, the part that it waits for.
     #[tactic(auto, using(crate::proofs::Combining::first_read))]
     fn deliver(&mut self, frame: Frame<'a>) -> Result<State, AllocError>
         requires fit { unfit frame ≡ 0 }
+        requires other { IsNoGroup frame }
         requires trees { HasTrees (tree_count frame + 1) self.old }
         requires room { vec_len self.old.frames.stack < self.old.frames.greatest }
         ensures holds { Delivers frame.entry self.old self.new result }
         ensures step { IsStep 0 (frame_weight frame.entry + 3) self.old self.new result }
     {
         match frame {
-            Frame::Members(group, count) => self.end_member(group, count),
+            Frame::Members(_, _) => unreachable!(),
             Frame::Operand(kind) => self.put(kind),
             Frame::Last(kind) => self.put(kind),
             Frame::First(kind) => self.put_back(Frame::Operand(kind)),
@@ -59,20 +78,6 @@ impl<'a> Parser<'a> {
         }
     }
 
-    /// Counts the last tree as a member of a group. The next member, or the end, is then due.
-    #[inline(always)]
-    #[tactic(auto, using(crate::proofs::Combining::member_read))]
-    fn end_member(&mut self, group: Group, count: usize) -> Result<State, AllocError>
-        requires trees { HasTrees (tree_count (Frame.Members group count) + 1) self.old }
-        requires room { vec_len self.old.frames.stack < self.old.frames.greatest }
-        ensures holds { Delivers (Frame.Members group count) self.old self.new result }
-        ensures step { IsStep 0 4 self.old self.new result }
-    {
-        // All members are among the parts, so their number fits in a `usize`.
-        let _ = self.parts.len();
-        self.put_back(Frame::Members(group, count + 1))
-    }
-
     /// Gives a base, which is the last tree but one, its script.
     #[inline(always)]
     fn end_script(&mut self, sign: Sign) -> Result<State, AllocError>
@@ -82,6 +87,17 @@ impl<'a> Parser<'a> {
     {
         self.parts.put(script(sign))?;
         Ok(State::Part)
+    }
+
+    /// Puts a part without operands, and goes on after it.
+    pub(crate) fn put_leaf(&mut self, kind: Kind<'a>) -> Result<State, AllocError>
+        requires leaf { arity kind ≡ 0 }
+        requires trees { HasTrees 0 self.old }
+        ensures holds { Puts kind.entry self.old self.new result }
+        ensures step { IsStep 0 5 self.old self.new result }
+    {
+        self.parts.put(kind)?;
+        self.after_core()
     }
 
     /// Puts a part after its operands, if it has any.

@@ -3,7 +3,7 @@
 //! A frame holds no tree. What was read for it are the last trees of the parser's parts.
 ghost use Rattle.std.specs.Prelude.{◌≡◌, ◌∷◌, ◌+◌, ◌<◌, ◌≤◌, ◌↔◌, [], IsTrue, List, MatchBool};
 ghost use Rattle.std.specs.Prelude.{MatchOption, OnOk, max, sum_by, vec_len};
-ghost use Rattle.latex2mathml_parser.specs.Frames.{AreEmpty, IsOn, awaits, end_of, innermost};
+ghost use Rattle.latex2mathml_parser.specs.Frames.{AreEmpty, IsInnermost, IsOn, awaits, end_of, innermost};
 ghost use Rattle.latex2mathml_parser.specs.Frames.{one_of_pair, pair_sign, takes_script, two_of_pair, unfit};
 ghost use Rattle.latex2mathml_parser.specs.{Levels.MayBegin, Levels.end_token, declared.parse.frames.GroupEnd.GroupEnd};
 ghost use Rattle.latex2mathml_tokens.specs.{Lexemes.lexeme_tok, Tok.Tok, Tok.tok};
@@ -248,6 +248,40 @@ impl<'a> Frames<'a> {
     {
         self.stack.push(frame)?;
         Ok(())
+    }
+
+    /// Returns the innermost frame.
+    #[inline(always)]
+    pub(crate) fn last(&self) -> Option<Frame<'a>>
+        ensures stack { MatchOption result (self.now.stack.items ≡ [])
+            (λ frame. IsInnermost frame self.now.stack.items) }
+        ensures fit { MatchOption result (self.now.stack.items ≡ []) (λ frame. unfit frame ≡ 0) }
+    {
+        let (frame, _) = self.stack.split_last()?;
+        Some(*frame)
+    }
+
+    /// Puts a frame in place of the innermost one. This opens no frame.
+    #[inline(always)]
+    pub(crate) fn replace(&mut self, frame: Frame<'a>)
+        requires some { 0 < vec_len self.old.stack }
+        requires fit { unfit frame ≡ 0 }
+        ensures stack { (fs : List Frame) (f : Frame) → IsOn f fs self.old.stack.items
+            → IsOn frame.entry fs self.new.stack.items }
+        ensures greatest { self.new.greatest ≡ self.old.greatest }
+    {
+        let last = self.stack.as_slice().len() - 1;
+        self.stack[last] = frame;
+    }
+
+    /// Takes off the innermost frame, which was looked at.
+    #[inline(always)]
+    pub(crate) fn drop_last(&mut self)
+        ensures stack { (fs : List Frame) (f : Frame) → IsOn f fs self.old.stack.items
+            → self.new.stack.items ≡ fs }
+        ensures greatest { self.new.greatest ≡ self.old.greatest }
+    {
+        let _ = self.stack.pop();
     }
 
     /// Takes off the innermost frame.

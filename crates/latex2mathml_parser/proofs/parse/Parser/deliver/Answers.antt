@@ -1,9 +1,6 @@
 use Rattle.latex2mathml_parser.proofs.Combining.{last_read}
 use Rattle.latex2mathml_parser.proofs.parse.Parser.deliver.Goals as goal
 
-pub returns-in-Members-clause-holds : goal.returns-in-Members-clause-holds
-returns-in-Members-clause-holds c = λ input k. c.end_member.ensures.holds input (rw c.in-Members.is at k)
-
 pub returns-in-Operand-clause-holds : goal.returns-in-Operand-clause-holds
 returns-in-Operand-clause-holds c = λ input k.
     c.put.ensures.holds input (last_read input c.args.self.now _ (rw c.in-Operand.is at c.requires.fit) (rw c.in-Operand.is at k))
@@ -23,9 +20,6 @@ returns-in-Stretch-clause-holds c = λ input k. c.end_stretch.ensures.holds inpu
 
 pub returns-in-Script-clause-holds : goal.returns-in-Script-clause-holds
 returns-in-Script-clause-holds c = λ input k. c.end_script.ensures.holds input (rw c.in-Script.is at k)
-
-pub returns-in-Members-clause-step : goal.returns-in-Members-clause-step
-returns-in-Members-clause-step c = rw c.in-Members.is c.end_member.ensures.step
 
 pub returns-in-Operand-clause-step : goal.returns-in-Operand-clause-step
 returns-in-Operand-clause-step c = rw c.in-Operand.is c.put.ensures.step

@@ -1,4 +1,15 @@
+use Rattle.std.proofs.Common.{arith, drop}
+use Rattle.latex2mathml_parts.specs.Forests.{trees_in}
+use Rattle.latex2mathml_parser.specs.Steps.{last_tree_read}
+use Rattle.latex2mathml_parser.specs.declared.parse.frames.Frame.TheVariants as frame
+use Rattle.latex2mathml_parser.proofs.{Combining.member_read, Stacks.put_on, Stacks.taken_off}
 use Rattle.latex2mathml_parser.proofs.parse.Parser.end_member.Goals as goal
 
-pub returns-clause-step : goal.returns-clause-step
-returns-clause-step c = c.put_back.ensures.step
+pub returns-clause-holds : goal.returns-clause-holds
+returns-clause-holds c = λ input k.
+    let p = c.args.self.now in
+    let (fs, on) = c.requires.innermost in
+    let member = frame.Members c.args.group c.args.count in
+    let ts = trees_in p.parts in
+    put_on input fs _ _ ts p.lexer.list (c.replace.ensures.stack fs member on)
+    (member_read input fs c.args.group c.args.count ts (omega arith) (taken_off input fs member (drop 1 ts) (last_tree_read p) (rw on at k)))
