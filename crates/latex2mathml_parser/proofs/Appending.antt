@@ -37,12 +37,12 @@ all_read (one_more {x = x} are d) {xs} ds =
     (whole.0, whole.1, append_assoc (printed are) (print x) (prints (trees_of xs)) ∙ whole.2)
 
 -- all nodes are between the tags of the element
-pub finished : {input place : List Tok} (display : DisplayStyle) (old : List ℕ) {new before after tag : List ℕ} → before ≡ old ++ tag → tag ≡ math_opening display → place ≡ [] → Appends input place before after → new ≡ after ++ codes "</math>" → (xs : List Tree) × ReadsFormula input xs × (new ≡ old ++ math_print display xs)
+pub finished : {input place : List Tok} (display : DisplayStyle) (old : List ℕ) {new before after : List ℕ} → before ≡ old ++ math_opening display → place ≡ [] → Appends input place before after → new ≡ after ++ codes "</math>" → (xs : List Tree) × ReadsFormula input xs × (new ≡ old ++ math_print display xs)
 unfolding ReadsFormula
-finished {place = place} display old opened is none so_far closed =
+finished {place = place} display old opened none so_far closed =
     let all = all_read so_far.are (subst (λ l. ReadsAll None l (Read [] [])) (sym none) formula_ends) in
     let nodes : printed so_far.are ≡ prints (trees_of all.0) = sym (append-nil (printed so_far.are)) ∙ all.2 in
-    (all.0, all.1, simp (closed, so_far.text, opened, is, nodes, append_assoc))
+    (all.0, all.1, simp (closed, so_far.text, opened, nodes, append_assoc))
 
 -- where the nodes end in a refusal, the formula is refused
 refused_behind : {input place : List Tok} {r : Refusal} → ReadsNodes input place → ReadsAll None place (Refused r) → ReadsAll None input (Refused r)
@@ -54,15 +54,15 @@ one_refused {place = []} stands d = absurd cc
 one_refused {place = t ∷ ts} stands d = member_refused (λ e. cc) d
 
 -- the next node refuses, with the error that the parser holds
-pub formula_refused : {input place ts : List Tok} {t : Tok} {old new : List ℕ} {error held : LatexError} → error ≡ held → place ≡ t ∷ ts → IsRefusedBy held place → Appends input place old new → IfSome (refusal_of error) (Refuses input)
+pub formula_refused : {input place ts : List Tok} {t : Tok} {old new : List ℕ} (error : LatexError) → place ≡ t ∷ ts → IsRefusedBy error place → Appends input place old new → IfSome (refusal_of error) (Refuses input)
 unfolding Refuses
-formula_refused {error} same stands d so_far =
-    IfSome_then (refusal_of error) (rw same d) (λ r e. refused_behind so_far.are (one_refused stands e))
+formula_refused error stands d so_far =
+    IfSome_then (refusal_of error) d (λ r e. refused_behind so_far.are (one_refused stands e))
 
 -- the next node refuses, and some of its tokens were taken
-pub within_node : (before left : Unread) {place : List Tok} {old new : List ℕ} {error held : LatexError} → error ≡ held → IsRefusedBy held place → Appends before.list place old new → length left.list < length place → IfSome (refusal_of error) (IsRefusedWithin before left)
-within_node before left {place = place} {error = error} same d so_far less =
-    IfSome_then (refusal_of error) (rw same d) (λ r e. (place, so_far.are, e, less))
+pub within_node : (before left : Unread) {place : List Tok} {old new : List ℕ} (error : LatexError) → IsRefusedBy error place → Appends before.list place old new → length left.list < length place → IfSome (refusal_of error) (IsRefusedWithin before left)
+within_node before left {place = place} error d so_far less =
+    IfSome_then (refusal_of error) d (λ r e. (place, so_far.are, e, less))
 
 -- The node that begins with a token.
 

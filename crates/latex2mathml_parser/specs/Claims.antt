@@ -1,16 +1,16 @@
 -- What the parser's functions answer: what held before a call holds of the state that it returns, for all tokens that
 -- were left before the node of the formula.
-use Rattle.std.specs.Prelude.{◌≡◌, Bool, true, false, ℕ, List, [], ◌∷◌, ◌++◌, IfOk, None, Result, String}
+use Rattle.std.specs.Prelude.{◌≡◌, Bool, true, false, ℕ, List, [], ◌∷◌, ◌++◌, IfOk, IfSome, None, Result, String}
 use Rattle.std.specs.Prelude.{codes, drop, reverse, string_bytes, take}
 use Rattle.std.specs.declared.alloc.AllocError.{AllocError}
 use Rattle.std.specs.declared.alloc.Global.{Global}
-use Rattle.latex2mathml_grammar.specs.Grammar.{ReadsFormula, Read, Reads, Refused, Rule, first, gives, node, rule}
+use Rattle.latex2mathml_grammar.specs.Grammar.{ReadsFormula, Read, Reads, Refused, Refuses, Rule, first, gives, node, rule}
 use Rattle.latex2mathml_grammar.specs.Grammar.{single as a_single, stretched_or_refused}
 use Rattle.latex2mathml_grammar.specs.Rendering.{math_print}
 use Rattle.latex2mathml_parser.specs.Frames.{after_first, after_members, tree_count, with_limits, within}
 use Rattle.latex2mathml_parser.specs.Marks.{MarkStands}
 use Rattle.latex2mathml_parser.specs.Levels.{Accepts, Leads, Made, end_token}
-use Rattle.latex2mathml_parser.specs.Steps.{GoesOnBy, GoesOnIn, Holds, due_in, last_state, last_tree, last_tree_read, level}
+use Rattle.latex2mathml_parser.specs.Steps.{GoesOnBy, GoesOnIn, Holds, IsRefusedWithin, due_in, last_state, last_tree, last_tree_read, level}
 use Rattle.latex2mathml_parser.specs.{declared.parse.Parser.Parser, declared.parse.State.State}
 use Rattle.latex2mathml_parser.specs.declared.parse.State.TheVariants as state
 use Rattle.latex2mathml_parser.specs.declared.parse.frames.Due.TheVariants as due
@@ -18,7 +18,7 @@ use Rattle.latex2mathml_parser.specs.{declared.parse.frames.Frame.Frame, declare
 use Rattle.latex2mathml_parser.specs.declared.parse.frames.Frame.TheVariants as frame
 use Rattle.latex2mathml_parser.specs.{declared.parse.frames.GroupEnd.GroupEnd, declared.parse.frames.Pair.Pair}
 use Rattle.latex2mathml_parts.specs.{Forests.trees_in, Parts.arity, Parts.put, Parts.top, declared.kind.Kind.Kind}
-use Rattle.latex2mathml_tokens.specs.{Attributes.display_text, Lexemes.lexeme_tok, Refusal.MissingParensethis, Tok.Tok, Tok.tok}
+use Rattle.latex2mathml_tokens.specs.{Attributes.display_text, Lexemes.lexeme_tok, Refusal.MissingParensethis, Refusal.refusal_of, Tok.Tok, Tok.tok}
 use Rattle.latex2mathml_tokens.specs.{declared.DisplayStyle.DisplayStyle, declared.lexeme.Lexeme.Lexeme, declared.token.Token.Token}
 use Rattle.latex2mathml_trees.specs.{Productions.stretched_operator, Print.print, Tree.Tree}
 
@@ -95,6 +95,18 @@ IsLoneLeaf t place k = IsLeafOf t k × MarkStands None (first place)
 -- the tag that opens the `math` element
 abbrev pub math_opening : DisplayStyle → List ℕ
 math_opening display = codes "<math xmlns=\"http://www.w3.org/1998/Math/MathML\" display=\"" ++ (display_text display ++ codes "\">")
+
+-- a reading of the tokens that are left is appended, as a `math` element, and no token is left
+abbrev pub AppendsMath : Parser → DisplayStyle → Parser → String Global → String Global → Type 0
+AppendsMath p display q old new =
+    ((xs : List Tree) × ReadsFormula p.lexer.list xs × (string_bytes new ≡ string_bytes old ++ math_print display xs))
+    × (q.lexer.list ≡ [])
+
+-- the formula is refused, for the reason that the parser holds: a node is, and some of its tokens were taken
+abbrev pub HoldsRefusal : Parser → Parser → Type 0
+HoldsRefusal p q =
+    IfSome (refusal_of q.refusal) (Refuses p.lexer.list)
+    × IfSome (refusal_of q.refusal) (IsRefusedWithin p.lexer q.lexer)
 
 -- the markup is the `math` element of a reading of the tokens that are left
 abbrev pub IsMathOf : Parser → DisplayStyle → List ℕ → Type 0

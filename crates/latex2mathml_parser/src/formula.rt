@@ -1,8 +1,8 @@
 //! From a formula to its markup.
-ghost use Rattle.std.specs.Prelude.{◌≡◌, ℕ, ◌∷◌, ◌++◌, [], IfOk, IfSome, List, OnOk, string_bytes};
+ghost use Rattle.std.specs.Prelude.{◌≡◌, ℕ, ◌∷◌, ◌++◌, [], IfOk, IfSome, List, MatchBool, OnOk, string_bytes};
 ghost use Rattle.latex2mathml_grammar.specs.{Grammar.ReadsFormula, Grammar.Refuses, Openers.opens};
 ghost use Rattle.latex2mathml_grammar.specs.Rendering.{IsFormulaRefusal, IsRendering, math_print};
-ghost use Rattle.latex2mathml_parser.specs.Claims.{IsAppended, IsLoneLeaf, IsMathOf, math_opening};
+ghost use Rattle.latex2mathml_parser.specs.Claims.{AppendsMath, HoldsRefusal, IsAppended, IsLoneLeaf, IsMathOf, math_opening};
 ghost use Rattle.latex2mathml_parser.specs.Steps.{Counted, HasTrees, Holds};
 ghost use Rattle.latex2mathml_parser.specs.Steps.{IsRefusedWithin, StacksWithin, trees_of_state};
 ghost use Rattle.latex2mathml_parser.specs.Unread.{GoesOn};
@@ -22,23 +22,21 @@ use std::alloc::{AllocError, Global};
 const ROOM: usize = 1024;
 
 /// Appends the `math` element of the tokens that are left. Each node is written and dropped before the next is read, so
-/// memory for one node is enough.
+/// memory for one node is enough. Returns whether the formula could be read: if not, the parser holds why it is refused.
 #[tactic(auto, using(crate::proofs::Stepping::stacks_within))]
 pub(crate) fn append_math(
     parser: &mut Parser,
     display: DisplayStyle,
     markup: &mut String,
-) -> Result<(), LatexError>
+) -> Result<bool, AllocError>
     requires { parser.old.frames.stack.items ≡ [] }
-    ensures rendering { OnOk result ((xs : List Tree) × ReadsFormula parser.old.lexer.list xs
-        × (string_bytes markup.new ≡ string_bytes markup.old ++ math_print display xs)) }
-    ensures refused { IfRefused result (Refuses parser.old.lexer.list) }
-    ensures within { IfRefused result (IsRefusedWithin parser.old.lexer parser.new.lexer) }
-    ensures all { OnOk result (parser.new.lexer.list ≡ []) }
+    ensures formula { IfOk result (λ is_read. MatchBool is_read
+        (AppendsMath parser.old display parser.new markup.old markup.new)
+        (HoldsRefusal parser.old parser.new)) }
     ensures counted { Counted 0 parser.old parser.new }
     ensures stack { StacksWithin parser.old parser.new }
 {
-    markup.push_str(opening_tag(display))?;
+    append_opening_tag(display, markup)?;
     'nodes: loop {
         let lexeme = parser.lexer.take();
         if let Lexeme::EOF = lexeme {
@@ -46,11 +44,11 @@ pub(crate) fn append_math(
         }
         let is_read = append_node(parser, lexeme, markup)?;
         if !is_read {
-            return Err(parser.refusal());
+            return Ok(false);
         }
     }
     markup.push_str("</math>")?;
-    Ok(())
+    Ok(true)
 }
 
 /// Returns the `math` element of the tokens that are left.
@@ -63,20 +61,32 @@ pub(crate) fn math(parser: &mut Parser, display: DisplayStyle) -> Result<String,
     ensures counted { Counted 0 parser.old parser.new }
 {
     let mut markup = String::with_capacity(parser.alloc, ROOM)?;
-    append_math(parser, display, &mut markup)?;
+    let is_read = append_math(parser, display, &mut markup)?;
+    if !is_read {
+        return Err(parser.refusal());
+    }
     Ok(markup)
 }
 
-/// Returns the tag that opens the `math` element.
-fn opening_tag(display: DisplayStyle) -> &'static str
-    ensures { result.now ≡ math_opening display }
+/// Appends the tag that opens the `math` element. Each is a text of its own, of a length that is known.
+#[inline(always)]
+fn append_opening_tag(display: DisplayStyle, markup: &mut String) -> Result<(), AllocError>
+    ensures { OnOk result
+        (string_bytes markup.new ≡ string_bytes markup.old ++ math_opening display) }
 {
     match display {
-        DisplayStyle::Block =>
-            "<math xmlns=\"http://www.w3.org/1998/Math/MathML\" display=\"block\">",
-        DisplayStyle::Inline =>
-            "<math xmlns=\"http://www.w3.org/1998/Math/MathML\" display=\"inline\">",
+        DisplayStyle::Block => {
+            markup.push_str(
+                "<math xmlns=\"http://www.w3.org/1998/Math/MathML\" display=\"block\">",
+            )?;
+        }
+        DisplayStyle::Inline => {
+            markup.push_str(
+                "<math xmlns=\"http://www.w3.org/1998/Math/MathML\" display=\"inline\">",
+            )?;
+        }
     }
+    Ok(())
 }
 
 /// Appends the node of the formula that begins with this lexeme, which was taken. Returns whether it could be read: if
@@ -151,6 +161,7 @@ impl<'a> Converter<'a> {
     /// # Errors
     ///
     /// The same as those of [`latex_to_mathml`](crate::latex_to_mathml). A part of the markup may have been appended then.
+    #[inline(always)]
     pub fn append(
         &mut self,
         text: &mut String,
@@ -162,6 +173,10 @@ impl<'a> Converter<'a> {
         ensures refusal { IfRefused result (IsFormulaRefusal latex.now) }
     {
         self.parser.restart(latex);
-        append_math(&mut self.parser, display, text)
+        let is_read = append_math(&mut self.parser, display, text)?;
+        if !is_read {
+            return Err(self.parser.refusal());
+        }
+        Ok(())
     }
 }

@@ -31,11 +31,13 @@ impl<'a> Parser<'a> {
         let Some(frame) = self.frames.last() else {
             return Ok(State::End);
         };
-        if let Frame::Members(group, count) = frame {
-            return self.end_member(group, count);
+        match *frame {
+            Frame::Members(group, count) => self.end_member(group, count),
+            frame => {
+                self.frames.drop_last();
+                self.deliver(frame)
+            }
         }
-        self.frames.drop_last();
-        self.deliver(frame)
     }
 
     /// Counts the last tree as a member of the innermost group, in place. The next member, or the end, is then due.

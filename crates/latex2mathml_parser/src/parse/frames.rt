@@ -252,13 +252,13 @@ impl<'a> Frames<'a> {
 
     /// Returns the innermost frame.
     #[inline(always)]
-    pub(crate) fn last(&self) -> Option<Frame<'a>>
+    pub(crate) fn last(&self) -> Option<&Frame<'a>>
         ensures stack { MatchOption result (self.now.stack.items ≡ [])
-            (λ frame. IsInnermost frame self.now.stack.items) }
-        ensures fit { MatchOption result (self.now.stack.items ≡ []) (λ frame. unfit frame ≡ 0) }
+            (λ frame. IsInnermost frame.now self.now.stack.items) }
+        ensures fit { MatchOption result (self.now.stack.items ≡ []) (λ frame. unfit frame.now ≡ 0) }
     {
         let (frame, _) = self.stack.split_last()?;
-        Some(*frame)
+        Some(frame)
     }
 
     /// Puts a frame in place of the innermost one. This opens no frame.

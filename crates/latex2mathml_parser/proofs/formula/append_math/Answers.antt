@@ -1,4 +1,5 @@
-use Rattle.std.proofs.Common.{append-nil, arith, refl, sym, ap}
+use Rattle.std.proofs.Common.{append-nil, arith, refl, sym, ap, ◌∙◌}
+use Rattle.latex2mathml_parser.specs.Marks.{rest_of}
 use Rattle.latex2mathml_grammar.specs.Counts.{none_read}
 use Rattle.latex2mathml_tokens.specs.Lexemes.{lexeme_tok}
 use Rattle.latex2mathml_parser.proofs.Appending.{finished, formula_refused, one_node, within_node}
@@ -39,17 +40,19 @@ pub returns-then-not-is_read : goal.returns-then-not-is_read
 returns-then-not-is_read c =
     let found = stood c.take-lexeme.result c.nodes.parser.lexer.list c.take-lexeme.new.self.list c.in_default.not-EOF c.take-lexeme.ensures.token c.take-lexeme.ensures.list in
     let refused = rw c.if-not-is_read.true at (c.in_ok-is_read.ensures.node _ found) in
-    let counted = counted_taken _ c.nodes.parser _ _ found c.take-lexeme.ensures.counts refl c.in_ok-is_read.ensures.counted in
-    let all_counted = counted_on 0 0 _ _ _ (counted_on 0 0 _ _ _ c.nodes.invariant.counted counted) c.refusal.ensures.counted in
+    let counted = counted_on 0 0 _ _ _ c.nodes.invariant.counted (counted_taken _ c.nodes.parser _ _ found c.take-lexeme.ensures.counts refl c.in_ok-is_read.ensures.counted) in
     record {
-      rendering = tt;
-      refused = formula_refused c.refusal.ensures.refusal found refused c.nodes.invariant.nodes;
-      within = within_node c.args.parser.now.lexer c.refusal.new.self.lexer c.refusal.ensures.refusal refused c.nodes.invariant.nodes (grind (arith, found));
-      all = tt;
-      counted = all_counted;
-      stack = stacks_within _ _ all_counted;
+      formula = (
+        formula_refused _ found refused c.nodes.invariant.nodes,
+        within_node c.args.parser.now.lexer c.append_node.new.parser.lexer _ refused c.nodes.invariant.nodes (grind (arith, found)),
+      );
+      counted = counted;
+      stack = stacks_within _ _ counted;
     }
 
-pub returns-clause-rendering : goal.returns-clause-rendering
-returns-clause-rendering c =
-    finished c.args.display _ c.in_ok-push_str.ensures.bytes c.opening_tag.ensures (c.take-lexeme.ensures.ended (ap lexeme_tok c.in-EOF.is)) c.nodes.invariant.nodes c.in_ok-push_str-2.ensures.bytes
+pub returns-clause-formula : goal.returns-clause-formula
+returns-clause-formula c =
+    let none = c.take-lexeme.ensures.ended (ap lexeme_tok c.in-EOF.is) in (
+      finished c.args.display _ c.in_ok-append_opening_tag.ensures none c.nodes.invariant.nodes c.in_ok-push_str.ensures.bytes,
+      c.take-lexeme.ensures.list ∙ ap rest_of none,
+    )
