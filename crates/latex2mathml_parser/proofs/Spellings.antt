@@ -1,17 +1,36 @@
 -- What each branch of the lexer has read is a slice that spells its token.
-use Rattle.std.proofs.Common.{◌≡◌, ℕ, Bool, true, false, List, [], ◌∷◌, ◌++◌, codes, refl, sym, ap, subst, ◌∙◌, arith}
-use Rattle.std.proofs.{lemmas.Bool.Decides.nat_tests, lemmas.List.Elements.All-cons}
-use Rattle.std.specs.{Char.is_ascii_digit, Char.is_ascii_alphabetic, Str.byte, Str.encode_utf8_all}
+use Rattle.std.proofs.Common.{◌≡◌, ℕ, Bool, true, false, List, [], ◌∷◌, ◌++◌, Option, None, Some, codes, refl, sym, ap, subst, ◌∙◌, arith}
+use Rattle.std.proofs.{lemmas.Bool.or_parts, lemmas.Bool.Decides.nat_tests, lemmas.List.Elements.All-cons, lemmas.List.Elements.All-nil}
+use Rattle.std.specs.{Char.is_ascii, Char.is_ascii_digit, Char.is_ascii_alphabetic, Str.byte, Str.encode_utf8_all}
 use Rattle.latex2mathml_grammar.specs.Characters.{Stops, head, is_space}
 use Rattle.latex2mathml_tokens.specs.Commands.{command_token}
 use Rattle.latex2mathml_grammar.specs.Beginnings.{BeginsWith, BeginsWithNumber, IsLongestRun}
 use Rattle.latex2mathml_parser.specs.Lexing.{BeginsWithName}
-use Rattle.latex2mathml_grammar.specs.Spelling.{SpellsAt, is_equals_sign, begins_longer, character_token, character, colon, colon_equals, number, digit, symbol_command, letter_command, lone_backslash}
+use Rattle.latex2mathml_grammar.specs.Spelling.{SpellsAt, is_digit_or_period, is_equals_sign, is_period, begins_longer, character_token, character, colon, colon_equals, number, digit, symbol_command, letter_command, lone_backslash}
 use Rattle.latex2mathml_tokens.specs.Tok.{Tok, Number, Paren, Operator}
+use Rattle.latex2mathml_grammar.proofs.Numbers.{digits_alone}
 use Rattle.latex2mathml_tokens.proofs.Order.{no_empty_name}
+
+neither : (c : Option ℕ) → Stops is_digit_or_period c → Stops is_ascii_digit c × Stops is_period c
+neither None stops = (tt, tt)
+neither (Some c) stops = or_parts (is_ascii_digit c) (is_period c) stops
+
+-- what is not ASCII is neither a digit nor a period
+pub no_digit_or_period : (c : Option ℕ) → Stops is_ascii c → Stops is_digit_or_period c
+no_digit_or_period None wide = tt
+no_digit_or_period (Some c) wide = grind (arith, nat_tests)
+
+pub no_more : (c : ℕ) → is_ascii_digit c ≡ false → (c ≡ byte "." → ⊥) → is_digit_or_period c ≡ false
+no_more c d f = rw d (grind (arith, nat_tests))
 
 pub number_spelled : (alone : Bool) (text rest bs : List ℕ) → alone ≡ false → BeginsWithNumber text rest → ((w : List ℕ) → text ≡ w ++ rest → bs ≡ encode_utf8_all w) → BeginsWith alone text (Number bs) rest
 number_spelled alone text rest bs a (w, e, is) bytes = (w, e, number a is (ap Number (bytes w e)))
+
+-- a digit with neither a digit nor a period after it
+pub one_digit : (text : List ℕ) (c : ℕ) (after : List ℕ) → text ≡ c ∷ after → is_ascii_digit c ≡ true → Stops is_digit_or_period (head after) → BeginsWithNumber text after
+one_digit text c after e d stops =
+    let both : Stops is_ascii_digit (head after) × Stops is_period (head after) = neither (head after) stops in
+    digits_alone text (c ∷ []) after (e, All-cons (λ x. is_ascii_digit x ≡ true) c [] d (All-nil (λ x. is_ascii_digit x ≡ true)), both.0) (rw e d) both.1
 
 -- the name of a command: an ASCII letter and all that follow it
 pub letters_named : (text : List ℕ) (c : ℕ) (after rest : List ℕ) → text ≡ c ∷ after → is_ascii_alphabetic c ≡ true → (front : List ℕ) × IsLongestRun is_ascii_alphabetic after front rest → BeginsWithName text rest

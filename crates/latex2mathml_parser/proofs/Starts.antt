@@ -25,6 +25,11 @@ pub starts_behind : (takes : Bool) (text : List ℕ) (c : ℕ) (after start : Li
 starts_behind takes text c after start e light (space, run) =
     (c ∷ space, (e ∙ ap (λ k. c ∷ k) run.0, All-cons (λ x. is_space x ≡ true) c space light run.1, run.2), sym (and_right takes false refl))
 
+-- a text that begins with one character of white space starts after that
+pub starts_behind_one : (takes : Bool) (text : List ℕ) (c : ℕ) (start : List ℕ) (d : ℕ) (rest : List ℕ) → text ≡ c ∷ start → is_space c ≡ true → start ≡ d ∷ rest → is_space d ≡ false → IsStart takes text start false
+starts_behind_one takes text c start d rest e light f dark =
+    starts_behind takes text c start start e light ([], (refl, All-nil (λ x. is_space x ≡ true), rw f dark))
+
 -- the first slice of a text, from where it starts
 pub step_from : (takes alone : Bool) (text start : List ℕ) (t : Tok) (rest : List ℕ) → IsStart takes text start alone → (begins : BeginsWith alone start t rest) → IsFirstSlice takes text (slice begins.0 t) rest
 step_from takes alone text start t rest (space, run, e) begins =

@@ -220,10 +220,17 @@ impl<'a> Lexer<'a> {
         if self.rest.is_empty() {
             return None;
         }
-        // Usually no white space precedes it.
-        if let Some((c, _)) = first_ascii(self.rest) {
+        // Usually nothing precedes it, or one space.
+        if let Some((c, after)) = first_ascii(self.rest) {
             if !is_space(c) {
                 return Some(c);
+            }
+            if let Some((second, _)) = first_ascii(after) {
+                if !is_space(second) {
+                    self.rest = after;
+                    self.takes_digit = false;
+                    return Some(second);
+                }
             }
         }
         self.find_first_char()

@@ -1,5 +1,5 @@
 //! A text, character by character and run by run.
-ghost use Rattle.std.specs.Prelude.{◌≡◌, ◌∷◌, ◌==◌, ◌++◌, ℕ, [], List, IfNone, IfSome, MatchOption};
+ghost use Rattle.std.specs.Prelude.{◌≡◌, ◌∷◌, ◌==◌, ◌++◌, ℕ, [], List, IfNone, IfSome, IsTrue, MatchOption};
 ghost use Rattle.std.specs.{Char.is_ascii, Str.chars, Str.encode_utf8_all};
 ghost use Rattle.latex2mathml_grammar.specs.Characters;
 ghost use Rattle.latex2mathml_grammar.specs.{Beginnings.IsLongestRun, Characters.Stops, Characters.head};
@@ -17,13 +17,14 @@ pub(crate) enum Class {
 }
 
 impl Class {
-    fn contains(self, c: char) -> bool
-        ensures { result ≡ in_class self c }
+    /// Whether the byte is a character of this class.
+    fn contains(self, byte: u8) -> bool
+        ensures { result ≡ in_class self byte }
     {
         match self {
-            Class::Space => is_space(c),
-            Class::Digit => c.is_ascii_digit(),
-            Class::Letter => c.is_ascii_alphabetic(),
+            Class::Space => is_space(char::from(byte)),
+            Class::Digit => byte.is_ascii_digit(),
+            Class::Letter => byte.is_ascii_alphabetic(),
         }
     }
 }
@@ -86,18 +87,30 @@ pub(crate) fn after_char(text: &str, c: char) -> Option<&str>
     if first == c { Some(rest) } else { None }
 }
 
-/// Returns what follows the longest run of characters of a class at the start of the text. All classes are of ASCII
-/// characters.
+/// Returns what follows the first character, if it is of the class. All classes are of ASCII characters.
+#[inline(always)]
+pub(crate) fn after_one(class: Class, text: &str) -> Option<&str>
+    ensures { MatchOption result (Stops (in_class class) (head (chars text.now)))
+        (λ rest. (c : ℕ) × (chars text.now ≡ c ∷ chars rest.now) × IsTrue (in_class class c)) }
+{
+    let Some(&byte) = text.as_bytes().first() else {
+        return None;
+    };
+    if !class.contains(byte) {
+        return None;
+    }
+    let (_, rest) = text.split_at(1);
+    Some(rest)
+}
+
+/// Returns what follows the longest run of characters of a class at the start of the text.
 #[inline(always)]
 pub(crate) fn skip_run(class: Class, text: &str) -> &str
     ensures { (front : List ℕ) ×
         IsLongestRun (in_class class) (chars text.now) front (chars result.now) }
 {
     let mut rest = text;
-    while let Some((c, after)) = first_ascii(rest) {
-        if !class.contains(c) {
-            return rest;
-        }
+    while let Some(after) = after_one(class, rest) {
         rest = after;
     }
     rest

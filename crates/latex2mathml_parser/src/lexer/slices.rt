@@ -1,5 +1,5 @@
 //! The slice at the start of a text, and the lexeme that it is.
-ghost use Rattle.std.specs.Prelude.{◌≡◌, ◌≢◌, ◌≤◌, ◌∷◌, ◌||◌, [], Bool, false, not, IsFalse, Some, MatchOption};
+ghost use Rattle.std.specs.Prelude.{◌≡◌, ◌≢◌, ◌≤◌, ◌∷◌, ◌||◌, ℕ, [], Bool, false, not, IsFalse, IsTrue, Some, MatchOption};
 ghost use Rattle.std.specs.{Char.is_ascii_digit, Str.byte, Str.chars};
 ghost use Rattle.latex2mathml_grammar.specs.{Characters.Begins, Characters.is_space, Spelling.begins_longer, Spelling.character_token};
 ghost use Rattle.latex2mathml_grammar.specs.Beginnings.{BeginsWith, BeginsWithNumber};
@@ -8,7 +8,7 @@ ghost use Rattle.latex2mathml_grammar.specs.Spelling;
 ghost use Rattle.latex2mathml_tokens.specs.Lexemes.{lexeme_tok};
 
 use crate::lexer::characters::{
-    Class, after_char, before, first_char, is_space, skip_run, skip_space,
+    Class, after_char, after_one, before, first_ascii, first_char, is_space, skip_run, skip_space,
 };
 use latex2mathml_tokens::attribute::Variant;
 use latex2mathml_tokens::lexeme::Lexeme;
@@ -79,7 +79,7 @@ pub(crate) fn slice_at<'a>(
         if alone {
             return (Lexeme::Number(before(text, after)), after);
         }
-        let rest = skip_number(text);
+        let rest = after_number(text, after);
         return (Lexeme::Number(before(text, rest)), rest);
     }
     if c == ':' {
@@ -125,6 +125,22 @@ pub(crate) fn character<'a>(c: char) -> Lexeme<'a>
     }
 }
 
+/// Returns what follows the number at the start of the text, where `after` follows its first digit.
+#[inline(always)]
+fn after_number<'a>(text: &'a str, after: &'a str) -> &'a str
+    requires { (c : ℕ) × (chars text.now ≡ c ∷ chars after.now) × IsTrue (is_ascii_digit c) }
+    ensures { BeginsWithNumber (chars text.now) (chars result.now) }
+{
+    // Most numbers are one digit.
+    let Some((c, _)) = first_ascii(after) else {
+        return after;
+    };
+    if c.is_ascii_digit() || c == '.' {
+        return skip_number(text);
+    }
+    after
+}
+
 /// Returns what follows the number at the start of the text.
 #[inline(never)]
 fn skip_number(text: &str) -> &str
@@ -155,11 +171,11 @@ pub(crate) fn command<'a>(text: &'a str) -> (Lexeme<'a>, &'a str, u64)
 fn skip_command_name(text: &str) -> &str
     ensures { BeginsWithName (chars text.now) (chars result.now) }
 {
-    let Some((c, after)) = first_char(text) else {
-        return text;
-    };
-    if !c.is_ascii_alphabetic() {
-        return after;
+    if let Some(after) = after_one(Class::Letter, text) {
+        return skip_run(Class::Letter, after);
     }
-    skip_run(Class::Letter, after)
+    match first_char(text) {
+        Some((_, after)) => after,
+        None => text,
+    }
 }

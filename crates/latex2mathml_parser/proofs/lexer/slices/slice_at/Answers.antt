@@ -6,7 +6,7 @@ pub before-requires : goal.before-requires
 before-requires c = (c.args.c ∷ [], c.requires.starts)
 
 pub returns-then-is_ascii_digit-clause-lexeme : goal.returns-then-is_ascii_digit-clause-lexeme
-returns-then-is_ascii_digit-clause-lexeme c = number_spelled _ _ _ _ c.if-alone.false c.skip_number-rest.ensures c.before-then-is_ascii_digit.ensures
+returns-then-is_ascii_digit-clause-lexeme c = number_spelled _ _ _ _ c.if-alone.false c.after_number-rest.ensures c.before-then-is_ascii_digit.ensures
 
 pub returns-then-alone-clause-lexeme : goal.returns-then-alone-clause-lexeme
 returns-then-alone-clause-lexeme c = lone_digit _ _ c.args.c _ _ _ c.requires.starts (cc) c.if-alone.true (c.before-then-alone.ensures (c.args.c ∷ []) c.requires.starts) refl
