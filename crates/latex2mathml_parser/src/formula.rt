@@ -42,7 +42,7 @@ pub(crate) fn append_math(
         if let Lexeme::EOF = lexeme {
             break 'nodes;
         }
-        let is_read = append_node(parser, lexeme, markup)?;
+        let is_read = append_node(parser, &lexeme, markup)?;
         if !is_read {
             return Ok(false);
         }
@@ -94,13 +94,13 @@ fn append_opening_tag(display: DisplayStyle, markup: &mut String) -> Result<(), 
 #[inline(always)]
 fn append_node<'a>(
     parser: &mut Parser<'a>,
-    lexeme: Lexeme<'a>,
+    lexeme: &Lexeme<'a>,
     markup: &mut String,
 ) -> Result<bool, AllocError>
     requires { parser.old.frames.stack.items ≡ [] }
-    ensures node { (input : List Tok) → input ≡ lexeme_tok lexeme.entry ∷ parser.old.lexer.list
+    ensures node { (input : List Tok) → input ≡ lexeme_tok lexeme.now ∷ parser.old.lexer.list
         → IfOk result (IsAppended input parser.new markup.old markup.new) }
-    ensures counted { Counted (opens (lexeme_tok lexeme.entry)) parser.old parser.new }
+    ensures counted { Counted (opens (lexeme_tok lexeme.now)) parser.old parser.new }
 {
     // Most nodes are one lexeme by itself, which needs no part.
     if let Some(leaf) = lone_leaf(&mut parser.lexer, lexeme) {
@@ -114,8 +114,8 @@ fn append_node<'a>(
 
 /// Returns the part of a lexeme, which was taken, if it is a node by itself: it has no operands, and no mark follows it.
 #[inline(always)]
-fn lone_leaf<'a>(lexer: &mut Lexer<'a>, lexeme: Lexeme<'a>) -> Option<Kind<'a>>
-    ensures leaf { IfSome result (IsLoneLeaf lexeme.entry lexer.old.list) }
+fn lone_leaf<'a>(lexer: &mut Lexer<'a>, lexeme: &Lexeme<'a>) -> Option<Kind<'a>>
+    ensures leaf { IfSome result (IsLoneLeaf lexeme.now lexer.old.list) }
     ensures list { lexer.new.list ≡ lexer.old.list }
     ensures counts { GoesOn lexer.old lexer.new }
 {

@@ -172,10 +172,10 @@ impl<'a> Parser<'a> {
         if let Lexeme::EOF = lexeme {
             return self.at_end();
         }
-        if self.frames.due().ends_at(lexeme) {
+        if self.frames.due().ends_at(&lexeme) {
             return self.close();
         }
-        self.begin_any(lexeme)
+        self.begin_any(&lexeme)
     }
 
     /// Goes on where no token is left: an open group is refused, and any other part that is due is `EOF`, marked as an error.
@@ -190,7 +190,7 @@ impl<'a> Parser<'a> {
                 got: Token::EOF,
             }));
         }
-        self.error(Lexeme::EOF)
+        self.error(&Lexeme::EOF)
     }
 
     /// Refuses the formula.

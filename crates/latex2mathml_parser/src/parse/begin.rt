@@ -24,10 +24,10 @@ impl<'a> Parser<'a> {
     /// Begins the rule of a lexeme that was taken where a core is due. Most are leaves, which need no look at the other
     /// rules.
     #[inline(always)]
-    pub(crate) fn begin_any(&mut self, lexeme: Lexeme<'a>) -> Result<State, AllocError>
+    pub(crate) fn begin_any(&mut self, lexeme: &Lexeme<'a>) -> Result<State, AllocError>
         requires { HasTrees 0 self.old }
-        ensures holds { Proceeds (rule (lexeme_tok lexeme.entry)) 0 self.old self.new result }
-        ensures step { IsStep (opens (lexeme_tok lexeme.entry)) 13 self.old self.new result }
+        ensures holds { Proceeds (rule (lexeme_tok lexeme.now)) 0 self.old self.new result }
+        ensures step { IsStep (opens (lexeme_tok lexeme.now)) 13 self.old self.new result }
     {
         match symbol(lexeme) {
             Some(leaf) => self.put_leaf(leaf),
@@ -35,18 +35,31 @@ impl<'a> Parser<'a> {
         }
     }
 
-    /// Begins the rule of a lexeme that was taken where a core is due. A stretched operator begins with the lexeme after
-    /// `\middle`, which the frame keeps, because a refusal names it.
-    fn begin(&mut self, lexeme: Lexeme<'a>) -> Result<State, AllocError>
+    /// Begins the rule of a lexeme that was taken where a core is due.
+    fn begin(&mut self, lexeme: &Lexeme<'a>) -> Result<State, AllocError>
         requires { HasTrees 0 self.old }
-        ensures holds { Proceeds (rule (lexeme_tok lexeme.entry)) 0 self.old self.new result }
-        ensures step { IsStep (opens (lexeme_tok lexeme.entry)) 13 self.old self.new result }
+        ensures holds { Proceeds (rule (lexeme_tok lexeme.now)) 0 self.old self.new result }
+        ensures step { IsStep (opens (lexeme_tok lexeme.now)) 13 self.old self.new result }
     {
-        let mut begun = lexeme;
+        match *lexeme {
+            Lexeme::Middle => self.begin_stretched(),
+            _ => self.begin_rule(*lexeme),
+        }
+    }
+
+    /// Begins a stretched operator with the lexeme after `\middle`, which the frame keeps, because a refusal names it. This may be
+    /// another `\middle`.
+    #[inline(never)]
+    fn begin_stretched(&mut self) -> Result<State, AllocError>
+        requires { HasTrees 0 self.old }
+        ensures holds { Proceeds (rule Middle) 0 self.old self.new result }
+        ensures step { IsStep (opens Middle) 13 self.old self.new result }
+    {
+        let mut begun = Lexeme::Middle;
         'middles: while let Lexeme::Middle = begun {
             begun = self.stretch()?;
             if let Lexeme::EOF = begun {
-                return self.error(begun);
+                return self.error(&begun);
             }
         }
         self.begin_rule(begun)
@@ -117,17 +130,17 @@ impl<'a> Parser<'a> {
             | Lexeme::RBrace
             | Lexeme::Underscore
             | Lexeme::Circumflex
-            | Lexeme::Command(_) => self.error(lexeme),
+            | Lexeme::Command(_) => self.error(&lexeme),
         }
     }
 
     /// Puts a lexeme that has no meaning where it appears. It is marked as an error.
-    pub(crate) fn error(&mut self, lexeme: Lexeme<'a>) -> Result<State, AllocError>
+    pub(crate) fn error(&mut self, lexeme: &Lexeme<'a>) -> Result<State, AllocError>
         requires { HasTrees 0 self.old }
-        ensures holds { Proceeds (error_rule (lexeme_tok lexeme.entry)) 0 self.old self.new result }
+        ensures holds { Proceeds (error_rule (lexeme_tok lexeme.now)) 0 self.old self.new result }
         ensures step { IsStep 0 5 self.old self.new result }
     {
-        self.parts.put_error(lexeme)?;
+        self.parts.put_error(*lexeme)?;
         Ok(State::Core)
     }
 
@@ -258,10 +271,10 @@ pub(crate) fn fence_of(lexeme: Lexeme) -> Option<Option<Paren>>
 }
 
 /// Returns what a lexeme of the most frequent kinds makes. These are cores by themselves.
-pub(crate) fn symbol(lexeme: Lexeme<'_>) -> Option<Kind<'_>>
-    ensures { IfSome result (IsLeafOf lexeme.entry) }
+pub(crate) fn symbol<'a>(lexeme: &Lexeme<'a>) -> Option<Kind<'a>>
+    ensures { IfSome result (IsLeafOf lexeme.now) }
 {
-    match lexeme {
+    match *lexeme {
         Lexeme::Number(digits) => Some(Kind::Number(digits)),
         Lexeme::Letter(c, variant) => Some(Kind::Letter(c, variant)),
         Lexeme::Operator(c) => Some(Kind::Operator(c)),

@@ -40,8 +40,8 @@ impl GroupEnd {
 
     /// Whether the lexeme ends such a group.
     #[tactic(auto, using(crate::proofs::Stacks::one_bracket))]
-    pub(crate) fn is(self, lexeme: Lexeme) -> bool
-        ensures { IsTrue result ↔ (lexeme_tok lexeme.entry ≡ end_token self) }
+    pub(crate) fn is(self, lexeme: &Lexeme) -> bool
+        ensures { IsTrue result ↔ (lexeme_tok lexeme.now ≡ end_token self) }
     {
         match self {
             GroupEnd::Brace => matches!(lexeme, Lexeme::RBrace),
@@ -63,10 +63,10 @@ pub(crate) enum Due {
 
 impl Due {
     /// Whether the lexeme ends the group whose member is due.
-    pub(crate) fn ends_at(self, lexeme: Lexeme) -> bool
+    pub(crate) fn ends_at(self, lexeme: &Lexeme) -> bool
         ensures { MatchBool result
-            ((end : GroupEnd) × (self ≡ Due.Member end) × (lexeme_tok lexeme.entry ≡ end_token end))
-            ((place : List Tok) → MayBegin self (lexeme_tok lexeme.entry ∷ place)) }
+            ((end : GroupEnd) × (self ≡ Due.Member end) × (lexeme_tok lexeme.now ≡ end_token end))
+            ((place : List Tok) → MayBegin self (lexeme_tok lexeme.now ∷ place)) }
     {
         match self {
             Due::Member(end) => end.is(lexeme),
