@@ -1,7 +1,6 @@
 -- Each document has at most one cut, and a piece at its front is the first of it.
-use Rattle.std.proofs.Common.{◌≡◌, ◌≢◌, ℕ, List, [], ◌∷◌, ◌++◌, ◌⊎◌, ◌+◌, drop, eqb, length, true, true-eqb, refl, sym, ap, ◌∙◌, append_assoc, append-nil, ⊎_elim, subst}
-use Rattle.std.specs.{Borrow.Bor, Str.Pattern.FindsTextPrefix}
-use Rattle.std.specs.Prelude.{Option, Some, None, MatchOption, IfNone}
+use Rattle.std.proofs.Common.{◌≡◌, ◌≢◌, ℕ, List, [], ◌∷◌, ◌++◌, ◌⊎◌, eqb, length, true, true-eqb, refl, sym, ap, ◌∙◌, append_assoc, append-nil, ⊎_elim, subst}
+use Rattle.std.specs.Prelude.{Option, Some, None, IfNone}
 use Rattle.latex2mathml.specs.Pieces.{BeginsWithPiece, EndsBefore, IsFront, IsLongest}
 use Rattle.latex2mathml.specs.Documents.{Piece, prose, inline, display, piece_text, spelling, IsPlain, IsPiece, MayFollow, ArePieces, IsCut, HasCut}
 use Rattle.latex2mathml.proofs.PlainTexts.{plain_begins, plain_ends_once, body_plain, body_ends, ends_before_head}
@@ -102,7 +101,7 @@ no_display text inside body end e j p s n (ps, c) = go ps c.well_formed (c.spell
         ⊎_elim (λ nothing. w.0.0 (ends.0 ∙ nothing)) (λ other. other (spelling ps) (sym ends.1)) n
 
 -- no body that ends at a dollar sign follows a lone dollar sign
-pub no_inline : (text inside body end : List ℕ) → text ≡ 36 ∷ inside → ((rest : List ℕ) → text ≢ 36 ∷ 36 ∷ rest) → body ++ end ≡ inside → IsPlain body → EndsBefore body end → ((rest : List ℕ) → end ≢ 36 ∷ rest) → HasCut text → ⊥
+pub no_inline : (text inside body end : List ℕ) → text ≡ 36 ∷ inside → ((rest : List ℕ) → inside ≢ 36 ∷ rest) → body ++ end ≡ inside → IsPlain body → EndsBefore body end → ((rest : List ℕ) → end ≢ 36 ∷ rest) → HasCut text → ⊥
 no_inline text inside body end e lone j p s n (ps, c) = go ps c.well_formed (c.spelled ∙ e)
   where
     go : (ps : List Piece) → ArePieces ps → spelling ps ≡ 36 ∷ inside → ⊥
@@ -113,7 +112,7 @@ no_inline text inside body end e lone j p s n (ps, c) = go ps c.well_formed (c.s
         let q' : (u ++ 36 ∷ []) ++ spelling ps ≡ inside = cc in
         let ends = plain_ends_once u body (36 ∷ spelling ps) end (body_plain u w.0) p (body_ends u (spelling ps) w.0) s (sym (append_assoc u (36 ∷ []) (spelling ps)) ∙ q' ∙ sym j) in
         n (spelling ps) (sym ends.1)
-    go (display u ∷ ps) w q = lone ((u ++ 36 ∷ 36 ∷ []) ++ spelling ps) (e ∙ sym q)
+    go (display u ∷ ps) w q = lone ((u ++ 36 ∷ 36 ∷ []) ++ spelling ps) (cc)
 
 -- text that begins with no dollar sign begins with prose
 pub begins_with_prose : (text front rest : List ℕ) → text ≢ [] → ((more : List ℕ) → text ≢ 36 ∷ more) → front ++ rest ≡ text → IsPlain front → EndsBefore front rest → BeginsWithPiece text (prose front) rest
@@ -127,11 +126,6 @@ begins_with_prose text front rest some no_dollar j p s = record { is_piece = (ho
 pub if_none : {X : Type 0} {P : Type 0} (r : Option X) → P → IfNone r P
 if_none None p = p
 if_none (Some x) p = tt
-
--- what `strip_prefix` returns for two dollar signs
-pub strip_two : (s : List ℕ) (r : Option (Bor (List ℕ))) → MatchOption r (FindsTextPrefix (36 ∷ 36 ∷ []) s None) (λ x. (n : ℕ) × FindsTextPrefix (36 ∷ 36 ∷ []) s (Some n) × (x.now ≡ drop n s) × (length x.now + n ≡ length s)) → MatchOption r ((rest : List ℕ) → s ≢ 36 ∷ 36 ∷ rest) (λ x. s ≡ 36 ∷ 36 ∷ x.now)
-strip_two s None h = λ rest e. h rest e
-strip_two s (Some x) (n, f, is, len) = f.1 ∙ ap (λ l. 36 ∷ 36 ∷ l) (sym is)
 
 pub nothing_in : (s : List ℕ) → true ≡ eqb (length s) 0 → s ≡ []
 nothing_in [] e = refl

@@ -8,6 +8,7 @@ pub mod Outcomes
 pub mod PlainTexts
 pub mod ProseTexts
 pub mod Repeating
+pub mod Searches
 pub mod StreamLemmas
 pub mod Surrounding
 pub mod Walks

@@ -206,16 +206,12 @@ tells_dollars text true h = let at = h.0 refl in not_free text at.0 at.1 at.2
 tells_dollars text false h = free_text text (λ i inside e. (let k : false ≡ true = h.1 i inside e in cc))
 
 -- text without dollar signs is whole, unless it ends in a backslash
-free_whole : (text : List ℕ) → IsDollarFree text → ((front : List ℕ) → text ≢ front ++ 92 ∷ []) → IsWhole text
+pub free_whole : (text : List ℕ) → IsDollarFree text → ((front : List ℕ) → text ≢ front ++ 92 ∷ []) → IsWhole text
 free_whole [] h m = nothing
 free_whole (b ∷ []) h m = single (no_dollar b (free_first b [] h)) (λ is. m [] (ap (λ c. c ∷ []) is)) nothing
 free_whole (b ∷ c ∷ text) h m =
     ⊎_elim (λ is. pair is (free_whole text (free_rest c text (free_rest b (c ∷ text) h)) (λ front e. m (b ∷ c ∷ front) (ap (λ l. b ∷ c ∷ l) e))))
     (λ other. single (no_dollar b (free_first b (c ∷ text) h)) other (free_whole (c ∷ text) (free_rest b (c ∷ text) h) (λ front e. m (b ∷ front) (ap (λ l. b ∷ l) e)))) (backslash_or_other b)
-
--- text without dollar signs is whole if a test of its end finds no backslash
-pub unended : (text : List ℕ) (r : Bool) → ((front : List ℕ) → text ≡ front ++ 92 ∷ [] → r ≡ true) → r ≡ false → IsDollarFree text → IsWhole text
-unended text r ends is h = free_whole text h (λ front e. (let k : true ≡ false = sym (ends front e) ∙ is in cc))
 
 pub ends_whole : (text rest : List ℕ) → IsWhole text → EndsAt dollar rest → EndsBefore text rest
 ends_whole text [] w e = tt

@@ -1,5 +1,5 @@
 -- What the cutter's functions return, in terms of the definitions of documents: the pieces, one at a time.
-use Rattle.std.specs.Prelude.{◌≡◌, ℕ, List, [], ◌∷◌, ◌++◌, Option, Some, None, Result, Ok, Err}
+use Rattle.std.specs.Prelude.{◌≡◌, ◌≢◌, ◌<◌, ◌≤◌, ℕ, List, [], ◌∷◌, ◌++◌, Option, Some, None, Result, Ok, Err, slice_index}
 use Rattle.latex2mathml.specs.Documents.{Piece, prose, inline, display, piece_text, spelling, IsWhole, IsPiece, IsCut, HasNoCut}
 use Rattle.latex2mathml_grammar.specs.Dollars.{dollar}
 use Rattle.latex2mathml.specs.declared.document.NoCut.{NoCut}
@@ -22,6 +22,17 @@ EndsAt b (c ∷ rest) = c ≡ b
 abbrev pub EndsBefore : List ℕ → List ℕ → Type 0
 EndsBefore text [] = Unit {0}
 EndsBefore text (b ∷ rest) = (b ≡ dollar) × IsWhole text
+
+-- no byte from one place up to another is a dollar sign
+abbrev pub HoldsNoDollar : List ℕ → ℕ → ℕ → Type 0
+HoldsNoDollar text from to = (i : ℕ) → from ≤ i → i < to → slice_index text i ≢ dollar
+
+-- here is the first dollar sign of those from a place up to another
+pub record IsFirstDollar (text : List ℕ) (from to here : ℕ) : Type 0 where
+  pub low : from ≤ here
+  pub high : here < to
+  pub none_before : HoldsNoDollar text from here
+  pub is_dollar : slice_index text here ≡ dollar
 
 -- a piece before this rest can be no longer: prose ends as plain text does, and a formula ends with its dollar signs
 abbrev pub IsLongest : Piece → List ℕ → Type 0

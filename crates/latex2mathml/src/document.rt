@@ -6,8 +6,10 @@ ghost use Rattle.latex2mathml.specs.Documents.{HasCut, HasNoCut, IsPlain};
 
 pub(crate) mod convert;
 pub(crate) mod plain;
+pub(crate) mod search;
 
 use crate::document::plain::Plain;
+use crate::document::search::{after_dollar, dollar_place, ends_in_backslash};
 
 /// A piece of a document, as a slice of it, without the dollar signs around it.
 #[derive(Clone, Copy)]
@@ -80,21 +82,21 @@ fn first_piece(text: &str) -> Option<(Piece<'_>, &str)>
     ensures piece { IfSome result (λ found. BeginsWith text.now found.0 found.1.now) }
     ensures none { IfNone result (HasNoCut text.now) }
 {
-    if let Some(inside) = text.strip_prefix("$$") {
-        let (body, end) = until_dollar(inside);
-        let rest = end.strip_prefix("$$")?;
-        if body.text.is_empty() {
-            return None;
-        }
-        Some((Piece::Display(body.text), rest))
-    } else if let Some(inside) = text.strip_prefix('$') {
-        let (body, end) = until_dollar(inside);
-        let rest = end.strip_prefix('$')?;
-        Some((Piece::Inline(body.text), rest))
-    } else {
+    let Some(inside) = after_dollar(text) else {
         let (prose, rest) = until_dollar(text);
-        Some((Piece::Prose(prose), rest))
+        return Some((Piece::Prose(prose), rest));
+    };
+    let Some(inside_both) = after_dollar(inside) else {
+        let (body, end) = until_dollar(inside);
+        let rest = after_dollar(end)?;
+        return Some((Piece::Inline(body.text), rest));
+    };
+    let (body, end) = until_dollar(inside_both);
+    let rest = after_dollar(after_dollar(end)?)?;
+    if body.text.is_empty() {
+        return None;
     }
+    Some((Piece::Display(body.text), rest))
 }
 
 /// Splits a text at its first dollar sign that no backslash takes, or at its end.
@@ -106,7 +108,7 @@ fn until_dollar(text: &str) -> (Plain<'_>, &str)
 {
     let (front, rest) = up_to_dollar(text);
     // A backslash can take the dollar sign only from the place before it. Most texts have none there.
-    if front.ends_with('\\') {
+    if ends_in_backslash(front) {
         return by_units(text);
     }
     let plain = Plain {
@@ -123,10 +125,7 @@ fn up_to_dollar(text: &str) -> (&str, &str)
     ensures free { IsDollarFree result.0.now }
     ensures ends { EndsAt dollar result.1.now }
 {
-    match text.find('$') {
-        Some(place) => text.split_at(place),
-        None => text.split_at(text.len()),
-    }
+    text.split_at(dollar_place(text))
 }
 
 /// Splits a text as `until_dollar` does, unit by unit.
