@@ -3,7 +3,6 @@ ghost use Rattle.std.specs.Prelude.{◌≡◌, ◌⊎◌, ℕ, ◌++◌, [], Lis
 ghost use Rattle.latex2mathml.specs.Pieces.{piece_of};
 ghost use Rattle.latex2mathml.specs.Documents.{HasCut, HasNoCut, IsAnswer, IsPiece, IsPlain};
 ghost use Rattle.latex2mathml.specs.Documents.{IsRefusal, PieceAnswer, PieceRefuses, prose_answer};
-ghost use Rattle.latex2mathml_grammar.specs.Rendering.{IsFormulaRefusal, IsRendering};
 ghost use Rattle.latex2mathml_trees.specs.Texts.{Appends};
 ghost use Rattle.latex2mathml_tokens.specs.Refusal.{IfRefused, InvalidNumberOfDollarSigns, refusal_of};
 
@@ -77,7 +76,6 @@ fn refusal(document: &str, error: LatexError) -> LatexError
 }
 
 /// Appends the answer of a piece to the text.
-#[inline(always)]
 fn append_piece<'a>(
     formulas: &mut Converter<'a>,
     text: &mut String,
@@ -90,29 +88,9 @@ fn append_piece<'a>(
 {
     match piece {
         Piece::Prose(prose) => Ok(append_prose(text, prose)?),
-        Piece::Inline(body) => append_formula(formulas, text, body, DisplayStyle::Inline),
-        Piece::Display(body) => append_formula(formulas, text, body, DisplayStyle::Block),
+        Piece::Inline(body) => formulas.append(text, body, DisplayStyle::Inline),
+        Piece::Display(body) => formulas.append(text, body, DisplayStyle::Block),
     }
-}
-
-/// Appends the markup of a formula to the text.
-#[inline(always)]
-fn append_formula<'a>(
-    formulas: &mut Converter<'a>,
-    text: &mut String,
-    body: &'a str,
-    display: DisplayStyle,
-) -> Result<(), LatexError>
-    ensures answer { OnOk result ((answer : List ℕ) × IsRendering body.now display answer
-        × (string_bytes text.new ≡ string_bytes text.old ++ answer)) }
-    ensures refusal { IfRefused result (IsFormulaRefusal body.now) }
-{
-    let outcome = formulas.append(text, body, display);
-    // Errors are large. This moves one only if there is one.
-    if outcome.is_err() {
-        return outcome;
-    }
-    Ok(())
 }
 
 /// Appends prose to the text, with a character reference for each dollar sign that a backslash takes.
