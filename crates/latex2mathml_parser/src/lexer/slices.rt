@@ -99,6 +99,7 @@ pub(crate) fn stands_alone(c: char) -> bool
 }
 
 /// Returns the lexeme of a character that is a token by itself.
+#[inline(always)]
 pub(crate) fn character<'a>(c: char) -> Lexeme<'a>
     requires { IsFalse (begins_longer c) }
     ensures lexeme { lexeme_tok result ≡ character_token c }
