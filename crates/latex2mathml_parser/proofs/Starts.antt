@@ -1,18 +1,19 @@
 -- What the lexer takes from the slices that are left of a text, and what it leaves where it only looks.
-use Rattle.std.proofs.Common.{◌≡◌, ◌≢◌, ℕ, ◌+◌, ◌*◌, ◌^◌, ◌<◌, ◌≤◌, Bool, true, false, not, ◌||◌, List, [], ◌∷◌, ◌++◌, drop, drop-drop, eqb, length, refl, sym, ap, subst, ◌∙◌, Some, if◌then◌else◌, arith, rules}
+use Rattle.std.proofs.Common.{◌≡◌, ◌≢◌, ℕ, ◌+◌, ◌-◌, ◌*◌, ◌^◌, ◌<◌, ◌≤◌, Bool, true, false, not, ◌||◌, List, [], ◌∷◌, ◌++◌, drop, drop-drop, eqb, length, refl, sym, ap, subst, ◌∙◌, Some, if◌then◌else◌, arith, rules}
 use Rattle.std.proofs.lemmas.Bool.{and_right, cond_both, not-true, or_parts}
 use Rattle.std.proofs.{lemmas.Bool.Decides.nat_tests, lemmas.List.Elements.All-cons, lemmas.List.Elements.All-nil}
 use Rattle.std.proofs.lemmas.Str.{encodes-chars, length-le-encodes}
-use Rattle.std.specs.{Char.is_ascii_alphabetic, Str.byte, Str.chars, Str.IsUtf8}
+use Rattle.std.specs.Char.{is_ascii_alphabetic, is_ascii_digit}
+use Rattle.std.specs.Str.{byte, chars, encode_utf8_all, IsUtf8}
 use Rattle.latex2mathml_grammar.specs.Characters.{head, is_space}
 use Rattle.latex2mathml_grammar.specs.{Counts.backslashes, Counts.begins_with_backslash, Cutting.slice, Cutting.slices_of, Grammar.first_or_end}
 use Rattle.latex2mathml_grammar.specs.Beginnings.{BeginsWith, IsLongestRun}
-use Rattle.latex2mathml_parser.specs.{Lexing.IsStart, Marks.rest_of}
+use Rattle.latex2mathml_parser.specs.{Lexing.IsStart, Lexing.is_lone, Marks.rest_of}
 use Rattle.latex2mathml_grammar.specs.Spelling.{Slice, SpellsAt, IsFirstSlice, begins_longer, character_token, takes_digit}
 use Rattle.latex2mathml_parser.specs.Unread.{Takes, unread_in, token_list}
-use Rattle.latex2mathml_tokens.specs.Tok.{Tok, EOF, Letter}
+use Rattle.latex2mathml_tokens.specs.Tok.{Tok, EOF, Letter, Number}
 use Rattle.latex2mathml_tokens.specs.declared.attribute.Variant.TheVariants.{Italic}
-use Rattle.latex2mathml_parser.proofs.{Fronts.no_characters, Spellings.one_character}
+use Rattle.latex2mathml_parser.proofs.{Fronts.no_characters, Spellings.lone_digit, Spellings.one_character}
 use Rattle.latex2mathml_grammar.proofs.OneList.{begun, cut_step, one_cut, only_space}
 use Rattle.latex2mathml_grammar.proofs.{Counting.count_one, Tokenizing.spells_dark, Tokenizing.step_shortens}
 
@@ -87,15 +88,20 @@ taken_uncounted takes alone text start c after t rest starts e dark begins no_di
     let none : backslash_count start ≡ 0 = rw e (grind (arith, nat_tests)) in
     taken takes alone false text start t 0 rest starts begins (sym no_digit) (omega arith) (omega arith)
 
+letter_token : (c : ℕ) → is_ascii_alphabetic c ≡ true → Letter c Italic ≡ character_token c
+letter_token c h = grind (arith, nat_tests)
+
+dark_letter : (c : ℕ) → is_ascii_alphabetic c ≡ true → (begins_longer c ≡ false) × (is_space c ≡ false)
+dark_letter c h = (grind (arith, nat_tests), grind (arith, nat_tests))
+
+dark_digit : (c : ℕ) → is_ascii_digit c ≡ true → (is_space c ≡ false) × (c ≢ byte "\\")
+dark_digit c h = (grind (arith, nat_tests), λ e. absurd (let digit : is_ascii_digit (byte "\\") ≡ true = subst (λ x. is_ascii_digit x ≡ true) e h in cc))
+
 -- a slice that is one character, a token by itself, is taken
 pub taken_character : (takes : Bool) (text : List ℕ) (c : ℕ) (after : List ℕ) (t : Tok) → text ≡ c ∷ after → not (begins_longer c || is_space c) ≡ true → t ≡ character_token c → takes_digit (Some t) ≡ false → IsTaken takes text t 0 false after
 taken_character takes text c after t e alone f no_digit =
     let parts = or_parts (begins_longer c) (is_space c) (not-true _ alone) in
     taken_uncounted takes takes text text c after t after (starts_here takes text c after e parts.1) e (λ b. cc (ap begins_longer b, parts.0)) (one_character takes text c after t e parts.0 parts.1 f) no_digit
-
--- an ASCII letter is a token by itself
-pub letter_alone : (c : ℕ) → is_ascii_alphabetic c ≡ true → (not (begins_longer c || is_space c) ≡ true) × (character_token c ≡ Letter c Italic)
-letter_alone c e = (grind (arith, nat_tests), grind (arith, nat_tests))
 
 -- a slice that is a command is taken
 pub taken_command : (takes alone takes' : Bool) (text start : List ℕ) (c : ℕ) (after : List ℕ) (t : Tok) (n : ℕ) (rest : List ℕ) → IsStart takes text start alone → start ≡ c ∷ after → c ≡ byte "\\" → BeginsWith alone (byte "\\" ∷ after) t rest → takes' ≡ takes_digit (Some t) → 1 ≤ n → n ≤ 9 → IsTaken takes text t n takes' rest
@@ -103,6 +109,22 @@ taken_command takes alone takes' text start c after t n rest starts e backslash 
     let whole : start ≡ byte "\\" ∷ after = e ∙ ap (λ x. x ∷ after) backslash in
     let one : backslash_count start ≡ 1 = ap backslash_count whole in
     taken takes alone takes' text start t n rest starts (subst (λ s. BeginsWith alone s t rest) (sym whole) begins) f (omega arith) (omega arith)
+
+-- a letter is taken
+pub taken_letter : (takes : Bool) (text : List ℕ) (c : ℕ) (after : List ℕ) → text ≡ c ∷ after → is_ascii_alphabetic c ≡ true → IsTaken takes text (Letter c Italic) 0 false after
+taken_letter takes text c after e letter =
+    taken_character takes text c after (Letter c Italic) e (rw ((dark_letter c letter).0, (dark_letter c letter).1) refl) (letter_token c letter) refl
+
+-- a digit that is a number by itself is taken
+pub taken_digit : (takes : Bool) (text : List ℕ) (c : ℕ) (after bs : List ℕ) → text ≡ c ∷ after → is_ascii_digit c ≡ true → is_lone takes after ≡ true → ((w : List ℕ) → text ≡ w ++ after → bs ≡ encode_utf8_all w) → IsTaken takes text (Number bs) 0 false after
+taken_digit takes text c after bs e d lone bytes =
+    let dark : (is_space c ≡ false) × (c ≢ byte "\\") = dark_digit c d in
+    taken_uncounted takes takes text text c after (Number bs) after (starts_here takes text c after e dark.0) e dark.1 (lone_digit takes text c after bs e d lone bytes) refl
+
+-- a command is taken, for which 1 to 9 names were compared
+pub command_taken : (takes alone takes' : Bool) (text start : List ℕ) (c : ℕ) (after : List ℕ) (t : Tok) (rest : List ℕ) (comparisons comparisons' : ℕ) → IsStart takes text start alone → start ≡ c ∷ after → c ≡ byte "\\" → ((alone : Bool) → BeginsWith alone (byte "\\" ∷ after) t rest) → takes' ≡ takes_digit (Some t) → comparisons + 1 ≤ comparisons' → comparisons' ≤ comparisons + 9 → (n : ℕ) × IsTaken takes text t n takes' rest × (comparisons' ≡ comparisons + n)
+command_taken takes alone takes' text start c after t rest comparisons comparisons' starts e backslash begins f least most =
+    (comparisons' - comparisons, taken_command takes alone takes' text start c after t (comparisons' - comparisons) rest starts e backslash (begins alone) f (omega arith) (omega arith), omega arith)
 
 -- the token of the slice is taken
 pub token_taken : (takes : Bool) (text : List ℕ) (t : Tok) (n : ℕ) (takes' : Bool) (rest : List ℕ) (tokens tokens' comparisons comparisons' : ℕ) → IsTaken takes text t n takes' rest → t ≢ EOF → tokens' ≡ tokens + 1 → comparisons' ≡ comparisons + n → Takes t (unread_in (slices_of takes text) tokens comparisons) (unread_in (slices_of takes' rest) tokens' comparisons')

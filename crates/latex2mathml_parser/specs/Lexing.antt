@@ -1,7 +1,7 @@
 -- What the lexer's functions return, in the words of the spelling.
-use Rattle.std.specs.Prelude.{◌≡◌, ℕ, ◌&&◌, Bool, List, ◌∷◌, ◌++◌}
+use Rattle.std.specs.Prelude.{◌≡◌, ℕ, ◌&&◌, ◌||◌, Bool, true, not, List, [], ◌∷◌, ◌++◌}
 use Rattle.std.specs.{Char.is_ascii_digit, Char.is_ascii_alphabetic, Str.byte, Str.encode_utf8_all}
-use Rattle.latex2mathml_grammar.specs.{Beginnings.IsLongestRun, Characters.head, Characters.is_empty, Characters.is_space, Spelling.SpellsAt}
+use Rattle.latex2mathml_grammar.specs.{Beginnings.IsLongestRun, Characters.head, Characters.is_empty, Characters.is_space, Spelling.SpellsAt, Spelling.is_digit_or_period}
 use Rattle.latex2mathml_parser.specs.declared.lexer.characters.Class.{Class}
 use Rattle.latex2mathml_tokens.specs.Commands.{command_token}
 use Rattle.latex2mathml_parser.specs.declared.lexer.characters.Class.TheVariants.{Space, Digit, Letter}
@@ -17,6 +17,11 @@ in_class Letter c = is_ascii_alphabetic c
 abbrev pub IsStart : Bool → List ℕ → List ℕ → Bool → Type 0
 IsStart takes text start alone =
     (space : List ℕ) × IsLongestRun is_space text space start × (alone ≡ (takes && is_empty space))
+
+-- whether a digit is a number by itself, where this text follows it. `alone` says that any digit is one.
+abbrev pub is_lone : Bool → List ℕ → Bool
+is_lone alone [] = true
+is_lone alone (c ∷ cs) = alone || not (is_digit_or_period c)
 
 -- the text is what follows the backslash of a command, and then the rest
 abbrev pub BeginsWithName : List ℕ → List ℕ → Type 0

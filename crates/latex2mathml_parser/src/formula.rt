@@ -38,7 +38,8 @@ pub(crate) fn append_math(
 {
     append_opening_tag(display, markup)?;
     'nodes: loop {
-        let lexeme = parser.lexer.take();
+        let mut lexeme = Lexeme::EOF;
+        parser.lexer.take_into(&mut lexeme);
         if let Lexeme::EOF = lexeme {
             break 'nodes;
         }

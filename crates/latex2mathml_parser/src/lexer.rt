@@ -11,9 +11,10 @@ pub(crate) mod characters;
 pub(crate) mod mark;
 mod slices;
 
-use crate::lexer::characters::{first_ascii, is_space};
+use crate::lexer::characters::{before, first_ascii, is_space};
 use crate::lexer::mark::{Mark, Sign};
-use crate::lexer::slices::{character, command, find_start, slice_at, stands_alone, takes_digit};
+use crate::lexer::slices::{character, command, find_start, is_lone, slice_at, stands_alone};
+use latex2mathml_tokens::attribute::Variant;
 use latex2mathml_tokens::lexeme::Lexeme;
 use std::alloc::{AllocError, Global};
 use std::marker::Model;
@@ -59,26 +60,6 @@ impl<'a> Lexer<'a> {
         }
     }
 
-    /// Takes the next lexeme and counts it, or returns `EOF` if none is left. Every lexeme is taken here.
-    #[inline(always)]
-    pub(crate) fn take(&mut self) -> Lexeme<'a>
-        ensures { Takes (lexeme_tok result) self.old self.new }
-    {
-        if self.rest.is_empty() {
-            return Lexeme::EOF;
-        }
-        // Most lexemes are one ASCII character that is a token by itself.
-        if let Some((c, after)) = first_ascii(self.rest) {
-            if stands_alone(c) {
-                self.rest = after;
-                self.takes_digit = false;
-                self.tokens += 1;
-                return character(c);
-            }
-        }
-        self.take_any()
-    }
-
     /// Takes the next lexeme and counts it, if it is an ASCII letter that no white space precedes.
     #[inline(always)]
     pub(crate) fn take_letter(&mut self) -> Option<char>
@@ -95,27 +76,88 @@ impl<'a> Lexer<'a> {
         Some(c)
     }
 
-    /// Takes the next lexeme and counts it, whatever it is. Only `take` calls this.
-    #[inline(never)]
-    fn take_any(&mut self) -> Lexeme<'a>
+    /// Takes the next lexeme and counts it, or returns `EOF` if none is left.
+    #[inline(always)]
+    pub(crate) fn take(&mut self) -> Lexeme<'a>
         ensures { Takes (lexeme_tok result) self.old self.new }
+    {
+        let mut lexeme = Lexeme::EOF;
+        self.take_into(&mut lexeme);
+        lexeme
+    }
+
+    /// Takes the next lexeme and counts it, or writes `EOF` if none is left. A lexeme that is returned is copied in each function
+    /// that returns it, so this writes it where it is wanted.
+    #[inline(always)]
+    pub(crate) fn take_into(&mut self, lexeme: &mut Lexeme<'a>)
+        ensures { Takes (lexeme_tok lexeme.new) self.old self.new }
+    {
+        // Letters come most often.
+        match self.take_letter() {
+            Some(c) => *lexeme = Lexeme::Letter(c, Variant::Italic),
+            None => self.take_other(lexeme),
+        }
+    }
+
+    /// Does the same, whatever comes next.
+    #[inline(never)]
+    pub(crate) fn take_other(&mut self, lexeme: &mut Lexeme<'a>)
+        ensures { Takes (lexeme_tok lexeme.new) self.old self.new }
+    {
+        if let Some((c, after)) = first_ascii(self.rest) {
+            if c == '\\' {
+                self.tokens += 1;
+                command(
+                    after,
+                    lexeme,
+                    &mut self.rest,
+                    &mut self.takes_digit,
+                    &mut self.comparisons,
+                );
+                return;
+            }
+            if stands_alone(c) {
+                self.rest = after;
+                self.takes_digit = false;
+                self.tokens += 1;
+                character(c, lexeme);
+                return;
+            }
+            if c.is_ascii_digit() && is_lone(after, self.takes_digit) {
+                *lexeme = Lexeme::Number(before(self.rest, after));
+                self.rest = after;
+                self.takes_digit = false;
+                self.tokens += 1;
+                return;
+            }
+        }
+        self.take_any(lexeme);
+    }
+
+    /// Does the same as `take_other`, also where white space, a colon, a longer number or a character that is not ASCII
+    /// comes next.
+    #[inline(never)]
+    fn take_any(&mut self, lexeme: &mut Lexeme<'a>)
+        ensures { Takes (lexeme_tok lexeme.new) self.old self.new }
     {
         let start = find_start(self.rest, self.takes_digit);
         let Some((c, after)) = start.first else {
-            return Lexeme::EOF;
+            *lexeme = Lexeme::EOF;
+            return;
         };
         self.tokens += 1;
         if c == '\\' {
-            let (lexeme, rest, compared) = command(after);
-            self.rest = rest;
-            self.takes_digit = takes_digit(lexeme);
-            self.comparisons += u128::from(compared);
-            return lexeme;
+            command(
+                after,
+                lexeme,
+                &mut self.rest,
+                &mut self.takes_digit,
+                &mut self.comparisons,
+            );
+            return;
         }
-        let (lexeme, rest) = slice_at(start.text, c, after, start.alone);
-        self.rest = rest;
+        self.rest = slice_at(start.text, c, after, start.alone, lexeme);
         self.takes_digit = false;
-        lexeme
     }
 
     /// Skips the next token, if one is left.

@@ -168,7 +168,8 @@ impl<'a> Parser<'a> {
         ensures holds { Keeps State.Next self.old self.new result }
         ensures step { IsStep 0 (weight_of State.Next self.old) self.old self.new result }
     {
-        let lexeme = self.lexer.take();
+        let mut lexeme = Lexeme::EOF;
+        self.lexer.take_other(&mut lexeme);
         if let Lexeme::EOF = lexeme {
             return self.at_end();
         }

@@ -1,10 +1,11 @@
 //! The slice at the start of a text, and the lexeme that it is.
-ghost use Rattle.std.specs.Prelude.{◌≡◌, ◌≢◌, ◌≤◌, ◌∷◌, ◌||◌, ℕ, [], Bool, false, not, IsFalse, IsTrue, Some, MatchOption};
+ghost use Rattle.std.specs.Prelude.{◌≡◌, ◌≢◌, ◌≤◌, ◌<◌, ◌+◌, ◌^◌, ◌∷◌, ◌||◌, [], Bool, false, not, IsFalse, Some, MatchOption};
 ghost use Rattle.std.specs.{Char.is_ascii_digit, Str.byte, Str.chars};
 ghost use Rattle.latex2mathml_grammar.specs.{Characters.Begins, Characters.is_space, Spelling.begins_longer, Spelling.character_token};
 ghost use Rattle.latex2mathml_grammar.specs.Beginnings.{BeginsWith, BeginsWithNumber};
 ghost use Rattle.latex2mathml_parser.specs.Lexing.{BeginsWithName, IsStart};
 ghost use Rattle.latex2mathml_grammar.specs.Spelling;
+ghost use Rattle.latex2mathml_parser.specs.Lexing;
 ghost use Rattle.latex2mathml_tokens.specs.Lexemes.{lexeme_tok};
 
 use crate::lexer::characters::{
@@ -52,7 +53,7 @@ pub(crate) fn find_start<'a>(text: &'a str, takes: bool) -> Start<'a>
 }
 
 /// Whether a digit that directly follows the lexeme is a number of its own.
-pub(crate) fn takes_digit(lexeme: Lexeme<'_>) -> bool
+fn takes_digit(lexeme: Lexeme<'_>) -> bool
     ensures { result ≡ Spelling.takes_digit (Some (lexeme_tok lexeme.entry)) }
 {
     match lexeme {
@@ -61,85 +62,92 @@ pub(crate) fn takes_digit(lexeme: Lexeme<'_>) -> bool
     }
 }
 
-/// Returns the lexeme at the start of the text and what follows it, where the text is `c` followed by `after`, and `c` is
-/// not a backslash. `alone` says that a digit is a number of its own.
+/// Writes the lexeme at the start of the text, and returns what follows it, where the text is `c` followed by `after`, and
+/// `c` is not a backslash. `alone` says that a digit is a number of its own.
 pub(crate) fn slice_at<'a>(
     text: &'a str,
     c: char,
     after: &'a str,
     alone: bool,
-) -> (Lexeme<'a>, &'a str)
+    lexeme: &mut Lexeme<'a>,
+) -> &'a str
     requires starts { chars text.now ≡ c ∷ chars after.now }
     requires no_space { IsFalse (is_space c) }
     requires no_backslash { c ≢ byte "\\" }
-    ensures lexeme { BeginsWith alone (chars text.now) (lexeme_tok result.0) (chars result.1.now) }
-    ensures no_digit { IsFalse (Spelling.takes_digit (Some (lexeme_tok result.0))) }
+    ensures lexeme { BeginsWith alone (chars text.now) (lexeme_tok lexeme.new) (chars result.now) }
+    ensures no_digit { IsFalse (Spelling.takes_digit (Some (lexeme_tok lexeme.new))) }
 {
     if c.is_ascii_digit() {
-        if alone {
-            return (Lexeme::Number(before(text, after)), after);
+        if is_lone(after, alone) {
+            *lexeme = Lexeme::Number(before(text, after));
+            return after;
         }
-        let rest = after_number(text, after);
-        return (Lexeme::Number(before(text, rest)), rest);
+        let rest = skip_number(text);
+        *lexeme = Lexeme::Number(before(text, rest));
+        return rest;
     }
     if c == ':' {
         return match after_char(after, '=') {
-            Some(rest) => (Lexeme::Paren(Paren::Assign), rest),
-            None => (Lexeme::Operator(':'), after),
+            Some(rest) => {
+                *lexeme = Lexeme::Paren(Paren::Assign);
+                rest
+            }
+            None => {
+                *lexeme = Lexeme::Operator(':');
+                after
+            }
         };
     }
-    (character(c), after)
+    character(c, lexeme);
+    after
 }
 
 /// Whether the character is a slice, whatever surrounds it.
 pub(crate) fn stands_alone(c: char) -> bool
     ensures { result ≡ not (begins_longer c || is_space c) }
 {
-    !(c.is_ascii_digit() || c == '\\' || c == ':' || is_space(c))
+    // All others are in front of the backslash, in the order of ASCII.
+    c > '\\' || !(c.is_ascii_digit() || c == '\\' || c == ':' || is_space(c))
 }
 
-/// Returns the lexeme of a character that is a token by itself.
+/// Writes the lexeme of a character that is a token by itself.
 #[inline(always)]
-pub(crate) fn character<'a>(c: char) -> Lexeme<'a>
+pub(crate) fn character(c: char, lexeme: &mut Lexeme<'_>)
     requires { IsFalse (begins_longer c) }
-    ensures lexeme { lexeme_tok result ≡ character_token c }
-    ensures no_digit { IsFalse (Spelling.takes_digit (Some (lexeme_tok result))) }
+    ensures lexeme { lexeme_tok lexeme.new ≡ character_token c }
+    ensures no_digit { IsFalse (Spelling.takes_digit (Some (lexeme_tok lexeme.new))) }
 {
-    if c.is_ascii_alphabetic() {
-        return Lexeme::Letter(c, Variant::Italic);
-    }
     match c {
-        '=' | '<' | '>' | '+' | '-' | '*' | '/' => Lexeme::Operator(c),
-        ';' | ',' | '.' | '!' | '\'' => Lexeme::Operator(c),
-        '(' => Lexeme::Paren(Paren::LeftRound),
-        ')' => Lexeme::Paren(Paren::RightRound),
-        '[' => Lexeme::Paren(Paren::LeftSquare),
-        ']' => Lexeme::Paren(Paren::RightSquare),
-        '|' => Lexeme::Paren(Paren::Bar),
-        '{' => Lexeme::LBrace,
-        '}' => Lexeme::RBrace,
-        '_' => Lexeme::Underscore,
-        '^' => Lexeme::Circumflex,
-        '&' => Lexeme::Ampersand,
-        '\u{0}' => Lexeme::Illegal('\u{0}'),
-        c => Lexeme::Letter(c, Variant::Normal),
+        '=' | '<' | '>' | '+' | '-' | '*' | '/' => *lexeme = Lexeme::Operator(c),
+        ';' | ',' | '.' | '!' | '\'' => *lexeme = Lexeme::Operator(c),
+        '(' => *lexeme = Lexeme::Paren(Paren::LeftRound),
+        ')' => *lexeme = Lexeme::Paren(Paren::RightRound),
+        '[' => *lexeme = Lexeme::Paren(Paren::LeftSquare),
+        ']' => *lexeme = Lexeme::Paren(Paren::RightSquare),
+        '|' => *lexeme = Lexeme::Paren(Paren::Bar),
+        '{' => *lexeme = Lexeme::LBrace,
+        '}' => *lexeme = Lexeme::RBrace,
+        '_' => *lexeme = Lexeme::Underscore,
+        '^' => *lexeme = Lexeme::Circumflex,
+        '&' => *lexeme = Lexeme::Ampersand,
+        '\u{0}' => *lexeme = Lexeme::Illegal('\u{0}'),
+        c if c.is_ascii_alphabetic() => *lexeme = Lexeme::Letter(c, Variant::Italic),
+        c => *lexeme = Lexeme::Letter(c, Variant::Normal),
     }
 }
 
-/// Returns what follows the number at the start of the text, where `after` follows its first digit.
+/// Whether a digit is a number by itself, where `after` follows it. `alone` says that any digit is.
 #[inline(always)]
-fn after_number<'a>(text: &'a str, after: &'a str) -> &'a str
-    requires { (c : ℕ) × (chars text.now ≡ c ∷ chars after.now) × IsTrue (is_ascii_digit c) }
-    ensures { BeginsWithNumber (chars text.now) (chars result.now) }
+pub(crate) fn is_lone(after: &str, alone: bool) -> bool
+    ensures { result ≡ Lexing.is_lone alone (chars after.now) }
 {
-    // Most numbers are one digit.
-    let Some((c, _)) = first_ascii(after) else {
-        return after;
-    };
-    if c.is_ascii_digit() || c == '.' {
-        return skip_number(text);
+    if alone {
+        return true;
     }
-    after
+    let Some((c, _)) = first_ascii(after) else {
+        return true;
+    };
+    !(c.is_ascii_digit() || c == '.')
 }
 
 /// Returns what follows the number at the start of the text.
@@ -155,17 +163,30 @@ fn skip_number(text: &str) -> &str
     }
 }
 
-/// Returns the lexeme of the command, what follows it, and how many names were compared. The text begins after the
-/// backslash.
-pub(crate) fn command<'a>(text: &'a str) -> (Lexeme<'a>, &'a str, u64)
-    ensures lexeme { (alone : Bool) →
-        BeginsWith alone (byte "\\" ∷ chars text.now) (lexeme_tok result.0) (chars result.1.now) }
-    ensures at_least { 1 ≤ result.2 }
-    ensures at_most { result.2 ≤ 9 }
+/// Writes the lexeme of the command, what follows it, and whether a digit that directly follows is a number of its own,
+/// and counts how many names were compared. The text begins after the backslash.
+#[inline(never)]
+pub(crate) fn command<'a>(
+    text: &'a str,
+    lexeme: &mut Lexeme<'a>,
+    rest: &mut &'a str,
+    alone: &mut bool,
+    comparisons: &mut u128,
+)
+    requires room { comparisons.old + 9 < 2 ^ 128 }
+    ensures lexeme { (alone : Bool) → BeginsWith alone
+        (byte "\\" ∷ chars text.now) (lexeme_tok lexeme.new) (chars rest.new.now) }
+    ensures alone { alone.new ≡ Spelling.takes_digit (Some (lexeme_tok lexeme.new)) }
+    ensures at_least { comparisons.old + 1 ≤ comparisons.new }
+    ensures at_most { comparisons.new ≤ comparisons.old + 9 }
 {
-    let rest = skip_command_name(text);
-    let (lexeme, compared) = Lexeme::of_command(before(text, rest));
-    (lexeme, rest, compared)
+    let behind = skip_command_name(text);
+    let name = before(text, behind);
+    *rest = behind;
+    let (found, compared) = Lexeme::of_command(name);
+    *alone = takes_digit(found);
+    *comparisons += u128::from(compared);
+    *lexeme = found;
 }
 
 /// Returns what follows the name of the command. The text begins after the backslash.

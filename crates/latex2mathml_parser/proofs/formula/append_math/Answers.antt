@@ -15,12 +15,12 @@ nodes-init c = record {
 
 pub nodes-preserved : goal.nodes-preserved
 nodes-preserved c =
-    let found = stood c.take-lexeme.result c.nodes.parser.lexer.list c.take-lexeme.new.self.list c.in_default.not-EOF c.take-lexeme.ensures.token c.take-lexeme.ensures.list in
+    let found = stood c.take_into.new.lexeme c.nodes.parser.lexer.list c.take_into.new.self.list c.in_default.not-EOF c.take_into.ensures.token c.take_into.ensures.list in
     let read = rw c.if-not-is_read.false at (c.in_ok-is_read.ensures.node _ found) in
     record {
       closed = read.0;
       nodes = one_node found read.1.1 read.1.2 c.nodes.invariant.nodes;
-      counted = counted_on 0 0 _ _ _ c.nodes.invariant.counted (counted_taken _ c.nodes.parser _ _ found c.take-lexeme.ensures.counts refl c.in_ok-is_read.ensures.counted);
+      counted = counted_on 0 0 _ _ _ c.nodes.invariant.counted (counted_taken _ c.nodes.parser _ _ found c.take_into.ensures.counts refl c.in_ok-is_read.ensures.counted);
     }
 
 pub nodes-smaller : goal.nodes-smaller
@@ -28,19 +28,19 @@ nodes-smaller c = grind (arith, stood)
 
 pub returns-in_err-is_read-clause-counted : goal.returns-in_err-is_read-clause-counted
 returns-in_err-is_read-clause-counted c =
-    let found = stood _ _ _ c.in_default.not-EOF c.take-lexeme.ensures.token c.take-lexeme.ensures.list in
-    counted_on 0 0 _ _ _ c.nodes.invariant.counted (counted_taken _ _ _ _ found c.take-lexeme.ensures.counts refl c.in_err-is_read.ensures.counted)
+    let found = stood _ _ _ c.in_default.not-EOF c.take_into.ensures.token c.take_into.ensures.list in
+    counted_on 0 0 _ _ _ c.nodes.invariant.counted (counted_taken _ _ _ _ found c.take_into.ensures.counts refl c.in_err-is_read.ensures.counted)
 
 pub returns-in_err-is_read-clause-stack : goal.returns-in_err-is_read-clause-stack
 returns-in_err-is_read-clause-stack c =
-    let found = stood _ _ _ c.in_default.not-EOF c.take-lexeme.ensures.token c.take-lexeme.ensures.list in
-    stacks_within _ _ (counted_on 0 0 _ _ _ c.nodes.invariant.counted (counted_taken _ _ _ _ found c.take-lexeme.ensures.counts refl c.in_err-is_read.ensures.counted))
+    let found = stood _ _ _ c.in_default.not-EOF c.take_into.ensures.token c.take_into.ensures.list in
+    stacks_within _ _ (counted_on 0 0 _ _ _ c.nodes.invariant.counted (counted_taken _ _ _ _ found c.take_into.ensures.counts refl c.in_err-is_read.ensures.counted))
 
 pub returns-then-not-is_read : goal.returns-then-not-is_read
 returns-then-not-is_read c =
-    let found = stood c.take-lexeme.result c.nodes.parser.lexer.list c.take-lexeme.new.self.list c.in_default.not-EOF c.take-lexeme.ensures.token c.take-lexeme.ensures.list in
+    let found = stood c.take_into.new.lexeme c.nodes.parser.lexer.list c.take_into.new.self.list c.in_default.not-EOF c.take_into.ensures.token c.take_into.ensures.list in
     let refused = rw c.if-not-is_read.true at (c.in_ok-is_read.ensures.node _ found) in
-    let counted = counted_on 0 0 _ _ _ c.nodes.invariant.counted (counted_taken _ c.nodes.parser _ _ found c.take-lexeme.ensures.counts refl c.in_ok-is_read.ensures.counted) in
+    let counted = counted_on 0 0 _ _ _ c.nodes.invariant.counted (counted_taken _ c.nodes.parser _ _ found c.take_into.ensures.counts refl c.in_ok-is_read.ensures.counted) in
     record {
       formula = (
         formula_refused _ found refused c.nodes.invariant.nodes,
@@ -52,7 +52,7 @@ returns-then-not-is_read c =
 
 pub returns-clause-formula : goal.returns-clause-formula
 returns-clause-formula c =
-    let none = c.take-lexeme.ensures.ended (ap lexeme_tok c.in-EOF.is) in (
+    let none = c.take_into.ensures.ended (ap lexeme_tok c.in-EOF.is) in (
       finished c.args.display _ c.in_ok-append_opening_tag.ensures none c.nodes.invariant.nodes c.in_ok-push_str.ensures.bytes,
-      c.take-lexeme.ensures.list ∙ ap rest_of none,
+      c.take_into.ensures.list ∙ ap rest_of none,
     )

@@ -8,30 +8,30 @@ use Rattle.latex2mathml_parser.proofs.parse.Parser.next_lexeme.Goals as goal
 pub returns-in-EOF : goal.returns-in-EOF
 returns-in-EOF c =
     let p = c.args.self.now in
-    let none = c.take-lexeme.ensures.ended (ap lexeme_tok c.in-EOF.is) in
-    let left = c.take-lexeme.ensures.list ∙ ap rest_of none in
+    let none = c.take_other.ensures.ended (ap lexeme_tok c.in-EOF.is) in
+    let left = c.take_other.ensures.list ∙ ap rest_of none in
     record {
       holds = λ input k. c.at_end.ensures.holds left input (subst (Leads (level 0 input p)) (none ∙ sym left) k);
-      step = record { counted = counted_skipped p _ _ 0 c.take-lexeme.ensures.list c.take-lexeme.ensures.counts refl c.at_end.ensures.step.counted; follows = search rules };
+      step = record { counted = counted_skipped p _ _ 0 c.take_other.ensures.list c.take_other.ensures.counts refl c.at_end.ensures.step.counted; follows = search rules };
     }
 
 pub returns-then-ends_at : goal.returns-then-ends_at
 returns-then-ends_at c =
     let p = c.args.self.now in
-    let found = stood c.take-lexeme.result p.lexer.list c.take-lexeme.new.self.list c.in_default.not-EOF c.take-lexeme.ensures.token c.take-lexeme.ensures.list in
+    let found = stood c.take_other.new.lexeme p.lexer.list c.take_other.new.self.list c.in_default.not-EOF c.take_other.ensures.token c.take_other.ensures.list in
     let shorter = ap length found in
     let (end, is_due, is_end) = c.if-ends_at.ensures in
     record {
-      holds = λ input k. c.close.ensures.holds input end (sym c.due.ensures ∙ is_due) (subst (Leads (level 0 input p)) (found ∙ ap (λ t. t ∷ c.take-lexeme.new.self.list) is_end) k);
-      step = record { counted = counted_skipped p _ _ 0 c.take-lexeme.ensures.list c.take-lexeme.ensures.counts refl c.close.ensures.step.counted; follows = search rules };
+      holds = λ input k. c.close.ensures.holds input end (sym c.due.ensures ∙ is_due) (subst (Leads (level 0 input p)) (found ∙ ap (λ t. t ∷ c.take_other.new.self.list) is_end) k);
+      step = record { counted = counted_skipped p _ _ 0 c.take_other.ensures.list c.take_other.ensures.counts refl c.close.ensures.step.counted; follows = search rules };
     }
 
 pub returns : goal.returns
 returns c =
     let p = c.args.self.now in
-    let found = stood c.take-lexeme.result p.lexer.list c.take-lexeme.new.self.list c.in_default.not-EOF c.take-lexeme.ensures.token c.take-lexeme.ensures.list in
+    let found = stood c.take_other.new.lexeme p.lexer.list c.take_other.new.self.list c.in_default.not-EOF c.take_other.ensures.token c.take_other.ensures.list in
     let shorter = ap length found in
     record {
       holds = λ input k. c.begin_any.ensures.holds input (token_begun input p.frames.stack.items (trees_in p.parts) p.lexer.list _ _ (rw (found, ← c.due.ensures) (c.if-ends_at.ensures _)) found k);
-      step = record { counted = counted_taken _ p _ _ found c.take-lexeme.ensures.counts refl c.begin_any.ensures.step.counted; follows = search rules };
+      step = record { counted = counted_taken _ p _ _ found c.take_other.ensures.counts refl c.begin_any.ensures.step.counted; follows = search rules };
     }
