@@ -106,7 +106,7 @@ pub(crate) fn slice_at<'a>(
 pub(crate) fn stands_alone(c: char) -> bool
     ensures { result ≡ not (begins_longer c || is_space c) }
 {
-    // All others are in front of the backslash, in the order of ASCII.
+    // Each character with a greater code point than the backslash does, and most characters are such.
     c > '\\' || !(c.is_ascii_digit() || c == '\\' || c == ':' || is_space(c))
 }
 
@@ -174,7 +174,7 @@ pub(crate) fn command<'a>(
     comparisons: &mut u128,
 )
     requires room { comparisons.old + 9 < 2 ^ 128 }
-    ensures lexeme { (alone : Bool) → BeginsWith alone
+    ensures lexeme { (any : Bool) → BeginsWith any
         (byte "\\" ∷ chars text.now) (lexeme_tok lexeme.new) (chars rest.new.now) }
     ensures alone { alone.new ≡ Spelling.takes_digit (Some (lexeme_tok lexeme.new)) }
     ensures at_least { comparisons.old + 1 ≤ comparisons.new }
@@ -182,6 +182,7 @@ pub(crate) fn command<'a>(
 {
     let behind = skip_command_name(text);
     let name = before(text, behind);
+    // Written before the look-up, which then has fewer values to keep.
     *rest = behind;
     let (found, compared) = Lexeme::of_command(name);
     *alone = takes_digit(found);
