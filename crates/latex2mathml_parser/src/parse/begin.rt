@@ -43,7 +43,7 @@ impl<'a> Parser<'a> {
     {
         match *lexeme {
             Lexeme::Middle => self.begin_stretched(),
-            _ => self.begin_rule(*lexeme),
+            _ => self.begin_other(lexeme),
         }
     }
 
@@ -62,7 +62,7 @@ impl<'a> Parser<'a> {
                 return self.error(&begun);
             }
         }
-        self.begin_rule(begun)
+        self.begin_other(&begun)
     }
 
     /// Opens the frame of a stretched operator, and takes the lexeme that it begins with.
@@ -78,15 +78,29 @@ impl<'a> Parser<'a> {
         Ok(got)
     }
 
-    /// Begins the rule of a lexeme that is not `\middle`.
+    /// Begins the rule of a lexeme that is not `\middle`. Most of these are groups.
+    #[inline(always)]
+    fn begin_other(&mut self, lexeme: &Lexeme<'a>) -> Result<State, AllocError>
+        requires other { lexeme.now ≢ Lexeme.Middle }
+        requires trees { HasTrees 0 self.old }
+        ensures holds { Proceeds (rule (lexeme_tok lexeme.now)) 0 self.old self.new result }
+        ensures step { IsStep (opens (lexeme_tok lexeme.now)) 13 self.old self.new result }
+    {
+        match *lexeme {
+            Lexeme::LBrace => self.open(Frame::Members(Group::Brace, 0)),
+            _ => self.begin_rule(*lexeme),
+        }
+    }
+
+    /// Begins the rule of a lexeme that begins neither a stretched operator nor a group.
     fn begin_rule(&mut self, lexeme: Lexeme<'a>) -> Result<State, AllocError>
-        requires other { lexeme ≢ Lexeme.Middle }
+        requires middle { lexeme ≢ Lexeme.Middle }
+        requires group { lexeme ≢ Lexeme.LBrace }
         requires trees { HasTrees 0 self.old }
         ensures holds { Proceeds (rule (lexeme_tok lexeme.entry)) 0 self.old self.new result }
         ensures step { IsStep (opens (lexeme_tok lexeme.entry)) 13 self.old self.new result }
     {
         match lexeme {
-            Lexeme::LBrace => self.open(Frame::Members(Group::Brace, 0)),
             Lexeme::Sqrt => self.root(),
             Lexeme::Over(c, accent) => self.open(Frame::Operand(Kind::Over(c, accent))),
             Lexeme::Under(c, accent) => self.open(Frame::Operand(Kind::Under(c, accent))),
@@ -113,7 +127,7 @@ impl<'a> Parser<'a> {
             Lexeme::OperatorName => self.function(),
             Lexeme::Slashed => self.slash(),
             Lexeme::Left => self.open_fence(),
-            Lexeme::Middle => unreachable!(),
+            Lexeme::LBrace | Lexeme::Middle => unreachable!(),
             Lexeme::Begin => self.begin_environment(),
             Lexeme::Number(digits) => self.put(Kind::Number(digits)),
             Lexeme::Letter(c, variant) => self.put(Kind::Letter(c, variant)),

@@ -4,9 +4,6 @@ use Rattle.latex2mathml_tokens.specs.Lexemes.{lexeme_tok}
 use Rattle.latex2mathml_parser.proofs.Stepping.{step_within}
 use Rattle.latex2mathml_parser.proofs.parse.Parser.begin_rule.Goals as goal
 
-pub returns-in-LBrace-clause-holds : goal.returns-in-LBrace-clause-holds
-returns-in-LBrace-clause-holds c = λ input k. c.open.ensures.holds input (rw c.in-LBrace.is at k)
-
 pub returns-in-Over-clause-holds : goal.returns-in-Over-clause-holds
 returns-in-Over-clause-holds c = λ input k. c.open-in-Over.ensures.holds input (rw c.in-Over.is at k)
 
@@ -119,9 +116,6 @@ returns-in-Left-clause-step c = rw c.in-Left.is c.open_fence.ensures.step
 
 pub returns-in-Begin-clause-step : goal.returns-in-Begin-clause-step
 returns-in-Begin-clause-step c = rw c.in-Begin.is c.begin_environment.ensures.step
-
-pub returns-in-LBrace-clause-step : goal.returns-in-LBrace-clause-step
-returns-in-LBrace-clause-step c = rw c.in-LBrace.is (step_within _ _ _ c.open.ensures.step (omega arith) (omega arith))
 
 pub returns-in-Over-clause-step : goal.returns-in-Over-clause-step
 returns-in-Over-clause-step c = rw c.in-Over.is (step_within _ _ _ c.open-in-Over.ensures.step (omega arith) (omega arith))
