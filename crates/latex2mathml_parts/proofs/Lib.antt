@@ -2,6 +2,7 @@ pub mod Changes
 pub mod Encoding
 pub mod Forests
 pub mod Groups
+pub mod Leaves
 pub mod Markups
 pub mod Puts
 pub mod Styles

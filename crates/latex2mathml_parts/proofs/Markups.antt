@@ -1,5 +1,5 @@
 -- The markup of trees, as it is written: its fixed parts are joined.
-use Rattle.std.proofs.Common.{◌≡◌, ℕ, List, ◌++◌, append_assoc, codes, Some}
+use Rattle.std.proofs.Common.{◌≡◌, ℕ, List, ◌++◌, append_assoc, codes, Some, Result, Ok, Err, OnOk, is_ok, if◌then◌else◌}
 use Rattle.std.specs.Fmt.{digits}
 use Rattle.latex2mathml_trees.specs.{Print.print, Print.style_open, Tree.Tree, Tree.operator}
 use Rattle.latex2mathml_trees.specs.Productions.{binomial_tree, coefficient, labelled_overbrace_tree, labelled_underbrace_tree}
@@ -21,3 +21,8 @@ overbraced_print c label x = simp append_assoc
 
 pub underbraced_print : (c : ℕ) (label x : Tree) → codes "<munder>" ++ (print x ++ (codes "<munder>" ++ (print (operator c) ++ (print label ++ codes "</munder></munder>")))) ≡ print (labelled_underbrace_tree c label x)
 underbraced_print c label x = simp append_assoc
+
+-- what `push_str` says of a text, where it returns `Ok`
+pub appended : {T E : Type 0} (r : Result T E) (new a b : List ℕ) → new ≡ (if is_ok r then a else b) → OnOk r (new ≡ a)
+appended (Ok x) new a b h = h
+appended (Err e) new a b h = tt

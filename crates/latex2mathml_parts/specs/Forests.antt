@@ -71,3 +71,11 @@ members_at f count end = reverse (take count (trees_at f end))
 -- a tree ends after the first `end` parts
 abbrev pub IsPlace : Forest → ℕ → Type 0
 IsPlace f end = (0 < end) × (end ≤ length f.list)
+
+-- the last of the first `end` parts is a tree by itself
+abbrev pub IsLeaf : Forest → ℕ → Type 0
+IsLeaf f end = trees_at f end ≡ tree_at f end ∷ trees_at f (end - 1)
+
+-- so is each part after the first `start` ones, up to `end`
+abbrev pub AreLeaves : Forest → ℕ → ℕ → Type 0
+AreLeaves f start end = (k : ℕ) → start < k → k ≤ end → IsLeaf f k

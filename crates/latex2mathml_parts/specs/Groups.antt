@@ -1,10 +1,11 @@
 -- Groups of trees: the members, and what surrounds them.
-use Rattle.std.specs.Prelude.{ℕ, List, ◌++◌, Option, codes}
+use Rattle.std.specs.Prelude.{◌≡◌, ℕ, List, ◌++◌, Option, codes}
 use Rattle.std.specs.List.{flat_map}
 use Rattle.latex2mathml_trees.specs.Print.{member_print, print}
 use Rattle.latex2mathml_trees.specs.Tree.{Tree, Trees, matrix, row, trees_of}
 use Rattle.latex2mathml_tokens.specs.{Attributes.align_text, declared.attribute.Variant.Variant}
 use Rattle.latex2mathml_parts.specs.{Forests.Forest, Forests.members_at, Forms.all_in, Forms.in_style, declared.write.groups.Group.Group}
+use Rattle.latex2mathml_parts.specs.{Tags.ending_text, declared.write.tags.Ending.Ending}
 use Rattle.latex2mathml_parts.specs.declared.write.groups.Group.TheVariants as group
 
 -- the tree of a group
@@ -31,3 +32,15 @@ members_in g style = flat_map (member_in g style)
 -- the group of the last `count` trees of the first `end` parts, in a style
 abbrev pub group_at : Forest → Group → ℕ → Option Variant → ℕ → Tree
 group_at f g count style end = tree_of_group g (all_in style (trees_of (members_at f count end)))
+
+-- how many operands precede the members: the environment's name
+abbrev pub names_of : Group → ℕ
+names_of group.Row = 0
+names_of (group.Matrix align) = 1
+
+-- in any style, a member is written as this ending, or as itself
+abbrev pub IsMark : Group → Tree → Ending → Type 0
+IsMark g x ending = (style : Option Variant) → member_in g style x ≡ ending_text ending
+
+abbrev pub IsNoMark : Group → Tree → Type 0
+IsNoMark g x = (style : Option Variant) → member_in g style x ≡ print (in_style style x)

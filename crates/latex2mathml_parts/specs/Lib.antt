@@ -5,4 +5,5 @@ pub mod Forms
 pub mod Groups
 pub mod Parts
 pub mod Shapes
+pub mod Tags
 pub mod Works

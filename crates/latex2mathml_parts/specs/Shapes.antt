@@ -1,10 +1,12 @@
 -- The markup of parts with operands: what precedes the operands, what is between them and what follows them.
 use Rattle.std.specs.Prelude.{◌≡◌, ℕ, ◌+◌, ◌*◌, ◌≤◌, List, ◌++◌, Option, Some, None, codes, drop}
 use Rattle.latex2mathml_trees.specs.{Print.print, Tree.Tree, Tree.operator, Tree.sized_paren, Tree.slashed, Weight.weight}
-use Rattle.latex2mathml_tokens.specs.{Attributes.accent_text, Escape.content, Escape.content_char, Names.paren_text, Names.size_text}
-use Rattle.latex2mathml_tokens.specs.{declared.attribute.Accent.Accent, declared.names.Paren.Paren, declared.names.Size.Size}
-use Rattle.latex2mathml_parts.specs.{Forms.put_form, Parts.put, Parts.top, declared.form.Form.Form, declared.kind.Kind.Kind}
-use Rattle.latex2mathml_parts.specs.declared.write.shapes.Operands.{Operands}
+use Rattle.latex2mathml_tokens.specs.{Attributes.accent_text, Attributes.variant_text, Escape.content, Escape.content_char, Names.paren_text, Names.size_text}
+use Rattle.latex2mathml_tokens.specs.{declared.attribute.Accent.Accent, declared.attribute.Variant.Variant, declared.names.Paren.Paren, declared.names.Size.Size}
+use Rattle.latex2mathml_parts.specs.{Forms.put_form, Parts.arity, Parts.put, Parts.top, declared.form.Form.Form, declared.kind.Kind.Kind}
+use Rattle.latex2mathml_parts.specs.{Tags.ending_text, Tags.opening_text, declared.write.tags.Ending.Ending, declared.write.tags.Opening.Opening}
+use Rattle.latex2mathml_parts.specs.declared.write.shapes.{Operands.Operands, Shape.Shape}
+use Rattle.latex2mathml_parts.specs.declared.kind.Kind.TheVariants as kind
 use Rattle.latex2mathml_parts.specs.declared.write.shapes.Operands.TheVariants as operands
 
 -- the sign over or under a tree, and what follows it
@@ -15,12 +17,20 @@ sign_print c accent after = codes "<mo accent=\"" ++ (accent_text accent ++ (cod
 abbrev pub print_weight : Tree → ℕ
 print_weight x = weight x * 8 + 8
 
+-- the same for a tree that comes next, for which no work is left
+abbrev pub begun_weight : Tree → ℕ
+begun_weight x = weight x * 8 + 7
+
 -- the element of a fence that opens a group, or closes it, with the tag of the row around them
 abbrev pub fence_open : List ℕ → List ℕ
 fence_open text = codes "<mrow><mo stretchy=\"true\" form=\"prefix\">" ++ (content text ++ codes "</mo>")
 
 abbrev pub fence_close : List ℕ → List ℕ
 fence_close text = codes "<mo stretchy=\"true\" form=\"postfix\">" ++ (content text ++ codes "</mo></mrow>")
+
+-- a letter in a style that is named
+abbrev pub styled_print : ℕ → Variant → List ℕ
+styled_print c variant = codes "<mi mathvariant=\"" ++ (variant_text variant ++ (codes "\">" ++ (content_char c ++ codes "</mi>")))
 
 -- an operator that is not in italics
 abbrev pub upright_print : ℕ → List ℕ
@@ -39,9 +49,9 @@ abbrev pub HidesSlash : Form → Type 0
 HidesSlash f = (texts : List (List ℕ)) (ts : List Tree) → slashed_print texts f ts ≡ print (top (put_form texts f ts))
 
 -- what precedes the first operand
-abbrev pub opening : List ℕ → Option ℕ → List ℕ
-opening tag None = tag
-opening tag (Some c) = tag ++ print (operator c)
+abbrev pub opening_print : Opening → Option ℕ → List ℕ
+opening_print o None = opening_text o
+opening_print o (Some c) = opening_text o ++ print (operator c)
 
 -- how many operands there are
 abbrev pub count_of : Operands → ℕ
@@ -63,3 +73,26 @@ operands_weight o ts = print_weight (top (drop 1 ts)) + print_weight (top ts)
 -- a part of this kind has more to write than its operands
 abbrev pub WeighsLess : Operands → Kind → Type 0
 WeighsLess o kind = (ts : List Tree) → operands_weight o ts + 4 ≤ print_weight (top (put kind ts))
+
+abbrev pub shape_with : Opening → Option ℕ → Operands → Ending → Shape
+shape_with o sign operands e = record { opening = o; sign = sign; operands = operands; ending = e }
+
+-- the operands of a shape, with what is before and after them
+abbrev pub shape_print : Shape → List Tree → List ℕ
+shape_print s ts = opening_print s.opening s.sign ++ operands_print s.operands (opening_text s.opening) ts (ending_text s.ending)
+
+-- a part of this kind has the shape
+pub record IsShapeOf (k : Kind) (s : Shape) : Type 0 where
+  pub count : count_of s.operands ≡ arity k
+  pub markup : (ts : List Tree) → shape_print s ts ≡ print (top (put k ts))
+  pub weighs : WeighsLess s.operands k
+
+-- a part of this kind has one operand, and no shape
+abbrev pub HasFrame : Kind → Type 0
+HasFrame (kind.LimitUnder name) = Unit {0}
+HasFrame (kind.Fenced opening close) = Unit {0}
+HasFrame (kind.Over c accent) = Unit {0}
+HasFrame (kind.Under c accent) = Unit {0}
+HasFrame (kind.Overbrace c) = Unit {0}
+HasFrame (kind.Underbrace c) = Unit {0}
+HasFrame k = ⊥

@@ -1,17 +1,19 @@
 -- What is still to be written of a list of parts, as markup. The work that was put last is done first.
 use Rattle.std.specs.Prelude.{◌≡◌, ℕ, ◌+◌, ◌<◌, List, [], ◌++◌, Option, Some, None, String, Vec, codes, reverse, string_bytes, sum_by, take}
 use Rattle.std.specs.declared.alloc.Global.{Global}
-use Rattle.std.specs.{Borrow.Bor, List.All, List.flat_map}
-use Rattle.latex2mathml_trees.specs.{Print.print, Tree.Tree, Tree.operator}
+use Rattle.std.specs.{List.All, List.flat_map}
+use Rattle.latex2mathml_trees.specs.{Print.print, Tree.operator}
 use Rattle.latex2mathml_parts.specs.{Forests.Forest, Forests.IsPlace, Forests.tree_at, Forests.trees_at, Forms.in_style}
-use Rattle.latex2mathml_parts.specs.{Shapes.opening, Shapes.operands_print, Shapes.operands_weight, Shapes.print_weight, Shapes.sign_print}
-use Rattle.latex2mathml_parts.specs.{declared.work.Work.Work, declared.write.shapes.Operands.Operands, declared.write.shapes.Shape.Shape}
+use Rattle.latex2mathml_parts.specs.{Parts.fence_text, Shapes.begun_weight, Shapes.fence_close, Shapes.print_weight, Shapes.sign_print}
+use Rattle.latex2mathml_parts.specs.{Tags.ending_text, Tags.opening_text, declared.work.Work.Work}
 use Rattle.latex2mathml_parts.specs.declared.work.Work.TheVariants as work
 
 abbrev pub work_print : Forest → Work → List ℕ
-work_print f (work.Tree end style) = print (in_style style (tree_at f end))
-work_print f (work.Markup markup) = markup.now
-work_print f (work.Operator c) = print (operator c)
+work_print f (work.Tree end) = print (tree_at f end)
+work_print f (work.Styled variant end) = print (in_style (Some variant) (tree_at f end))
+work_print f (work.End ending) = ending_text ending
+work_print f (work.Fence fence) = fence_close (fence_text fence)
+work_print f (work.Brace opening c) = opening_text opening ++ print (operator c)
 work_print f (work.BraceOver c) = print (operator c) ++ codes "</mover>"
 work_print f (work.BraceUnder c) = print (operator c) ++ codes "</munder>"
 work_print f (work.SignOver c accent) = sign_print c accent (codes "</mo></mover>")
@@ -22,7 +24,8 @@ due f ws = flat_map (work_print f) (reverse ws)
 
 -- the tree that a work is about, if it is about one, exists
 abbrev pub IsIn : Forest → Work → Type 0
-IsIn f (work.Tree end style) = IsPlace f end
+IsIn f (work.Tree end) = IsPlace f end
+IsIn f (work.Styled variant end) = IsPlace f end
 IsIn f k = Unit {0}
 
 unfoldable pub AreIn : Forest → List Work → Type 0
@@ -30,7 +33,8 @@ AreIn f = All (IsIn f)
 
 -- how much there is to write of a work
 abbrev pub work_weight : Forest → Work → ℕ
-work_weight f (work.Tree end style) = print_weight (tree_at f end)
+work_weight f (work.Tree end) = print_weight (tree_at f end)
+work_weight f (work.Styled variant end) = print_weight (tree_at f end)
 work_weight f k = 1
 
 -- how much there is to write of all works
@@ -44,7 +48,7 @@ next_print f (Some end) = print (tree_at f end)
 
 abbrev pub next_weight : Forest → Option ℕ → ℕ
 next_weight f None = 0
-next_weight f (Some end) = print_weight (tree_at f end)
+next_weight f (Some end) = begun_weight (tree_at f end)
 
 abbrev pub IsNext : Forest → Option ℕ → Type 0
 IsNext f None = Unit {0}
@@ -64,25 +68,6 @@ Leaves f ws vs more next =
 -- this markup is due before what was due
 abbrev pub Adds : Forest → Vec Work Global → Vec Work Global → List ℕ → Type 0
 Adds f ws vs markup = due f vs.items ≡ markup ++ due f ws.items
-
--- the next tree and what is then due give the same markup as the operands of a shape and what was due
-abbrev pub WritesOperands : Forest → Shape → ℕ → Vec Work Global → Vec Work Global → ℕ → Type 0
-WritesOperands f shape end ws vs next =
-    print (tree_at f next) ++ due f vs.items
-    ≡ operands_print shape.operands shape.before.now (trees_at f end) (work_print f shape.after) ++ due f ws.items
-
--- what is left, with the next tree, is less than what was due plus the operands of the shape plus 4
-abbrev pub LeavesOperands : Forest → Shape → ℕ → Vec Work Global → Vec Work Global → ℕ → Type 0
-LeavesOperands f shape end ws vs next =
-    load f vs.items + print_weight (tree_at f next) < load f ws.items + operands_weight shape.operands (trees_at f end) + 4
-
-abbrev pub shape_with : Bor (List ℕ) → Option ℕ → Operands → Work → Shape
-shape_with before sign operands after = record { before = before; sign = sign; operands = operands; after = after }
-
--- the operands of a shape, with what is before and after them
-abbrev pub shape_print : Forest → Shape → List Tree → List ℕ
-shape_print f shape ts =
-    opening shape.before.now shape.sign ++ operands_print shape.operands shape.before.now ts (work_print f shape.after)
 
 -- how much there is to write of the last `count` trees of the first `end` parts
 abbrev pub members_weight_at : Forest → ℕ → ℕ → ℕ

@@ -1,30 +1,32 @@
 //! From parts to markup.
-ghost use Rattle.std.specs.Prelude.{◌<◌, ◌≤◌, IfOk, List, OnOk, Option, length, None};
-ghost use Rattle.latex2mathml_trees.specs.{Print.print, Texts.Appends, Tree.Tree, Tree.slashed};
-ghost use Rattle.latex2mathml_tokens.specs.declared.attribute.Variant.{Variant};
-ghost use Rattle.latex2mathml_parts.specs.Forests.{IsPlace, form_tree, last_in, tree_at, trees_at, trees_in};
-ghost use Rattle.latex2mathml_parts.specs.Forms.{HasText, IsOwn, arity_of, in_style, put_form};
-ghost use Rattle.latex2mathml_parts.specs.{Parts.arity, Parts.top, declared.form.Form.Form};
-ghost use Rattle.latex2mathml_parts.specs.Shapes.{print_weight};
+ghost use Rattle.std.specs.Prelude.{◌≡◌, ◌<◌, ◌-◌, IfOk, length, true, Some};
+ghost use Rattle.latex2mathml_trees.specs.{Print.print, Texts.Appends, Tree.slashed};
+ghost use Rattle.latex2mathml_parts.specs.Forests.{IsLeaf, IsPlace, last_in, tree_at, trees_at, trees_in};
+ghost use Rattle.latex2mathml_parts.specs.{Forms.in_style, Parts.fence_text};
+ghost use Rattle.latex2mathml_parts.specs.Shapes.{begun_weight, fence_close, print_weight};
 ghost use Rattle.latex2mathml_parts.specs.Works.{AreIn, IsIn, Leaves, Writes, work_print, work_weight};
 
 mod fences;
 mod groups;
 mod leaves;
 mod operands;
+mod room;
 mod shapes;
 mod tables;
+pub(crate) mod tags;
 
 use crate::form::Form;
 use crate::kind::Kind;
 use crate::parts::Parts;
 use crate::work::{Work, Works};
-use crate::write::fences::stretched_markup;
+use crate::write::fences::{closing_markup, stretched_markup};
 use crate::write::groups::Group;
 use crate::write::leaves::{
-    write_brace, write_char, write_letter, write_operator, write_sign, write_slashed, write_text,
+    write_brace, write_char, write_letter, write_number, write_operator, write_sign, write_slashed,
+    write_text,
 };
 use latex2mathml_tokens::attribute::Variant;
+use latex2mathml_tokens::names::Paren;
 use latex2mathml_trees::append::append_undefined;
 pub use leaves::write_leaf;
 use std::alloc::AllocError;
@@ -32,170 +34,172 @@ use std::alloc::AllocError;
 impl Parts<'_> {
     /// Writes the markup of the last tree after the text. It does not recurse: what is still to be written is kept in
     /// `works`. The only `Err` is out of memory, for that list or for the text.
-    #[tactic(auto, using(crate::proofs::Styles::plain, crate::proofs::Forests::all_taken, std::proofs::lemmas::Grind::common_steps), unfolding(crate::specs::Works::AreIn))]
+    #[tactic(auto, using(crate::proofs::Forests::all_taken, std::proofs::lemmas::Grind::common_steps), unfolding(crate::specs::Works::AreIn))]
     pub fn write(&self, works: &mut Works, out: &mut String) -> Result<(), AllocError>
         requires { 0 < length (trees_in self.now) }
         ensures { Appends out.old out.new (print (last_in self.now)) result }
     {
         let list = &mut works.list;
         list.clear();
-        self.push_work(Work::Tree(self.len(), None), list)?;
-        'works: while let Some(work) = list.pop() {
-            self.write_work(work, list, out)?;
+        let mut next = Some(self.len());
+        'works: loop {
+            if let Some(end) = next {
+                next = self.write_at(end, list, out)?;
+            } else if let Some(work) = list.pop() {
+                next = self.write_work(work, list, out)?;
+            } else {
+                return Ok(());
+            }
         }
-        Ok(())
     }
 
-    /// Carries out a work.
+    /// Carries out a work. Returns the tree that comes next, if one does.
     #[inline(always)]
     fn write_work(
         &self,
         work: Work,
         works: &mut Vec<Work>,
         out: &mut String,
-    ) -> Result<(), AllocError>
+    ) -> Result<Option<usize>, AllocError>
         requires one { IsIn self.now work }
         requires inside { AreIn self.now works.old.items }
-        ensures print { OnOk result (Writes self.now out.old works.old out.new works.new
-            (work_print self.now work) None) }
-        ensures left { OnOk result (Leaves self.now works.old works.new
-            (work_weight self.now work) None) }
+        ensures print { IfOk result (Writes self.now out.old works.old out.new works.new
+            (work_print self.now work)) }
+        ensures left { IfOk result (Leaves self.now works.old works.new (work_weight self.now work)) }
     {
         match work {
-            Work::Tree(end, style) => self.write_down(end, style, works, out),
-            Work::Markup(markup) => out.push_str(markup),
-            Work::Operator(c) => write_operator(c, out),
-            Work::BraceOver(c) => write_brace(c, "</mover>", out),
-            Work::BraceUnder(c) => write_brace(c, "</munder>", out),
-            Work::SignOver(c, accent) => write_sign(c, accent, "</mo></mover>", out),
-            Work::SignUnder(c, accent) => write_sign(c, accent, "</mo></munder>", out),
-        }
-    }
-
-    /// Writes the last tree of the first `end` parts down to its first leaf, and pushes what follows onto the list.
-    #[tactic(auto, using(crate::proofs::Styles::plain, std::proofs::lemmas::Grind::common_steps))]
-    fn write_down(
-        &self,
-        end: usize,
-        style: Option<Variant>,
-        works: &mut Vec<Work>,
-        out: &mut String,
-    ) -> Result<(), AllocError>
-        requires place { IsPlace self.now end }
-        requires inside { AreIn self.now works.old.items }
-        ensures print { OnOk result (Writes self.now out.old works.old out.new works.new
-            (print (in_style style (tree_at self.now end))) None) }
-        ensures left { OnOk result (Leaves self.now works.old works.new
-            (print_weight (tree_at self.now end)) None) }
-    {
-        let mut next = self.write_at(end, style, works, out)?;
-        'down: while let Some(place) = next {
-            next = self.write_at(place, None, works, out)?;
-        }
-        Ok(())
-    }
-
-    /// Writes the beginning of a tree, and pushes what follows onto the list. Returns the tree that comes next, if one does.
-    #[inline(always)]
-    fn write_at(
-        &self,
-        end: usize,
-        style: Option<Variant>,
-        works: &mut Vec<Work>,
-        out: &mut String,
-    ) -> Result<Option<usize>, AllocError>
-        requires place { IsPlace self.now end }
-        requires inside { AreIn self.now works.old.items }
-        ensures print { IfOk result (Writes self.now out.old works.old out.new works.new
-            (print (in_style style (tree_at self.now end)))) }
-        ensures left { IfOk result (Leaves self.now works.old works.new
-            (print_weight (tree_at self.now end))) }
-    {
-        self.write_form(self.part_at(end).form, style, end - 1, works, out)
-    }
-
-    /// Writes the beginning of the tree of a part that follows the first `end` parts, and pushes the rest onto the list.
-    #[inline(always)]
-    #[tactic(auto, using(crate::proofs::Styles::all_twice, crate::proofs::Styles::weights_in, std::proofs::lemmas::Grind::common_steps))]
-    fn write_form(
-        &self,
-        form: Form,
-        style: Option<Variant>,
-        end: usize,
-        works: &mut Vec<Work>,
-        out: &mut String,
-    ) -> Result<Option<usize>, AllocError>
-        requires fits { arity_of form ≤ length (trees_at self.now end) }
-        requires text { HasText self.now.texts form }
-        requires within { end ≤ length self.now.list }
-        requires inside { AreIn self.now works.old.items }
-        ensures print { IfOk result (Writes self.now out.old works.old out.new works.new
-            (print (in_style style (form_tree self.now form.entry end)))) }
-        ensures left { IfOk result (Leaves self.now works.old works.new
-            (print_weight (form_tree self.now form.entry end))) }
-    {
-        match form {
-            Form::Of(kind) => self.write_kind(kind, style, end, works, out),
-            // Of two styles, the outer one stays.
-            Form::Row(count, own) => {
-                self.write_group(Group::Row, count, style.or(own), end, works, out)?;
-                Ok(None)
+            Work::Tree(end) => return Ok(Some(end)),
+            Work::Styled(variant, end) => return self.write_styled(variant, end, works, out),
+            Work::End(ending) => ending.append(out)?,
+            Work::Fence(fence) => write_fence(fence, out)?,
+            Work::Brace(opening, c) => {
+                opening.append(out)?;
+                write_operator(c, out)?
             }
-            Form::Matrix(count, own, align) => {
-                self.write_group(Group::Matrix(align), count, own, end, works, out)?;
-                Ok(None)
-            }
-            Form::Slashed => self.write_under_slash(end, works, out),
-            _ => {
-                self.write_own(form, out)?;
-                Ok(None)
-            }
-        }
-    }
-
-    /// Writes the beginning of the tree of a part of a kind, as `write_form` does.
-    #[inline(always)]
-    #[tactic(auto, using(std::proofs::lemmas::Grind::common_steps))]
-    fn write_kind(
-        &self,
-        kind: Kind,
-        style: Option<Variant>,
-        end: usize,
-        works: &mut Vec<Work>,
-        out: &mut String,
-    ) -> Result<Option<usize>, AllocError>
-        requires fits { arity kind ≤ length (trees_at self.now end) }
-        requires within { end ≤ length self.now.list }
-        requires inside { AreIn self.now works.old.items }
-        ensures print { IfOk result (Writes self.now out.old works.old out.new works.new
-            (print (in_style style (form_tree self.now (Form.Of kind.entry) end)))) }
-        ensures left { IfOk result (Leaves self.now works.old works.new
-            (print_weight (form_tree self.now (Form.Of kind.entry) end))) }
-    {
-        if kind.arity() > 0 {
-            return self.write_operands(kind, end, works, out);
-        }
-        match kind {
-            Kind::Letter(c, own) => write_letter(c, style.unwrap_or(own), out)?,
-            _ => write_leaf(kind, out)?,
+            Work::BraceOver(c) => write_brace(c, "</mover>", out)?,
+            Work::BraceUnder(c) => write_brace(c, "</munder>", out)?,
+            Work::SignOver(c, accent) => write_sign(c, accent, "</mo></mover>", out)?,
+            Work::SignUnder(c, accent) => write_sign(c, accent, "</mo></munder>", out)?,
         }
         Ok(None)
     }
 
-    /// Writes a part that has no operands and is of no kind. It has no style.
-    #[inline(always)]
-    fn write_own(&self, form: Form, out: &mut String) -> Result<(), AllocError>
-        requires own { IsOwn form }
-        requires text { HasText self.now.texts form }
-        ensures { (style : Option Variant) (ts : List Tree) → Appends out.old out.new
-            (print (in_style style (top (put_form self.now.texts form.entry ts)))) result }
+    /// Writes the beginning of the last tree of the first `end` parts, in a style, as `write_at` does.
+    #[inline(never)]
+    #[tactic(auto, using(crate::proofs::Styles::all_twice, crate::proofs::Styles::weights_in, std::proofs::lemmas::Grind::common_steps))]
+    fn write_styled(
+        &self,
+        variant: Variant,
+        end: usize,
+        works: &mut Vec<Work>,
+        out: &mut String,
+    ) -> Result<Option<usize>, AllocError>
+        requires place { IsPlace self.now end }
+        requires inside { AreIn self.now works.old.items }
+        ensures print { IfOk result (Writes self.now out.old works.old out.new works.new
+            (print (in_style (Some variant) (tree_at self.now end)))) }
+        ensures left { IfOk result (Leaves self.now works.old works.new
+            (print_weight (tree_at self.now end))) }
     {
-        match form {
+        let part = self.part_at(end);
+        match part.form {
+            Form::Of(Kind::Letter(c, _)) => write_letter(c, variant, out)?,
+            // Of two styles, the outer one stays.
+            Form::Row(count, _) => {
+                self.write_group(
+                    Group::Row,
+                    count,
+                    Some(variant),
+                    end - part.size,
+                    end - 1,
+                    works,
+                    out,
+                )?
+            }
+            _ => return Ok(Some(end)),
+        }
+        Ok(None)
+    }
+
+    /// Writes the beginning of the last tree of the first `end` parts, and pushes what follows onto the list. Returns the tree
+    /// that comes next, if one does.
+    #[inline(always)]
+    fn write_at(
+        &self,
+        end: usize,
+        works: &mut Vec<Work>,
+        out: &mut String,
+    ) -> Result<Option<usize>, AllocError>
+        requires place { IsPlace self.now end }
+        requires inside { AreIn self.now works.old.items }
+        ensures print { IfOk result (Writes self.now out.old works.old out.new works.new
+            (print (tree_at self.now end))) }
+        ensures left { IfOk result (Leaves self.now works.old works.new
+            (begun_weight (tree_at self.now end))) }
+    {
+        let part = self.part_at(end);
+        match part.form {
+            Form::Of(kind) => {
+                if kind.arity() > 0 {
+                    return self.write_operands(kind, end - 1, works, out);
+                }
+                self.write_leaf_at(end, out)?
+            }
+            Form::Row(count, own) => {
+                self.write_group(Group::Row, count, own, end - part.size, end - 1, works, out)?
+            }
+            Form::Matrix(count, own, align) => {
+                let group = Group::Matrix(align);
+                self.write_group(group, count, own, end - part.size, end - 1, works, out)?
+            }
+            Form::Slashed => return self.write_under_slash(end - 1, works, out),
+            _ => self.write_rare_leaf(end, out)?,
+        }
+        Ok(None)
+    }
+
+    /// Returns whether the last of the first `end` parts has no operands.
+    #[inline(always)]
+    pub(crate) fn is_leaf(&self, end: usize) -> bool
+        requires { IsPlace self.now end }
+        ensures { result ≡ true → IsLeaf self.now end }
+    {
+        match self.part_at(end).size {
+            1 => true,
+            _ => false,
+        }
+    }
+
+    /// Writes a part that has no operands.
+    #[inline(never)]
+    pub(crate) fn write_leaf_at(&self, end: usize, out: &mut String) -> Result<(), AllocError>
+        requires place { IsPlace self.now end }
+        requires leaf { IsLeaf self.now end }
+        ensures { Appends out.old out.new (print (tree_at self.now end)) result }
+    {
+        match self.part_at(end).form {
+            Form::Of(Kind::Letter(c, variant)) => write_letter(c, variant, out),
+            Form::Of(Kind::Number(digits)) => write_number(digits, out),
+            Form::Of(Kind::Operator(c)) => write_operator(c, out),
+            _ => self.write_rare_leaf(end, out),
+        }
+    }
+
+    /// Writes a part that has no operands, of any form. It is not inlined, so that frequent ones need not save registers.
+    #[inline(never)]
+    fn write_rare_leaf(&self, end: usize, out: &mut String) -> Result<(), AllocError>
+        requires place { IsPlace self.now end }
+        requires leaf { IsLeaf self.now end }
+        ensures { Appends out.old out.new (print (tree_at self.now end)) result }
+    {
+        match self.part_at(end).form {
+            Form::Of(kind) => write_leaf(kind, out),
             Form::Name(place) => write_text("<mi>", self.text(place), "</mi>", out),
             Form::Words(place) => write_text("<mtext>", self.text(place), "</mtext>", out),
             Form::Undefined(place) => append_undefined(self.text(place), out),
             Form::Stretched(c) => write_char("<mo stretchy=\"true\">", c, "</mo>", out),
             Form::StretchedParen(paren) => out.push_str(stretched_markup(paren)),
+            Form::Row(_, _) => out.push_str("<mrow></mrow>"),
             _ => unreachable!(),
         }
     }
@@ -212,7 +216,7 @@ impl Parts<'_> {
         ensures print { IfOk result (Writes self.now out.old works.old out.new works.new
             (print (slashed (tree_at self.now end)))) }
         ensures left { IfOk result (Leaves self.now works.old works.new
-            (print_weight (slashed (tree_at self.now end)))) }
+            (begun_weight (slashed (tree_at self.now end)))) }
     {
         let _ = works;
         if write_slashed(self.part_at(end).form, out)? {
@@ -220,4 +224,12 @@ impl Parts<'_> {
         }
         Ok(Some(end))
     }
+}
+
+/// Writes a closing fence, and the end of its element.
+#[inline(never)]
+fn write_fence(fence: Option<Paren>, out: &mut String) -> Result<(), AllocError>
+    ensures { Appends out.old out.new (fence_close (fence_text fence)) result }
+{
+    out.push_str(closing_markup(fence))
 }

@@ -1,9 +1,10 @@
 //! Groups of trees: rows and matrices.
-ghost use Rattle.std.specs.Prelude.{◌≡◌, ◌+◌, ◌≤◌, OnOk, length, None};
-ghost use Rattle.latex2mathml_trees.specs.Print.{print};
-ghost use Rattle.latex2mathml_parts.specs.Forests.{IsPlace, members_at, tree_at, trees_at};
-ghost use Rattle.latex2mathml_parts.specs.Groups.{group_at, group_close, group_open};
-ghost use Rattle.latex2mathml_parts.specs.{Groups.member_in, Groups.members_in, Shapes.print_weight};
+ghost use Rattle.std.specs.Prelude.{◌≡◌, ◌+◌, ◌-◌, ◌≤◌, ◌<◌, ℕ, true, OnOk, drop, length, MatchOption, None};
+ghost use Rattle.latex2mathml_trees.specs.{Print.print, Texts.Appends};
+ghost use Rattle.latex2mathml_parts.specs.Forests.{AreLeaves, IsLeaf, IsPlace, members_at, tree_at, trees_at};
+ghost use Rattle.latex2mathml_parts.specs.Groups.{IsMark, IsNoMark, group_at, group_close, group_open, names_of};
+ghost use Rattle.latex2mathml_parts.specs.{Groups.member_in, Groups.members_in, Shapes.begun_weight, Shapes.print_weight};
+ghost use Rattle.latex2mathml_parts.specs.Tags.{ending_text, opening_text};
 ghost use Rattle.latex2mathml_parts.specs.Works.{Adds, AreIn, IsIn, Leaves, Writes, load};
 ghost use Rattle.latex2mathml_parts.specs.Works.{members_weight_at, work_print, work_weight};
 
@@ -11,6 +12,7 @@ use crate::form::Form;
 use crate::kind::Kind;
 use crate::parts::Parts;
 use crate::work::Work;
+use crate::write::tags::{Ending, Opening};
 use latex2mathml_tokens::attribute::{ColumnAlign, Variant};
 use std::alloc::AllocError;
 
@@ -23,52 +25,112 @@ pub(crate) enum Group {
 
 impl Group {
     /// Returns what precedes the members.
-    fn open(self) -> &'static str
-        ensures { result.now ≡ group_open self }
+    #[inline(always)]
+    fn opening(self) -> Opening
+        ensures { opening_text result ≡ group_open self }
     {
         match self {
-            Group::Row => "<mrow>",
-            Group::Matrix(ColumnAlign::Center) => "<mtable><mtr><mtd>",
-            Group::Matrix(ColumnAlign::Left) => "<mtable columnalign=\"left\"><mtr><mtd>",
-            Group::Matrix(ColumnAlign::Right) => "<mtable columnalign=\"right\"><mtr><mtd>",
+            Group::Row => Opening::Row,
+            Group::Matrix(ColumnAlign::Center) => Opening::Matrix,
+            Group::Matrix(ColumnAlign::Left) => Opening::LeftMatrix,
+            Group::Matrix(ColumnAlign::Right) => Opening::RightMatrix,
         }
     }
 
     /// Returns what follows them.
-    fn close(self) -> &'static str
-        ensures { result.now ≡ group_close self }
+    #[inline(always)]
+    fn ending(self) -> Ending
+        ensures { ending_text result ≡ group_close self }
     {
         match self {
-            Group::Row => "</mrow>",
-            Group::Matrix(_) => "</mtd></mtr></mtable>",
+            Group::Row => Ending::Row,
+            Group::Matrix(_) => Ending::Matrix,
+        }
+    }
+
+    /// Returns how many operands precede the members.
+    #[inline(always)]
+    fn names(self) -> usize
+        ensures { result ≡ names_of self }
+    {
+        match self {
+            Group::Row => 0,
+            Group::Matrix(_) => 1,
         }
     }
 }
 
 impl Parts<'_> {
-    /// Writes what precedes the members of a group, and pushes the `count` members and what follows them onto the list.
+    /// Writes what precedes the members of a group whose operands are from `start` to `end`, and pushes the `count`
+    /// members and what follows them onto the list. If they are leaves, it writes them at once.
+    #[inline(never)]
     #[tactic(auto, using(crate::proofs::Groups::group_weight, std::proofs::lemmas::Grind::common_steps))]
     pub(crate) fn write_group(
         &self,
         group: Group,
         count: usize,
         style: Option<Variant>,
+        start: usize,
         end: usize,
         works: &mut Vec<Work>,
         out: &mut String,
     ) -> Result<(), AllocError>
-        requires all { count ≤ length (trees_at self.now end) }
+        requires all { count + names_of group ≤ length (trees_at self.now end) }
+        requires start { trees_at self.now start
+            ≡ drop (count + names_of group) (trees_at self.now end) }
+        requires order { start ≤ end }
         requires within { end ≤ length self.now.list }
         requires inside { AreIn self.now works.old.items }
         ensures print { OnOk result (Writes self.now out.old works.old out.new works.new
             (print (group_at self.now group count style end)) None) }
         ensures left { OnOk result (Leaves self.now works.old works.new
-            (print_weight (group_at self.now group count style end)) None) }
+            (begun_weight (group_at self.now group count style end)) None) }
     {
-        out.push_str(group.open())?;
-        self.push_work(Work::Markup(group.close()), works)?;
+        group.opening().append(out)?;
+        if style.is_none() && end - start == count + group.names() {
+            self.write_leaves(group, count, end, out)?;
+            group.ending().append(out)?;
+            return Ok(());
+        }
+        self.push_work(Work::End(group.ending()), works)?;
         self.push_members(group, count, style, end, works)?;
         Ok(())
+    }
+
+    /// Writes `count` members of a group, which are leaves.
+    #[inline(always)]
+    fn write_leaves(
+        &self,
+        group: Group,
+        count: usize,
+        end: usize,
+        out: &mut String,
+    ) -> Result<(), AllocError>
+        requires all { count ≤ length (trees_at self.now end) }
+        requires within { end ≤ length self.now.list }
+        requires leaves { AreLeaves self.now (end - count) end }
+        ensures { Appends out.old out.new
+            (members_in group None (members_at self.now count end)) result }
+    {
+        let mut place = end - count;
+        'members: while place < end {
+            place += 1;
+            self.write_member(group, place, out)?;
+        }
+        Ok(())
+    }
+
+    /// Writes a member of a group, which is a leaf.
+    #[inline(always)]
+    fn write_member(&self, group: Group, end: usize, out: &mut String) -> Result<(), AllocError>
+        requires place { IsPlace self.now end }
+        requires leaf { IsLeaf self.now end }
+        ensures { Appends out.old out.new (member_in group None (tree_at self.now end)) result }
+    {
+        match self.mark(group, end) {
+            Some(ending) => ending.append(out),
+            None => self.write_leaf_at(end, out),
+        }
     }
 
     /// Pushes `count` members of a group onto the list, with the first on top.
@@ -100,23 +162,42 @@ impl Parts<'_> {
     }
 
     /// Returns a member of a group: a tree, or in a matrix the end of a cell or of a row of the matrix.
+    #[inline(always)]
+    #[tactic(auto, using(crate::proofs::Styles::plain))]
     fn member(&self, group: Group, end: usize, style: Option<Variant>) -> Work
         requires place { IsPlace self.now end }
         ensures inside { IsIn self.now result }
         ensures print { work_print self.now result ≡ member_in group style (tree_at self.now end) }
         ensures weight { work_weight self.now result ≤ print_weight (tree_at self.now end) }
     {
+        if let Some(ending) = self.mark(group, end) {
+            return Work::End(ending);
+        }
+        match style {
+            None => Work::Tree(end),
+            Some(variant) => Work::Styled(variant, end),
+        }
+    }
+
+    /// Returns what a member of a matrix is written as if it ends a cell or a row of the matrix.
+    #[inline(always)]
+    fn mark(&self, group: Group, end: usize) -> Option<Ending>
+        requires place { IsPlace self.now end }
+        ensures { MatchOption result (IsNoMark group (tree_at self.now end))
+            (IsMark group (tree_at self.now end)) }
+    {
         match group {
-            Group::Row => Work::Tree(end, style),
+            Group::Row => None,
             Group::Matrix(_) => match self.part_at(end).form {
-                Form::Of(Kind::NewLine) => Work::Markup("</mtd></mtr><mtr><mtd>"),
-                Form::Of(Kind::Ampersand) => Work::Markup("</mtd><mtd>"),
-                _ => Work::Tree(end, style),
+                Form::Of(Kind::NewLine) => Some(Ending::MatrixRow),
+                Form::Of(Kind::Ampersand) => Some(Ending::Cell),
+                _ => None,
             },
         }
     }
 
     /// Pushes a work onto the list.
+    #[inline(always)]
     #[tactic(auto, unfolding(crate::specs::Works::AreIn))]
     pub(crate) fn push_work(&self, work: Work, works: &mut Vec<Work>) -> Result<(), AllocError>
         requires one { IsIn self.now work }

@@ -4,16 +4,17 @@ ghost use Rattle.latex2mathml_trees.specs.{Print.print, Texts.Appends};
 ghost use Rattle.latex2mathml_trees.specs.Tree.{Tree, letter, number, operator, space};
 ghost use Rattle.latex2mathml_parts.specs.{Parts.arity, Parts.put, Parts.top};
 ghost use Rattle.latex2mathml_parts.specs.Shapes.{HidesSlash, sign_print, sized_print};
-ghost use Rattle.latex2mathml_parts.specs.Shapes.{slashed_print, upright_print};
+ghost use Rattle.latex2mathml_parts.specs.Shapes.{slashed_print, styled_print, upright_print};
 ghost use Rattle.latex2mathml_tokens.specs.{Escape.content, Escape.content_char};
 ghost use Rattle.latex2mathml_tokens.specs.declared.attribute.Variant.TheVariants.{Italic};
 
 use crate::form::Form;
 use crate::kind::Kind;
 use crate::write::fences::paren_markup;
+use crate::write::room::is_full;
 use crate::write::tables::{
-    command_operator_markup, digit_markup, function_markup, greek_markup, letter_markup,
-    letter_open, limit_markup, operator_markup, size_open, space_markup,
+    function_markup, greek_markup, letter_markup, letter_open, limit_markup, size_open,
+    space_markup,
 };
 use latex2mathml_tokens::attribute::{Accent, Variant};
 use latex2mathml_tokens::names::{Paren, Size};
@@ -42,19 +43,29 @@ pub fn write_leaf(kind: Kind, out: &mut String) -> Result<(), AllocError>
 }
 
 /// Writes a letter.
+#[inline(never)]
 pub(crate) fn write_letter(c: char, variant: Variant, out: &mut String) -> Result<(), AllocError>
     ensures { Appends out.old out.new (print (letter c variant)) result }
 {
     if let Variant::Italic = variant {
         return match letter_markup(c) {
-            Some(markup) => out.push_str(markup),
+            Some(markup) => append_short(markup, out),
             None => write_other_letter(c, out),
         };
     }
+    write_variant(c, variant, out)
+}
+
+/// Writes a letter that has a style.
+#[inline(never)]
+fn write_variant(c: char, variant: Variant, out: &mut String) -> Result<(), AllocError>
+    ensures { Appends out.old out.new (styled_print c variant) result }
+{
     write_char(letter_open(variant), c, "</mi>", out)
 }
 
 /// Writes an italic letter that is not ASCII.
+#[inline(never)]
 fn write_other_letter(c: char, out: &mut String) -> Result<(), AllocError>
     ensures { Appends out.old out.new (print (letter c Italic)) result }
 {
@@ -65,39 +76,87 @@ fn write_other_letter(c: char, out: &mut String) -> Result<(), AllocError>
 }
 
 /// Writes an operator.
+#[inline(never)]
+#[tactic(auto, unfolding(crate::proofs::Encoding::encode_utf8))]
 pub(crate) fn write_operator(c: char, out: &mut String) -> Result<(), AllocError>
     ensures { Appends out.old out.new (print (operator c)) result }
 {
     match c {
-        '∂' => {
-            out.push_str("<mo mathvariant=\"italic\">∂</mo>")?;
-            Ok(())
-        }
-        _ => match operator_markup(c) {
-            Some(markup) => out.push_str(markup),
-            None => write_other_operator(c, out),
-        },
+        '=' => out.push_str("<mo>=</mo>"),
+        '+' => out.push_str("<mo>+</mo>"),
+        '-' => out.push_str("<mo>-</mo>"),
+        '*' => out.push_str("<mo>*</mo>"),
+        '/' => out.push_str("<mo>/</mo>"),
+        ';' => out.push_str("<mo>;</mo>"),
+        ',' => out.push_str("<mo>,</mo>"),
+        '.' => out.push_str("<mo>.</mo>"),
+        '!' => out.push_str("<mo>!</mo>"),
+        '\'' => out.push_str("<mo>'</mo>"),
+        ':' => out.push_str("<mo>:</mo>"),
+        '<' => out.push_str("<mo>&lt;</mo>"),
+        '>' => out.push_str("<mo>&gt;</mo>"),
+        _ => write_other_operator(c, out),
     }
 }
 
 /// Writes an operator that is not ASCII.
+#[inline(never)]
+#[tactic(auto, unfolding(crate::proofs::Encoding::encode_utf8))]
 fn write_other_operator(c: char, out: &mut String) -> Result<(), AllocError>
-    ensures { Appends out.old out.new (upright_print c) result }
+    ensures { Appends out.old out.new (print (operator c)) result }
 {
-    match command_operator_markup(c) {
-        Some(markup) => out.push_str(markup),
-        None => write_char("<mo>", c, "</mo>", out),
+    match c {
+        '±' => out.push_str("<mo>±</mo>"),
+        '·' => out.push_str("<mo>·</mo>"),
+        '×' => out.push_str("<mo>×</mo>"),
+        '→' => out.push_str("<mo>→</mo>"),
+        '∈' => out.push_str("<mo>∈</mo>"),
+        '−' => out.push_str("<mo>−</mo>"),
+        '∗' => out.push_str("<mo>∗</mo>"),
+        '≠' => out.push_str("<mo>≠</mo>"),
+        '≤' => out.push_str("<mo>≤</mo>"),
+        '≥' => out.push_str("<mo>≥</mo>"),
+        '∂' => out.push_str("<mo mathvariant=\"italic\">∂</mo>"),
+        _ => write_rare_operator(c, out),
     }
 }
 
+/// Writes any operator that is not in italics.
+#[inline(never)]
+fn write_rare_operator(c: char, out: &mut String) -> Result<(), AllocError>
+    ensures { Appends out.old out.new (upright_print c) result }
+{
+    out.push_str("<mo>")?;
+    append_content_char(c, out)?;
+    out.push_str("</mo>")
+}
+
 /// Writes a number.
-fn write_number(digits: &str, out: &mut String) -> Result<(), AllocError>
+#[inline(never)]
+pub(crate) fn write_number(digits: &str, out: &mut String) -> Result<(), AllocError>
     ensures { Appends out.old out.new (print (number digits.now)) result }
 {
-    match digit_markup(digits.as_bytes()) {
-        Some(markup) => out.push_str(markup),
-        None => write_text("<mn>", digits, "</mn>", out),
+    match digits.as_bytes() {
+        [b'0'] => out.push_str("<mn>0</mn>"),
+        [b'1'] => out.push_str("<mn>1</mn>"),
+        [b'2'] => out.push_str("<mn>2</mn>"),
+        [b'3'] => out.push_str("<mn>3</mn>"),
+        [b'4'] => out.push_str("<mn>4</mn>"),
+        [b'5'] => out.push_str("<mn>5</mn>"),
+        [b'6'] => out.push_str("<mn>6</mn>"),
+        [b'7'] => out.push_str("<mn>7</mn>"),
+        [b'8'] => out.push_str("<mn>8</mn>"),
+        [b'9'] => out.push_str("<mn>9</mn>"),
+        _ => write_digits(digits, out),
     }
+}
+
+/// Writes a number of several digits.
+#[inline(never)]
+fn write_digits(digits: &str, out: &mut String) -> Result<(), AllocError>
+    ensures { Appends out.old out.new (print (number digits.now)) result }
+{
+    write_text("<mn>", digits, "</mn>", out)
 }
 
 /// Writes a letter or an operator with a slash through it, and returns whether the form is one.
@@ -187,4 +246,23 @@ pub(crate) fn write_char(
     out.push_str(before)?;
     append_content_char(c, out)?;
     out.push_str(after)
+}
+
+/// Appends the markup of a letter.
+#[inline(always)]
+fn append_short(markup: &'static str, out: &mut String) -> Result<(), AllocError>
+    ensures { Appends out.old out.new markup.now result }
+{
+    if is_full(out) {
+        return append_growing(markup, out);
+    }
+    out.push_str(markup)
+}
+
+/// Appends markup to a text that may have to grow.
+#[inline(never)]
+fn append_growing(markup: &'static str, out: &mut String) -> Result<(), AllocError>
+    ensures { Appends out.old out.new markup.now result }
+{
+    out.push_str(markup)
 }

@@ -1,17 +1,17 @@
 //! What surrounds the operands of a part, by its kind.
-ghost use Rattle.std.specs.Prelude.{◌≡◌, ◌<◌, List, None, Option, Some};
+ghost use Rattle.std.specs.Prelude.{◌≡◌, ◌<◌, ◌++◌, List, MatchOption, None, Some};
 ghost use Rattle.latex2mathml_trees.specs.{Print.print, Tree.Tree};
-ghost use Rattle.latex2mathml_tokens.specs.declared.attribute.Variant.{Variant};
-ghost use Rattle.latex2mathml_parts.specs.{Forms.in_style, Parts.arity, Parts.put, Parts.top};
-ghost use Rattle.latex2mathml_parts.specs.{Forests.Forest, Shapes.WeighsLess, Shapes.count_of};
-ghost use Rattle.latex2mathml_parts.specs.Works.{IsIn, shape_print, shape_with, work_weight};
-ghost use Rattle.latex2mathml_parts.specs.declared.work.Work.{Work};
-ghost use Rattle.latex2mathml_parts.specs.declared.write.shapes.Operands.{Operands};
+ghost use Rattle.latex2mathml_parts.specs.{Parts.arity, Parts.put, Parts.top};
+ghost use Rattle.latex2mathml_parts.specs.Forests.{Forest};
+ghost use Rattle.latex2mathml_parts.specs.Works.{IsIn, work_print, work_weight};
+ghost use Rattle.latex2mathml_parts.specs.Shapes.{HasFrame, IsShapeOf, WeighsLess, shape_with};
+ghost use Rattle.latex2mathml_parts.specs.declared.write.shapes.Operands.TheVariants.{One};
 
 use crate::kind::Kind;
 use crate::work::Work;
-use crate::write::fences::{closing_markup, opening_markup};
+use crate::write::fences::opening_markup;
 use crate::write::tables::limited_markup;
+use crate::write::tags::{Ending, Opening};
 use latex2mathml_tokens::DisplayStyle;
 
 /// The operands of a part, and their order in the markup.
@@ -28,109 +28,113 @@ pub(crate) enum Operands {
 /// What surrounds the operands of a part.
 #[derive(Clone, Copy)]
 pub(crate) struct Shape {
-    pub(crate) before: &'static str,
+    pub(crate) opening: Opening,
     /// An operator that follows.
     pub(crate) sign: Option<char>,
     pub(crate) operands: Operands,
+    pub(crate) ending: Ending,
+}
+
+/// What surrounds the only operand of a part that has no shape.
+#[derive(Clone, Copy)]
+pub(crate) struct Frame {
+    pub(crate) before: &'static str,
     pub(crate) after: Work,
 }
 
-/// Returns the shape of a part that has operands.
-#[tactic(auto, unfolding(crate::specs::Shapes::sign_print))]
+/// Returns the shape of a part that has operands, if it has one.
 #[inline(always)]
-pub(crate) fn shape_of(kind: Kind) -> Shape
+pub(crate) fn shape_of(kind: Kind) -> Option<Shape>
     requires { 0 < arity kind }
-    ensures operands { count_of result.operands ≡ arity kind.entry }
-    ensures after { (f : Forest) → IsIn f result.after × (work_weight f result.after ≡ 1) }
-    ensures print { (f : Forest) (style : Option Variant) (ts : List Tree) → shape_print f result ts
-        ≡ print (in_style style (top (put kind.entry ts))) }
-    ensures weight { WeighsLess result.operands kind.entry }
+    ensures { MatchOption result (HasFrame kind.entry) (IsShapeOf kind.entry) }
 {
     match kind {
-        Kind::Primed => around("<msup>", Operands::One, "<mo>′</mo></msup>"),
-        Kind::Sqrt => around("<msqrt>", Operands::One, "</msqrt>"),
-        Kind::LimitUnder(name) => around(limited_markup(name), Operands::One, "</munder>"),
-        Kind::Fenced(opening, close) => {
-            around(
-                opening_markup(opening),
-                Operands::One,
-                closing_markup(close),
-            )
+        Kind::Primed => around(Opening::Sup, Operands::One, Ending::Prime),
+        Kind::Sqrt => around(Opening::Sqrt, Operands::One, Ending::Sqrt),
+        Kind::LimitBelow(c) => signed(Opening::Under, c, Operands::One, Ending::Under),
+        Kind::LimitAbove(c) => signed(Opening::Over, c, Operands::One, Ending::Over),
+        Kind::LimitSub(c) => signed(Opening::Sub, c, Operands::One, Ending::Sub),
+        Kind::LimitSup(c) => signed(Opening::Sup, c, Operands::One, Ending::Sup),
+        Kind::LimitsBelowAbove(c) => {
+            signed(Opening::UnderOver, c, Operands::Two, Ending::UnderOver)
         }
-        Kind::Over(c, accent) => before_work("<mover>", Work::SignOver(c, accent)),
-        Kind::Under(c, accent) => before_work("<munder>", Work::SignUnder(c, accent)),
-        Kind::Overbrace(c) => before_work("<mover>", Work::BraceOver(c)),
-        Kind::Underbrace(c) => before_work("<munder>", Work::BraceUnder(c)),
-        Kind::LimitBelow(c) => signed("<munder>", c, Operands::One, "</munder>"),
-        Kind::LimitAbove(c) => signed("<mover>", c, Operands::One, "</mover>"),
-        Kind::LimitSub(c) => signed("<msub>", c, Operands::One, "</msub>"),
-        Kind::LimitSup(c) => signed("<msup>", c, Operands::One, "</msup>"),
-        Kind::LimitsBelowAbove(c) => signed("<munderover>", c, Operands::Two, "</munderover>"),
-        Kind::LimitsAboveBelow(c) => signed("<munderover>", c, Operands::Swapped, "</munderover>"),
-        Kind::LimitsSubSup(c) => signed("<msubsup>", c, Operands::Two, "</msubsup>"),
-        Kind::LimitsSupSub(c) => signed("<msubsup>", c, Operands::Swapped, "</msubsup>"),
-        Kind::Sub => around("<msub>", Operands::Two, "</msub>"),
-        Kind::Sup => around("<msup>", Operands::Two, "</msup>"),
-        Kind::Frac => around("<mfrac>", Operands::Two, "</mfrac>"),
-        Kind::Binom(None) => around(
-            "<mrow><mo stretchy=\"true\" form=\"prefix\">(</mo><mfrac linethickness=\"0\">",
-            Operands::Two,
-            "</mfrac><mo stretchy=\"true\" form=\"postfix\">)</mo></mrow>",
-        ),
-        Kind::Binom(Some(DisplayStyle::Block)) => around(
-            "<mstyle displaystyle=\"true\"><mrow><mrow><mo stretchy=\"true\" form=\"prefix\">(</mo><mfrac linethickness=\"0\">",
-            Operands::Two,
-            "</mfrac><mo stretchy=\"true\" form=\"postfix\">)</mo></mrow></mrow></mstyle>",
-        ),
-        Kind::Binom(Some(DisplayStyle::Inline)) => around(
-            "<mstyle displaystyle=\"false\"><mrow><mrow><mo stretchy=\"true\" form=\"prefix\">(</mo><mfrac linethickness=\"0\">",
-            Operands::Two,
-            "</mfrac><mo stretchy=\"true\" form=\"postfix\">)</mo></mrow></mrow></mstyle>",
-        ),
-        Kind::Overset => around("<mover>", Operands::Swapped, "</mover>"),
-        Kind::Underset => around("<munder>", Operands::Swapped, "</munder>"),
-        Kind::Root => around("<mroot>", Operands::Swapped, "</mroot>"),
-        Kind::OverbraceWith(c) => around("<mover>", Operands::Labelled(c), "</mover></mover>"),
-        Kind::UnderbraceWith(c) => around("<munder>", Operands::Labelled(c), "</munder></munder>"),
+        Kind::LimitsAboveBelow(c) => {
+            signed(Opening::UnderOver, c, Operands::Swapped, Ending::UnderOver)
+        }
+        Kind::LimitsSubSup(c) => signed(Opening::SubSup, c, Operands::Two, Ending::SubSup),
+        Kind::LimitsSupSub(c) => signed(Opening::SubSup, c, Operands::Swapped, Ending::SubSup),
+        Kind::Sub => around(Opening::Sub, Operands::Two, Ending::Sub),
+        Kind::Sup => around(Opening::Sup, Operands::Two, Ending::Sup),
+        Kind::Frac => around(Opening::Frac, Operands::Two, Ending::Frac),
+        Kind::Binom(None) => around(Opening::Binom, Operands::Two, Ending::Binom),
+        Kind::Binom(Some(DisplayStyle::Block)) => {
+            around(Opening::BlockBinom, Operands::Two, Ending::StyledBinom)
+        }
+        Kind::Binom(Some(DisplayStyle::Inline)) => {
+            around(Opening::InlineBinom, Operands::Two, Ending::StyledBinom)
+        }
+        Kind::Overset => around(Opening::Over, Operands::Swapped, Ending::Over),
+        Kind::Underset => around(Opening::Under, Operands::Swapped, Ending::Under),
+        Kind::Root => around(Opening::Root, Operands::Swapped, Ending::Root),
+        Kind::OverbraceWith(c) => around(Opening::Over, Operands::Labelled(c), Ending::TwoOver),
+        Kind::UnderbraceWith(c) => around(Opening::Under, Operands::Labelled(c), Ending::TwoUnder),
+        Kind::LimitUnder(_) | Kind::Fenced(_, _) | Kind::Over(_, _) => None,
+        Kind::Under(_, _) | Kind::Overbrace(_) | Kind::Underbrace(_) => None,
         _ => unreachable!(),
     }
 }
 
-/// Returns the shape of operands between two texts.
+/// Returns what surrounds the only operand of a part that has no shape.
 #[inline(always)]
-fn around(before: &'static str, operands: Operands, after: &'static str) -> Shape
-    ensures { result ≡ shape_with before.entry None operands (Work.Markup after.entry) }
+#[tactic(auto, unfolding(crate::specs::Shapes::sign_print))]
+pub(crate) fn frame_of(kind: Kind) -> Frame
+    requires { HasFrame kind }
+    ensures after { (f : Forest) → IsIn f result.after × (work_weight f result.after ≡ 1) }
+    ensures print { (f : Forest) (ts : List Tree) → result.before.now
+        ++ (print (top ts) ++ work_print f result.after) ≡ print (top (put kind.entry ts)) }
+    ensures weight { WeighsLess One kind.entry }
 {
-    Shape {
-        before,
-        sign: None,
-        operands,
-        after: Work::Markup(after),
+    match kind {
+        Kind::LimitUnder(name) => framed(limited_markup(name), Work::End(Ending::Under)),
+        Kind::Fenced(opening, close) => framed(opening_markup(opening), Work::Fence(close)),
+        Kind::Over(c, accent) => framed("<mover>", Work::SignOver(c, accent)),
+        Kind::Under(c, accent) => framed("<munder>", Work::SignUnder(c, accent)),
+        Kind::Overbrace(c) => framed("<mover>", Work::BraceOver(c)),
+        Kind::Underbrace(c) => framed("<munder>", Work::BraceUnder(c)),
+        _ => unreachable!(),
     }
 }
 
-/// Returns the shape of operands between two texts, with an operator before the operands.
 #[inline(always)]
-fn signed(before: &'static str, sign: char, operands: Operands, after: &'static str) -> Shape
-    ensures { result ≡ shape_with before.entry (Some sign) operands (Work.Markup after.entry) }
+fn framed(before: &'static str, after: Work) -> Frame
+    ensures before { result.before ≡ before.entry }
+    ensures after { result.after ≡ after }
 {
-    Shape {
-        before,
+    Frame { before, after }
+}
+
+/// Returns the shape of operands between two tags.
+#[inline(always)]
+fn around(opening: Opening, operands: Operands, ending: Ending) -> Option<Shape>
+    ensures { result ≡ Some (shape_with opening None operands ending) }
+{
+    Some(Shape {
+        opening,
+        sign: None,
+        operands,
+        ending,
+    })
+}
+
+/// Returns the shape of operands between two tags, with an operator before the operands.
+#[inline(always)]
+fn signed(opening: Opening, sign: char, operands: Operands, ending: Ending) -> Option<Shape>
+    ensures { result ≡ Some (shape_with opening (Some sign) operands ending) }
+{
+    Some(Shape {
+        opening,
         sign: Some(sign),
         operands,
-        after: Work::Markup(after),
-    }
-}
-
-/// Returns the shape of one operand before an operator or a sign.
-#[inline(always)]
-fn before_work(before: &'static str, after: Work) -> Shape
-    ensures { result ≡ shape_with before.entry None Operands.One after }
-{
-    Shape {
-        before,
-        sign: None,
-        operands: Operands::One,
-        after,
-    }
+        ending,
+    })
 }

@@ -1,8 +1,7 @@
 //! Markup of characters and names, as it is written.
 ghost use Rattle.std.specs.Prelude.{◌≡◌, ◌++◌, IfSome, codes};
 ghost use Rattle.latex2mathml_trees.specs.Print.{print};
-ghost use Rattle.latex2mathml_trees.specs.Tree.{function, letter, number, operator, space};
-ghost use Rattle.latex2mathml_parts.specs.Shapes.{upright_print};
+ghost use Rattle.latex2mathml_trees.specs.Tree.{function, letter, space};
 ghost use Rattle.latex2mathml_tokens.specs.{Attributes.variant_text, Escape.value};
 ghost use Rattle.latex2mathml_tokens.specs.Names.{function_text, limit_text, size_text};
 ghost use Rattle.latex2mathml_tokens.specs.declared.attribute.Variant.TheVariants.{Italic};
@@ -50,44 +49,6 @@ pub(crate) fn greek_markup(c: char) -> Option<&'static str>
         'α' 'β' 'γ' 'δ' 'ε' 'ζ' 'η' 'θ' 'ι' 'κ' 'λ' 'μ' 'ν' 'ξ' 'ο' 'π' 'ρ' 'ς' 'σ' 'τ'
         'υ' 'φ' 'χ' 'ψ' 'ω' 'ϑ' 'ϕ' 'ϖ' 'ϱ' 'ϵ'
     )
-}
-
-/// Returns the markup of an operator that is ASCII and has no command.
-#[tactic(auto, unfolding(crate::proofs::Encoding::encode_utf8))]
-pub(crate) fn operator_markup(c: char) -> Option<&'static str>
-    ensures { IfSome result (λ markup. markup.now ≡ print (operator c)) }
-{
-    elements!(c, "<mo>", "</mo>",
-        '=' '+' '-' '*' '/' ';' ',' '.' '!' '\'' ':'; '<' => "&lt;"; '>' => "&gt;"
-    )
-}
-
-/// Returns the markup of an operator of a frequent command.
-#[tactic(auto, unfolding(crate::proofs::Encoding::encode_utf8))]
-pub(crate) fn command_operator_markup(c: char) -> Option<&'static str>
-    ensures { IfSome result (λ markup. markup.now ≡ upright_print c) }
-{
-    elements!(c, "<mo>", "</mo>", '±' '·' '×' '→' '∈' '−' '∗' '≠' '≤' '≥')
-}
-
-/// Returns the markup of a number of one digit.
-#[inline(always)]
-pub(crate) fn digit_markup(digits: &[u8]) -> Option<&'static str>
-    ensures { IfSome result (λ markup. markup.now ≡ print (number digits.now)) }
-{
-    match digits {
-        [b'0'] => Some("<mn>0</mn>"),
-        [b'1'] => Some("<mn>1</mn>"),
-        [b'2'] => Some("<mn>2</mn>"),
-        [b'3'] => Some("<mn>3</mn>"),
-        [b'4'] => Some("<mn>4</mn>"),
-        [b'5'] => Some("<mn>5</mn>"),
-        [b'6'] => Some("<mn>6</mn>"),
-        [b'7'] => Some("<mn>7</mn>"),
-        [b'8'] => Some("<mn>8</mn>"),
-        [b'9'] => Some("<mn>9</mn>"),
-        _ => None,
-    }
 }
 
 /// Returns the markup of a space whose width a command has.
