@@ -105,6 +105,7 @@ pub(crate) fn frame_of(kind: Kind) -> Frame
     }
 }
 
+/// Returns what is before an operand and after it.
 #[inline(always)]
 fn framed(before: &'static str, after: Work) -> Frame
     ensures before { result.before ≡ before.entry }

@@ -9,7 +9,7 @@ ghost use Rattle.latex2mathml_tokens.specs.declared.attribute.Variant.TheVariant
 use latex2mathml_tokens::attribute::Variant;
 use latex2mathml_tokens::names::{FunctionName, LimitName, Size};
 
-/// The element of a character between two texts, if it is one of these. Some characters are written as another text.
+/// The element of a character or a number between two texts, if it is one of these. Some are written as another text.
 macro_rules! elements {
     ($c:ident, $before:literal, $after:literal, $($char:literal)* $(; $escaped:literal => $text:literal)*) => {
         match $c {

@@ -73,6 +73,7 @@ impl Opening {
         self.append_here(out)
     }
 
+    /// Appends the text, in the function that calls this.
     #[inline(always)]
     fn append_here(self, out: &mut String) -> Result<(), AllocError>
         ensures { Appends out.old out.new (opening_text self) result }
@@ -136,6 +137,7 @@ impl Ending {
         self.append_here(out)
     }
 
+    /// Appends the text, in the function that calls this.
     #[inline(always)]
     fn append_here(self, out: &mut String) -> Result<(), AllocError>
         ensures { Appends out.old out.new (ending_text self) result }
