@@ -5,7 +5,7 @@ use Rattle.latex2mathml_parser.proofs.Stepping.{step_within}
 use Rattle.latex2mathml_parser.proofs.parse.Parser.begin_rule.Goals as goal
 
 pub returns-in-Over-clause-holds : goal.returns-in-Over-clause-holds
-returns-in-Over-clause-holds c = λ input k. c.open-in-Over.ensures.holds input (rw c.in-Over.is at k)
+returns-in-Over-clause-holds c = λ input k. c.open.ensures.holds input (rw c.in-Over.is at k)
 
 pub returns-in-Under-clause-holds : goal.returns-in-Under-clause-holds
 returns-in-Under-clause-holds c = λ input k. c.open-in-Under.ensures.holds input (rw c.in-Under.is at k)
@@ -118,7 +118,7 @@ pub returns-in-Begin-clause-step : goal.returns-in-Begin-clause-step
 returns-in-Begin-clause-step c = rw c.in-Begin.is c.begin_environment.ensures.step
 
 pub returns-in-Over-clause-step : goal.returns-in-Over-clause-step
-returns-in-Over-clause-step c = rw c.in-Over.is (step_within _ _ _ c.open-in-Over.ensures.step (omega arith) (omega arith))
+returns-in-Over-clause-step c = rw c.in-Over.is (step_within _ _ _ c.open.ensures.step (omega arith) (omega arith))
 
 pub returns-in-Under-clause-step : goal.returns-in-Under-clause-step
 returns-in-Under-clause-step c = rw c.in-Under.is (step_within _ _ _ c.open-in-Under.ensures.step (omega arith) (omega arith))
