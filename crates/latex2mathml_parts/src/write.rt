@@ -10,7 +10,6 @@ mod fences;
 mod groups;
 mod leaves;
 mod operands;
-mod room;
 mod shapes;
 mod tables;
 pub(crate) mod tags;

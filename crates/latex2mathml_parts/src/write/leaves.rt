@@ -11,7 +11,6 @@ ghost use Rattle.latex2mathml_tokens.specs.declared.attribute.Variant.TheVariant
 use crate::form::Form;
 use crate::kind::Kind;
 use crate::write::fences::paren_markup;
-use crate::write::room::is_full;
 use crate::write::tables::{
     function_markup, greek_markup, letter_markup, letter_open, limit_markup, size_open,
     space_markup,
@@ -49,7 +48,7 @@ pub(crate) fn write_letter(c: char, variant: Variant, out: &mut String) -> Resul
 {
     if let Variant::Italic = variant {
         return match letter_markup(c) {
-            Some(markup) => append_short(markup, out),
+            Some(markup) => out.push_str(markup),
             None => write_other_letter(c, out),
         };
     }
@@ -246,23 +245,4 @@ pub(crate) fn write_char(
     out.push_str(before)?;
     append_content_char(c, out)?;
     out.push_str(after)
-}
-
-/// Appends the markup of a letter.
-#[inline(always)]
-fn append_short(markup: &'static str, out: &mut String) -> Result<(), AllocError>
-    ensures { Appends out.old out.new markup.now result }
-{
-    if is_full(out) {
-        return append_growing(markup, out);
-    }
-    out.push_str(markup)
-}
-
-/// Appends markup to a text that may have to grow.
-#[inline(never)]
-fn append_growing(markup: &'static str, out: &mut String) -> Result<(), AllocError>
-    ensures { Appends out.old out.new markup.now result }
-{
-    out.push_str(markup)
 }

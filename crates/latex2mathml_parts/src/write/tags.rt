@@ -3,7 +3,6 @@
 ghost use Rattle.latex2mathml_trees.specs.Texts.{Appends};
 ghost use Rattle.latex2mathml_parts.specs.Tags.{IsLong, ending_text, opening_text};
 
-use crate::write::room::is_full;
 use std::alloc::AllocError;
 
 /// What opens an element.
@@ -59,25 +58,6 @@ impl Opening {
     pub(crate) fn append(self, out: &mut String) -> Result<(), AllocError>
         ensures { Appends out.old out.new (opening_text self) result }
     {
-        if is_full(out) {
-            return self.append_growing(out);
-        }
-        self.append_here(out)
-    }
-
-    /// Appends the text to one that may have to grow.
-    #[inline(never)]
-    fn append_growing(self, out: &mut String) -> Result<(), AllocError>
-        ensures { Appends out.old out.new (opening_text self) result }
-    {
-        self.append_here(out)
-    }
-
-    /// Appends the text, in the function that calls this.
-    #[inline(always)]
-    fn append_here(self, out: &mut String) -> Result<(), AllocError>
-        ensures { Appends out.old out.new (opening_text self) result }
-    {
         match self {
             Opening::Row => out.push_str("<mrow>"),
             Opening::Sqrt => out.push_str("<msqrt>"),
@@ -90,17 +70,6 @@ impl Opening {
             Opening::SubSup => out.push_str("<msubsup>"),
             Opening::UnderOver => out.push_str("<munderover>"),
             Opening::Matrix => out.push_str("<mtable><mtr><mtd>"),
-            _ => self.append_long(out),
-        }
-    }
-
-    /// Appends a text that is rare or long.
-    #[inline(never)]
-    fn append_long(self, out: &mut String) -> Result<(), AllocError>
-        requires { IsLong self }
-        ensures { Appends out.old out.new (opening_text self) result }
-    {
-        match self {
             Opening::LeftMatrix => out.push_str("<mtable columnalign=\"left\"><mtr><mtd>"),
             Opening::RightMatrix => out.push_str("<mtable columnalign=\"right\"><mtr><mtd>"),
             Opening::Binom => out.push_str(
@@ -112,7 +81,6 @@ impl Opening {
             Opening::InlineBinom => out.push_str(
                 "<mstyle displaystyle=\"false\"><mrow><mrow><mo stretchy=\"true\" form=\"prefix\">(</mo><mfrac linethickness=\"0\">",
             ),
-            _ => unreachable!(),
         }
     }
 }
@@ -121,25 +89,6 @@ impl Ending {
     /// Appends the text.
     #[inline(never)]
     pub(crate) fn append(self, out: &mut String) -> Result<(), AllocError>
-        ensures { Appends out.old out.new (ending_text self) result }
-    {
-        if is_full(out) {
-            return self.append_growing(out);
-        }
-        self.append_here(out)
-    }
-
-    /// Appends the text to one that may have to grow.
-    #[inline(never)]
-    fn append_growing(self, out: &mut String) -> Result<(), AllocError>
-        ensures { Appends out.old out.new (ending_text self) result }
-    {
-        self.append_here(out)
-    }
-
-    /// Appends the text, in the function that calls this.
-    #[inline(always)]
-    fn append_here(self, out: &mut String) -> Result<(), AllocError>
         ensures { Appends out.old out.new (ending_text self) result }
     {
         match self {
