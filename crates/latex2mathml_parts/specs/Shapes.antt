@@ -88,11 +88,11 @@ pub record IsShapeOf (k : Kind) (s : Shape) : Type 0 where
   pub weighs : WeighsLess s.operands k
 
 -- a part of this kind has one operand, and no shape
-abbrev pub HasFrame : Kind → Type 0
-HasFrame (kind.LimitUnder name) = Unit {0}
-HasFrame (kind.Fenced opening close) = Unit {0}
-HasFrame (kind.Over c accent) = Unit {0}
-HasFrame (kind.Under c accent) = Unit {0}
-HasFrame (kind.Overbrace c) = Unit {0}
-HasFrame (kind.Underbrace c) = Unit {0}
-HasFrame k = ⊥
+abbrev pub HasSurroundings : Kind → Type 0
+HasSurroundings (kind.LimitUnder name) = Unit {0}
+HasSurroundings (kind.Fenced opening close) = Unit {0}
+HasSurroundings (kind.Over c accent) = Unit {0}
+HasSurroundings (kind.Under c accent) = Unit {0}
+HasSurroundings (kind.Overbrace c) = Unit {0}
+HasSurroundings (kind.Underbrace c) = Unit {0}
+HasSurroundings k = ⊥

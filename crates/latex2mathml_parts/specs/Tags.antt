@@ -23,15 +23,6 @@ opening_text opening.Binom = codes "<mrow><mo stretchy=\"true\" form=\"prefix\">
 opening_text opening.BlockBinom = codes "<mstyle displaystyle=\"true\"><mrow><mrow><mo stretchy=\"true\" form=\"prefix\">(</mo><mfrac linethickness=\"0\">"
 opening_text opening.InlineBinom = codes "<mstyle displaystyle=\"false\"><mrow><mrow><mo stretchy=\"true\" form=\"prefix\">(</mo><mfrac linethickness=\"0\">"
 
--- one of the longer texts
-abbrev pub IsLong : Opening → Type 0
-IsLong opening.LeftMatrix = Unit {0}
-IsLong opening.RightMatrix = Unit {0}
-IsLong opening.Binom = Unit {0}
-IsLong opening.BlockBinom = Unit {0}
-IsLong opening.InlineBinom = Unit {0}
-IsLong o = ⊥
-
 abbrev pub ending_text : Ending → List ℕ
 ending_text ending.Row = codes "</mrow>"
 ending_text ending.Sqrt = codes "</msqrt>"

@@ -163,10 +163,7 @@ impl Parts<'_> {
         requires { IsPlace self.now end }
         ensures { result ≡ true → IsLeaf self.now end }
     {
-        match self.part_at(end).size {
-            1 => true,
-            _ => false,
-        }
+        self.part_at(end).size == 1
     }
 
     /// Writes a part that has no operands.

@@ -12,7 +12,7 @@ use crate::kind::Kind;
 use crate::parts::Parts;
 use crate::work::Work;
 use crate::write::leaves::write_operator;
-use crate::write::shapes::{Frame, Operands, Shape, frame_of, shape_of};
+use crate::write::shapes::{Operands, Shape, Surroundings, shape_of, surroundings_of};
 use crate::write::tags::{Ending, Opening};
 use std::alloc::AllocError;
 
@@ -38,30 +38,30 @@ impl Parts<'_> {
     {
         match shape_of(kind) {
             Some(shape) => self.write_shape(shape, end, works, out),
-            None => self.write_frame(frame_of(kind), end, works, out),
+            None => self.write_surrounded(surroundings_of(kind), end, works, out),
         }
     }
 
     /// Writes what precedes the only operand, and pushes what follows it. The operand comes next.
     #[inline(always)]
-    fn write_frame(
+    fn write_surrounded(
         &self,
-        frame: Frame,
+        around: Surroundings,
         end: usize,
         works: &mut Vec<Work>,
         out: &mut String,
     ) -> Result<Option<usize>, AllocError>
         requires place { IsPlace self.now end }
-        requires after { IsIn self.now frame.after × (work_weight self.now frame.after ≡ 1) }
+        requires after { IsIn self.now around.after × (work_weight self.now around.after ≡ 1) }
         requires inside { AreIn self.now works.old.items }
         ensures print { IfOk result (Writes self.now out.old works.old out.new works.new
-            (frame.before.now
-            ++ (print (tree_at self.now end) ++ work_print self.now frame.after))) }
+            (around.before.now
+            ++ (print (tree_at self.now end) ++ work_print self.now around.after))) }
         ensures left { IfOk result (Leaves self.now works.old works.new
             (print_weight (tree_at self.now end) + 2)) }
     {
-        out.push_str(frame.before)?;
-        self.push_work(frame.after, works)?;
+        out.push_str(around.before)?;
+        self.push_work(around.after, works)?;
         Ok(Some(end))
     }
 

@@ -4,7 +4,7 @@ ghost use Rattle.latex2mathml_trees.specs.{Print.print, Tree.Tree};
 ghost use Rattle.latex2mathml_parts.specs.{Parts.arity, Parts.put, Parts.top};
 ghost use Rattle.latex2mathml_parts.specs.Forests.{Forest};
 ghost use Rattle.latex2mathml_parts.specs.Works.{IsIn, work_print, work_weight};
-ghost use Rattle.latex2mathml_parts.specs.Shapes.{HasFrame, IsShapeOf, WeighsLess, shape_with};
+ghost use Rattle.latex2mathml_parts.specs.Shapes.{HasSurroundings, IsShapeOf, WeighsLess, shape_with};
 ghost use Rattle.latex2mathml_parts.specs.declared.write.shapes.Operands.TheVariants.{One};
 
 use crate::kind::Kind;
@@ -37,7 +37,7 @@ pub(crate) struct Shape {
 
 /// What surrounds the only operand of a part that has no shape.
 #[derive(Clone, Copy)]
-pub(crate) struct Frame {
+pub(crate) struct Surroundings {
     pub(crate) before: &'static str,
     pub(crate) after: Work,
 }
@@ -46,7 +46,7 @@ pub(crate) struct Frame {
 #[inline(always)]
 pub(crate) fn shape_of(kind: Kind) -> Option<Shape>
     requires { 0 < arity kind }
-    ensures { MatchOption result (HasFrame kind.entry) (IsShapeOf kind.entry) }
+    ensures { MatchOption result (HasSurroundings kind.entry) (IsShapeOf kind.entry) }
 {
     match kind {
         Kind::Primed => around(Opening::Sup, Operands::One, Ending::Prime),
@@ -87,31 +87,31 @@ pub(crate) fn shape_of(kind: Kind) -> Option<Shape>
 /// Returns what surrounds the only operand of a part that has no shape.
 #[inline(always)]
 #[tactic(auto, unfolding(crate::specs::Shapes::sign_print))]
-pub(crate) fn frame_of(kind: Kind) -> Frame
-    requires { HasFrame kind }
+pub(crate) fn surroundings_of(kind: Kind) -> Surroundings
+    requires { HasSurroundings kind }
     ensures after { (f : Forest) → IsIn f result.after × (work_weight f result.after ≡ 1) }
     ensures print { (f : Forest) (ts : List Tree) → result.before.now
         ++ (print (top ts) ++ work_print f result.after) ≡ print (top (put kind.entry ts)) }
     ensures weight { WeighsLess One kind.entry }
 {
     match kind {
-        Kind::LimitUnder(name) => framed(limited_markup(name), Work::End(Ending::Under)),
-        Kind::Fenced(opening, close) => framed(opening_markup(opening), Work::Fence(close)),
-        Kind::Over(c, accent) => framed("<mover>", Work::SignOver(c, accent)),
-        Kind::Under(c, accent) => framed("<munder>", Work::SignUnder(c, accent)),
-        Kind::Overbrace(c) => framed("<mover>", Work::BraceOver(c)),
-        Kind::Underbrace(c) => framed("<munder>", Work::BraceUnder(c)),
+        Kind::LimitUnder(name) => surrounded(limited_markup(name), Work::End(Ending::Under)),
+        Kind::Fenced(opening, close) => surrounded(opening_markup(opening), Work::Fence(close)),
+        Kind::Over(c, accent) => surrounded("<mover>", Work::SignOver(c, accent)),
+        Kind::Under(c, accent) => surrounded("<munder>", Work::SignUnder(c, accent)),
+        Kind::Overbrace(c) => surrounded("<mover>", Work::BraceOver(c)),
+        Kind::Underbrace(c) => surrounded("<munder>", Work::BraceUnder(c)),
         _ => unreachable!(),
     }
 }
 
 /// Returns what is before an operand and after it.
 #[inline(always)]
-fn framed(before: &'static str, after: Work) -> Frame
+fn surrounded(before: &'static str, after: Work) -> Surroundings
     ensures before { result.before ≡ before.entry }
     ensures after { result.after ≡ after }
 {
-    Frame { before, after }
+    Surroundings { before, after }
 }
 
 /// Returns the shape of operands between two tags.

@@ -1,7 +1,7 @@
 //! What opens elements and ends them. Each is a text of its own, of a length that is known, in a function that is not inlined.
 //! Inlined, it would be one of many branches of its caller, which the compiler takes for rare, and a call would copy the text.
 ghost use Rattle.latex2mathml_trees.specs.Texts.{Appends};
-ghost use Rattle.latex2mathml_parts.specs.Tags.{IsLong, ending_text, opening_text};
+ghost use Rattle.latex2mathml_parts.specs.Tags.{ending_text, opening_text};
 
 use std::alloc::AllocError;
 

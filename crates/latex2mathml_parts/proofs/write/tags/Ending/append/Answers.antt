@@ -1,6 +1,6 @@
 use Rattle.std.specs.Char.{encode_utf8}
 use Rattle.latex2mathml_parts.proofs.Markups.{appended}
-use Rattle.latex2mathml_parts.proofs.write.tags.Ending.append_here.Goals as goal
+use Rattle.latex2mathml_parts.proofs.write.tags.Ending.append.Goals as goal
 
 pub returns-in-Prime : goal.returns-in-Prime
 unfolding encode_utf8
