@@ -2,7 +2,8 @@
 ghost use Rattle.std.specs.Prelude.{◌≡◌, ℕ, ◌∷◌, ◌++◌, [], IfOk, IfSome, List, MatchBool, OnOk, string_bytes};
 ghost use Rattle.latex2mathml_grammar.specs.{Grammar.ReadsFormula, Grammar.Refuses, Openers.opens};
 ghost use Rattle.latex2mathml_grammar.specs.Rendering.{IsFormulaRefusal, IsRendering, math_print};
-ghost use Rattle.latex2mathml_parser.specs.Claims.{AppendsMath, HoldsRefusal, IsAppended, IsLoneLeaf, IsMathOf, math_opening};
+ghost use Rattle.latex2mathml_parser.specs.Claims.{AppendsMath, HoldsRefusal, IsAppended};
+ghost use Rattle.latex2mathml_parser.specs.Claims.{IsLoneLeaf, IsMathOf, math_opening};
 ghost use Rattle.latex2mathml_parser.specs.Steps.{Counted, HasTrees, Holds};
 ghost use Rattle.latex2mathml_parser.specs.Steps.{IsRefusedWithin, StacksWithin, trees_of_state};
 ghost use Rattle.latex2mathml_parser.specs.Unread.{GoesOn};
