@@ -14,9 +14,9 @@ from tests.texts import NO_MEMORY, OPEN, error, math
 pytestmark = [pytest.mark.long, pytest.mark.timeout(1800)]
 
 # The most bytes that such a formula takes per token, besides the memory for the text and the answer, and what every run takes.
-# An accent or a root without braces takes most: a frame, a part and what is to be written, of 32 bytes each. Their lists have room
-# for 2^20 members or 2^18, which is 5 % more than there are. All others were counted with at most 87 bytes.
-MOST_EACH = 101
+# An accent or a root without braces takes most: a frame of 32 bytes, a part of 40, and what is to be written, of 16. Their lists
+# have room for 2^20 members or 2^18, which is 5 % more than there are. All others were counted with at most 81 bytes.
+MOST_EACH = 93
 OWN_BYTES = 64 << 10
 
 # what `\middle` refuses, whatever follows
