@@ -15,7 +15,8 @@ pub fn rewrite<S: Source>(alloc: Global, source: &mut S) -> Result<Option<String
     ensures written { IfOk result (λ written. (page : List ℕ)
         × Gives (S.state source.old) (S.state source.new) page
         × MatchOption written (IsDollarFree page × IsOwnAnswer page) (λ answer.
-        (¬ IsDollarFree page) × IsAnswer page (string_bytes answer) × IsOwnAnswer (string_bytes answer))) }
+        (¬ IsDollarFree page) × IsAnswer page (string_bytes answer)
+        × IsOwnAnswer (string_bytes answer))) }
     ensures fault { IfErr result (λ fault. (page : List ℕ)
         × Gives (S.state source.old) (S.state source.new) page
         × IsReadingOf page (S.state source.new) (Err fault)) }

@@ -25,7 +25,8 @@ pub enum Mistake {
 pub fn in_formula(alloc: Global, formula: &str) -> Result<Option<Mistake>, AllocError>
     ensures told { IfOk result (λ found. MatchOption found
         ((markup : List ℕ) × IsRendering formula.now Inline markup)
-        (λ mistake. (refusal : Refusal) × IsFormulaRefusal formula.now refusal × (mistake ≡ mistake_of refusal))) }
+        (λ mistake. (refusal : Refusal) × IsFormulaRefusal formula.now refusal
+        × (mistake ≡ mistake_of refusal))) }
     ensures never { IfOk result (λ found. found ≢ Some Dollars) }
 {
     match latex_to_mathml(alloc, formula, DisplayStyle::Inline) {
@@ -43,7 +44,8 @@ pub fn in_formula(alloc: Global, formula: &str) -> Result<Option<Mistake>, Alloc
 pub fn in_document(alloc: Global, document: &str) -> Result<Option<Mistake>, AllocError>
     ensures told { IfOk result (λ found. MatchOption found
         ((answer : List ℕ) × IsAnswer document.now answer)
-        (λ mistake. (refusal : Refusal) × IsRefusal document.now refusal × (mistake ≡ mistake_of refusal))) }
+        (λ mistake. (refusal : Refusal) × IsRefusal document.now refusal
+        × (mistake ≡ mistake_of refusal))) }
     ensures dollars { IfOk result (λ found. (found ≡ Some Dollars) ↔ HasNoCut document.now) }
 {
     laws::answers();

@@ -33,7 +33,8 @@ pub fn join(alloc: Global, first: &Section, second: &Section) -> Result<Section,
     requires second { ShowsAnswer second.now }
     requires whole { ¬ EndsInOddBackslashes (string_bytes first.now.source) }
     ensures source { IfOk result (λ section.
-        string_bytes section.source ≡ string_bytes first.now.source ++ string_bytes second.now.source) }
+        string_bytes section.source
+        ≡ string_bytes first.now.source ++ string_bytes second.now.source) }
     ensures shown { IfOk result ShowsAnswer }
 {
     laws::joined(first.source.as_str(), second.source.as_str());
