@@ -366,7 +366,7 @@ class Figures(Case):
     def test_ratios(self):
         """How many times as many instructions the crate executes, by the table below that sentence."""
         shown = re.findall(r"\| (\d+) million, (\d+) million, ", self.text)
-        self.ranges(r"executes (\d\.\d) to (\d\.\d) times as many instructions", [int(theirs) / int(ours) for ours, theirs in shown])
+        self.ranges(r"executes (\d+\.\d) to (\d+\.\d) times as many instructions", [int(theirs) / int(ours) for ours, theirs in shown])
 
     def test_tex_ratios(self):
         """How many times as many instructions `tex_to_mathml` executes as `latex_to_mathml`, for the same formulas."""
