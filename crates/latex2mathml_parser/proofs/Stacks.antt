@@ -8,7 +8,7 @@ use Rattle.latex2mathml_tokens.specs.{Names.paren_text, declared.names.Paren.Par
 use Rattle.latex2mathml_tokens.specs.declared.names.Paren.TheVariants as paren
 use Rattle.latex2mathml_parser.specs.Frames.{awaits, enter, first_due, innermost, inside, inside_all, sort_made, standing_of, tree_count, whole, within}
 use Rattle.latex2mathml_grammar.specs.Grammar.{core, node, Outcome, Reads, Refused, refuses, rule, rule_refuses}
-use Rattle.latex2mathml_parser.specs.Levels.{due_of, end_token, Leads, Level, Made, MayBegin, RuleLeads, Accepts, remaining, sort_of}
+use Rattle.latex2mathml_parser.specs.Levels.{due_of, end_token, EndsNone, Leads, Level, Made, MayBegin, RuleLeads, Accepts, remaining, sort_of}
 use Rattle.latex2mathml_trees.specs.Tree.{Tree}
 use Rattle.latex2mathml_tokens.specs.{Refusal.Refusal, Refusal.UnexpectedToken, Tok.Tok, Tok.EOF}
 use Rattle.latex2mathml_parser.specs.{Steps.level, declared.parse.Parser.Parser, declared.parse.frames.Due.Due, declared.parse.frames.Frame.Frame}
@@ -22,6 +22,10 @@ pub one_bracket : (p : Paren) → (paren_text p ≡ codes "]" → ⊥) ⊎ (p �
 unfolding encode
 one_bracket paren.RightSquare = inr refl
 one_bracket p = inl (λ e. let k : false ≡ true = ap (λ t. bytes_eq t (codes "]")) e in cc)
+
+-- each group has an end of its own
+one_end : (a b : GroupEnd) → end_token a ≡ end_token b → a ≡ b
+one_end a b e = grind (arith)
 
 -- The innermost frame.
 
@@ -70,6 +74,16 @@ due_of_inside input fs ts = due_inside input (reverse fs) ts
 -- the token is not the end of the group whose member is due, and its rule leads on
 pub token_begun : (input : List Tok) (fs : List Frame) (ts : List Tree) (place to : List Tok) (t : Tok) → MayBegin (innermost fs) place → place ≡ t ∷ to → Leads (inside input fs ts) place → RuleLeads (rule t) (Made core (inside input fs ts)) to
 token_begun input fs ts place to t may e k = begun (inside input fs ts) place to t (subst (λ d. MayBegin d place) (sym (due_of_inside input fs ts)) may) e k
+
+-- a token that ends no group may begin what is due
+pub no_end : (d : Due) (t : Tok) (place : List Tok) → EndsNone t → MayBegin d (t ∷ place)
+no_end (due.Member end) t place h = h end
+no_end d t place h = tt
+
+-- so may the end of another group
+pub other_end : (d : Due) (t : Tok) (end : GroupEnd) (place : List Tok) → t ≡ end_token end → (d ≡ due.Member end → ⊥) → MayBegin d (t ∷ place)
+other_end (due.Member due_end) t end place e h = λ f. h (ap due.Member (one_end due_end end (sym f ∙ e)))
+other_end d t end place e h = tt
 
 -- what is not a member may begin where no token is left
 may_begin_at_end : (d : Due) → ((end : GroupEnd) → d ≡ due.Member end → ⊥) → MayBegin d []

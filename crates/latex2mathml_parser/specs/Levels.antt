@@ -15,6 +15,10 @@ end_token group_end.Bracket = Paren (codes "]")
 end_token group_end.Right = Right
 end_token group_end.End = End
 
+-- no group ends with the token
+abbrev pub EndsNone : Tok → Type 0
+EndsNone t = (end : GroupEnd) → t ≢ end_token end
+
 -- what an unfinished rule waits for: a part, or members up to an end; and what follows
 pub data Standing : Type 0 where
   awaits_part : Sort → (Tree → Rule) → Standing

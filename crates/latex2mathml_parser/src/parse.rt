@@ -173,7 +173,7 @@ impl<'a> Parser<'a> {
         if let Lexeme::EOF = lexeme {
             return self.at_end();
         }
-        if self.frames.due().ends_at(&lexeme) {
+        if self.frames.end_at(&lexeme) {
             return self.close();
         }
         self.begin_any(&lexeme)

@@ -64,7 +64,8 @@ impl Parts<'_> {
         requires inside { AreIn self.now works.old.items }
         ensures print { IfOk result (Writes self.now out.old works.old out.new works.new
             (work_print self.now work)) }
-        ensures left { IfOk result (Leaves self.now works.old works.new (work_weight self.now work)) }
+        ensures left { IfOk result (Leaves self.now works.old works.new
+            (work_weight self.now work)) }
     {
         match work {
             Work::Tree(end) => return Ok(Some(end)),

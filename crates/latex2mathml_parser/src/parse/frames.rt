@@ -5,7 +5,8 @@ ghost use Rattle.std.specs.Prelude.{◌≡◌, ◌∷◌, ◌+◌, ◌<◌, ◌�
 ghost use Rattle.std.specs.Prelude.{MatchOption, OnOk, max, sum_by, vec_len};
 ghost use Rattle.latex2mathml_parser.specs.Frames.{AreEmpty, IsInnermost, IsOn, awaits, end_of, innermost};
 ghost use Rattle.latex2mathml_parser.specs.Frames.{one_of_pair, pair_sign, takes_script, two_of_pair, unfit};
-ghost use Rattle.latex2mathml_parser.specs.{Levels.MayBegin, Levels.end_token, declared.parse.frames.GroupEnd.GroupEnd};
+ghost use Rattle.latex2mathml_parser.specs.Levels.{EndsNone, MayBegin, end_token};
+ghost use Rattle.latex2mathml_parser.specs.{declared.parse.frames.Due.Due, declared.parse.frames.GroupEnd.GroupEnd};
 ghost use Rattle.latex2mathml_tokens.specs.{Lexemes.lexeme_tok, Tok.Tok, Tok.tok};
 
 use crate::lexer::mark::Sign;
@@ -38,16 +39,19 @@ impl GroupEnd {
         }
     }
 
-    /// Whether the lexeme ends such a group.
+    /// Returns the end that the lexeme is, if it is one.
+    #[inline(always)]
     #[tactic(auto, using(crate::proofs::Stacks::one_bracket))]
-    pub(crate) fn is(self, lexeme: &Lexeme) -> bool
-        ensures { IsTrue result ↔ (lexeme_tok lexeme.now ≡ end_token self) }
+    pub(crate) fn of(lexeme: &Lexeme) -> Option<GroupEnd>
+        ensures { MatchOption result (EndsNone (lexeme_tok lexeme.now))
+            (λ end. lexeme_tok lexeme.now ≡ end_token end) }
     {
-        match self {
-            GroupEnd::Brace => matches!(lexeme, Lexeme::RBrace),
-            GroupEnd::Bracket => matches!(lexeme, Lexeme::Paren(Paren::RightSquare)),
-            GroupEnd::Right => matches!(lexeme, Lexeme::Right),
-            GroupEnd::End => matches!(lexeme, Lexeme::End),
+        match lexeme {
+            Lexeme::RBrace => Some(GroupEnd::Brace),
+            Lexeme::Paren(Paren::RightSquare) => Some(GroupEnd::Bracket),
+            Lexeme::Right => Some(GroupEnd::Right),
+            Lexeme::End => Some(GroupEnd::End),
+            _ => None,
         }
     }
 }
@@ -62,15 +66,17 @@ pub(crate) enum Due {
 }
 
 impl Due {
-    /// Whether the lexeme ends the group whose member is due.
-    pub(crate) fn ends_at(self, lexeme: &Lexeme) -> bool
-        ensures { MatchBool result
-            ((end : GroupEnd) × (self ≡ Due.Member end) × (lexeme_tok lexeme.now ≡ end_token end))
-            ((place : List Tok) → MayBegin self (lexeme_tok lexeme.now ∷ place)) }
+    /// Whether a member of a group with this end is due.
+    #[inline(always)]
+    pub(crate) fn is_member(self, end: GroupEnd) -> bool
+        ensures { IsTrue result ↔ (self ≡ Due.Member end) }
     {
-        match self {
-            Due::Member(end) => end.is(lexeme),
-            Due::Node | Due::Single | Due::Core => false,
+        match (self, end) {
+            (Due::Member(GroupEnd::Brace), GroupEnd::Brace)
+            | (Due::Member(GroupEnd::Bracket), GroupEnd::Bracket)
+            | (Due::Member(GroupEnd::Right), GroupEnd::Right)
+            | (Due::Member(GroupEnd::End), GroupEnd::End) => true,
+            _ => false,
         }
     }
 
@@ -255,7 +261,8 @@ impl<'a> Frames<'a> {
     pub(crate) fn last(&self) -> Option<&Frame<'a>>
         ensures stack { MatchOption result (self.now.stack.items ≡ [])
             (λ frame. IsInnermost frame.now self.now.stack.items) }
-        ensures fit { MatchOption result (self.now.stack.items ≡ []) (λ frame. unfit frame.now ≡ 0) }
+        ensures fit { MatchOption result (self.now.stack.items ≡ [])
+            (λ frame. unfit frame.now ≡ 0) }
     {
         let (frame, _) = self.stack.split_last()?;
         Some(frame)
@@ -302,6 +309,22 @@ impl<'a> Frames<'a> {
         match self.stack.split_last() {
             Some((frame, _)) => frame.awaits(),
             None => Due::Node,
+        }
+    }
+
+    /// Whether the lexeme ends the innermost group. What is due matters only if it can end one, and few lexemes can.
+    #[inline(always)]
+    #[tactic(auto, using(crate::proofs::Stacks::other_end, crate::proofs::Stacks::no_end))]
+    pub(crate) fn end_at(&self, lexeme: &Lexeme) -> bool
+        ensures { MatchBool result
+            ((end : GroupEnd) × (innermost self.now.stack.items ≡ Due.Member end)
+            × (lexeme_tok lexeme.now ≡ end_token end))
+            ((place : List Tok)
+            → MayBegin (innermost self.now.stack.items) (lexeme_tok lexeme.now ∷ place)) }
+    {
+        match GroupEnd::of(lexeme) {
+            Some(end) => self.due().is_member(end),
+            None => false,
         }
     }
 }

@@ -158,7 +158,8 @@ impl Ending {
     pub(crate) fn is_divided_by(self, piece: Piece) -> bool
         ensures { (place : ℕ) → atom_start (ending_of self place) (piece_of piece.entry)
             ≡ (if result then DividerStart
-            else start_of_mark (change_by (piece_of piece.entry)) (mark_of (piece_of piece.entry))) }
+            else start_of_mark (change_by (piece_of piece.entry))
+            (mark_of (piece_of piece.entry))) }
     {
         match self {
             Ending::Delimiters(_) => matches!(piece, Piece::Command("middle")),

@@ -15,14 +15,14 @@ returns-in-EOF c =
       step = record { counted = counted_skipped p _ _ 0 c.take_other.ensures.list c.take_other.ensures.counts refl c.at_end.ensures.step.counted; follows = search rules };
     }
 
-pub returns-then-ends_at : goal.returns-then-ends_at
-returns-then-ends_at c =
+pub returns-then-end_at : goal.returns-then-end_at
+returns-then-end_at c =
     let p = c.args.self.now in
     let found = stood c.take_other.new.lexeme p.lexer.list c.take_other.new.self.list c.in_default.not-EOF c.take_other.ensures.token c.take_other.ensures.list in
     let shorter = ap length found in
-    let (end, is_due, is_end) = c.if-ends_at.ensures in
+    let (end, is_due, is_end) = c.if-end_at.ensures in
     record {
-      holds = λ input k. c.close.ensures.holds input end (sym c.due.ensures ∙ is_due) (subst (Leads (level 0 input p)) (found ∙ ap (λ t. t ∷ c.take_other.new.self.list) is_end) k);
+      holds = λ input k. c.close.ensures.holds input end is_due (subst (Leads (level 0 input p)) (found ∙ ap (λ t. t ∷ c.take_other.new.self.list) is_end) k);
       step = record { counted = counted_skipped p _ _ 0 c.take_other.ensures.list c.take_other.ensures.counts refl c.close.ensures.step.counted; follows = search rules };
     }
 
@@ -32,6 +32,6 @@ returns c =
     let found = stood c.take_other.new.lexeme p.lexer.list c.take_other.new.self.list c.in_default.not-EOF c.take_other.ensures.token c.take_other.ensures.list in
     let shorter = ap length found in
     record {
-      holds = λ input k. c.begin_any.ensures.holds input (token_begun input p.frames.stack.items (trees_in p.parts) p.lexer.list _ _ (rw (found, ← c.due.ensures) (c.if-ends_at.ensures _)) found k);
+      holds = λ input k. c.begin_any.ensures.holds input (token_begun input p.frames.stack.items (trees_in p.parts) p.lexer.list _ _ (rw found (c.if-end_at.ensures _)) found k);
       step = record { counted = counted_taken _ p _ _ found c.take_other.ensures.counts refl c.begin_any.ensures.step.counted; follows = search rules };
     }
