@@ -4,9 +4,10 @@ use Rattle.std.specs.Prelude.{◌≡◌, Bool, true, false, ℕ, List, [], ◌�
 use Rattle.std.specs.Prelude.{codes, drop, reverse, string_bytes, take}
 use Rattle.std.specs.declared.alloc.AllocError.{AllocError}
 use Rattle.std.specs.declared.alloc.Global.{Global}
-use Rattle.latex2mathml_grammar.specs.Grammar.{ReadsFormula, Read, Reads, Refused, Refuses, Rule, first, gives, node, rule}
+use Rattle.latex2mathml_grammar.specs.Grammar.{ReadsFormula, Read, Reads, Refused, Refuses, Rule, first, gives, node}
 use Rattle.latex2mathml_grammar.specs.Grammar.{single as a_single, stretched_or_refused}
 use Rattle.latex2mathml_grammar.specs.Rendering.{math_print}
+use Rattle.latex2mathml_parser.specs.Beginnings.{IsLeafOf}
 use Rattle.latex2mathml_parser.specs.Frames.{after_first, after_members, tree_count, with_limits, within}
 use Rattle.latex2mathml_parser.specs.Marks.{MarkStands}
 use Rattle.latex2mathml_parser.specs.Levels.{Accepts, Leads, Made, end_token}
@@ -83,10 +84,6 @@ after_single pair p = after_first pair (drop 1 (trees_in p.parts)) (last_tree p)
 -- what follows the last tree, which is to be stretched
 abbrev pub after_operator : Lexeme → Parser → Rule
 after_operator got p = stretched_or_refused (lexeme_tok got) (stretched_operator (last_tree p))
-
--- the lexeme is a core by itself: a part of this kind, which has no operands
-abbrev pub IsLeafOf : Lexeme → Kind → Type 0
-IsLeafOf t k = (arity k ≡ 0) × ((ts : List Tree) → rule (lexeme_tok t) ≡ gives (top (put k ts)))
 
 -- the lexeme is a node by itself: a part of this kind, with no mark after it
 abbrev pub IsLoneLeaf : Lexeme → List Tok → Kind → Type 0

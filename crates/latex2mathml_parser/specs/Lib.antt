@@ -1,3 +1,4 @@
+pub mod Beginnings
 pub mod Claims
 pub mod Frames
 pub mod Levels

@@ -3,7 +3,8 @@
 ghost use Rattle.std.specs.Prelude.{◌≡◌, ◌≢◌, IfOk, IfSome, List, MatchOption, None, Some};
 ghost use Rattle.latex2mathml_grammar.specs.Openers.{opens};
 ghost use Rattle.latex2mathml_grammar.specs.Grammar.{a_root, error_rule, rule, sized, takes_token};
-ghost use Rattle.latex2mathml_parser.specs.Claims.{IsLeafOf, Proceeds, limited};
+ghost use Rattle.latex2mathml_parser.specs.Beginnings.{IsBeginningOf, IsLeafOf, IsSpecial};
+ghost use Rattle.latex2mathml_parser.specs.Claims.{Proceeds, limited};
 ghost use Rattle.latex2mathml_parser.specs.Steps.{Counted, GoesOnBy, HasTrees, IsStep, IsStretched};
 ghost use Rattle.latex2mathml_trees.specs.{Productions.fence_of};
 ghost use Rattle.latex2mathml_parts.specs.Parts.{fence_text};
@@ -95,22 +96,27 @@ impl<'a> Parser<'a> {
     /// Begins the rule of a lexeme that begins neither a stretched operator nor a group.
     fn begin_rule(&mut self, lexeme: Lexeme<'a>) -> Result<State, AllocError>
         requires middle { lexeme ≢ Lexeme.Middle }
-        requires group { lexeme ≢ Lexeme.LBrace }
+        requires trees { HasTrees 0 self.old }
+        ensures holds { Proceeds (rule (lexeme_tok lexeme.entry)) 0 self.old self.new result }
+        ensures step { IsStep (opens (lexeme_tok lexeme.entry)) 13 self.old self.new result }
+    {
+        match Beginning::of(&lexeme) {
+            Some(Beginning::Leaf(kind)) => self.put(kind),
+            Some(Beginning::Frame(frame)) => self.open(frame),
+            None => self.begin_special(lexeme),
+        }
+    }
+
+    /// Begins a rule that takes more than its token before it waits for a part, or puts a lexeme that begins no rule.
+    fn begin_special(&mut self, lexeme: Lexeme<'a>) -> Result<State, AllocError>
+        requires special { IsSpecial lexeme }
+        requires middle { lexeme ≢ Lexeme.Middle }
         requires trees { HasTrees 0 self.old }
         ensures holds { Proceeds (rule (lexeme_tok lexeme.entry)) 0 self.old self.new result }
         ensures step { IsStep (opens (lexeme_tok lexeme.entry)) 13 self.old self.new result }
     {
         match lexeme {
             Lexeme::Sqrt => self.root(),
-            Lexeme::Over(c, accent) => self.open(Frame::Operand(Kind::Over(c, accent))),
-            Lexeme::Under(c, accent) => self.open(Frame::Operand(Kind::Under(c, accent))),
-            Lexeme::Style(variant) => self.open(Frame::Style(variant)),
-            Lexeme::Frac => self.open(Frame::First(Kind::Frac)),
-            Lexeme::Binom(display) => self.open(Frame::First(Kind::Binom(display))),
-            Lexeme::Overset => self.open(Frame::First(Kind::Overset)),
-            Lexeme::Underset => self.open(Frame::First(Kind::Underset)),
-            Lexeme::Overbrace(c) => self.open(Frame::Single(Pair::Overbrace(c))),
-            Lexeme::Underbrace(c) => self.open(Frame::Single(Pair::Underbrace(c))),
             Lexeme::BigOp(c) => self.limits(
                 c,
                 Pair::BigOp(c, Sign::Sub),
@@ -127,24 +133,8 @@ impl<'a> Parser<'a> {
             Lexeme::OperatorName => self.function(),
             Lexeme::Slashed => self.slash(),
             Lexeme::Left => self.open_fence(),
-            Lexeme::LBrace | Lexeme::Middle => unreachable!(),
             Lexeme::Begin => self.begin_environment(),
-            Lexeme::Number(digits) => self.put(Kind::Number(digits)),
-            Lexeme::Letter(c, variant) => self.put(Kind::Letter(c, variant)),
-            Lexeme::Operator(c) => self.put(Kind::Operator(c)),
-            Lexeme::Paren(paren) => self.put(Kind::Paren(paren)),
-            Lexeme::Ampersand => self.put(Kind::Ampersand),
-            Lexeme::Space(width) => self.put(Kind::Space(width)),
-            Lexeme::Function(name) => self.put(Kind::Function(name)),
-            Lexeme::NewLine => self.put(Kind::NewLine),
-            Lexeme::Illegal(_)
-            | Lexeme::EOF
-            | Lexeme::End
-            | Lexeme::Right
-            | Lexeme::RBrace
-            | Lexeme::Underscore
-            | Lexeme::Circumflex
-            | Lexeme::Command(_) => self.error(&lexeme),
+            _ => self.error(&lexeme),
         }
     }
 
@@ -284,7 +274,47 @@ pub(crate) fn fence_of(lexeme: Lexeme) -> Option<Option<Paren>>
     }
 }
 
-/// Returns what a lexeme of the most frequent kinds makes. These are cores by themselves.
+/// How a rule begins whose token is all that it takes before it waits for a part, or ends.
+#[derive(Clone, Copy)]
+pub(crate) enum Beginning<'a> {
+    /// The core is a part without operands.
+    Leaf(Kind<'a>),
+    /// A frame is opened.
+    Frame(Frame<'a>),
+}
+
+impl<'a> Beginning<'a> {
+    /// Returns how the rule of a lexeme begins, unless it takes more than its token first.
+    #[inline(always)]
+    fn of(lexeme: &Lexeme<'a>) -> Option<Beginning<'a>>
+        ensures { MatchOption result (IsSpecial lexeme.now) (IsBeginningOf lexeme.now) }
+    {
+        match *lexeme {
+            Lexeme::Number(digits) => Some(Beginning::Leaf(Kind::Number(digits))),
+            Lexeme::Letter(c, variant) => Some(Beginning::Leaf(Kind::Letter(c, variant))),
+            Lexeme::Operator(c) => Some(Beginning::Leaf(Kind::Operator(c))),
+            Lexeme::Paren(paren) => Some(Beginning::Leaf(Kind::Paren(paren))),
+            Lexeme::Space(width) => Some(Beginning::Leaf(Kind::Space(width))),
+            Lexeme::Function(name) => Some(Beginning::Leaf(Kind::Function(name))),
+            Lexeme::Ampersand => Some(Beginning::Leaf(Kind::Ampersand)),
+            Lexeme::NewLine => Some(Beginning::Leaf(Kind::NewLine)),
+            Lexeme::LBrace => Some(Beginning::Frame(Frame::Members(Group::Brace, 0))),
+            Lexeme::Over(c, accent) => Some(Beginning::Frame(Frame::Operand(Kind::Over(c, accent)))),
+            Lexeme::Under(c, accent) => Some(Beginning::Frame(Frame::Operand(Kind::Under(c, accent)))),
+            Lexeme::Style(variant) => Some(Beginning::Frame(Frame::Style(variant))),
+            Lexeme::Frac => Some(Beginning::Frame(Frame::First(Kind::Frac))),
+            Lexeme::Binom(display) => Some(Beginning::Frame(Frame::First(Kind::Binom(display)))),
+            Lexeme::Overset => Some(Beginning::Frame(Frame::First(Kind::Overset))),
+            Lexeme::Underset => Some(Beginning::Frame(Frame::First(Kind::Underset))),
+            Lexeme::Overbrace(c) => Some(Beginning::Frame(Frame::Single(Pair::Overbrace(c)))),
+            Lexeme::Underbrace(c) => Some(Beginning::Frame(Frame::Single(Pair::Underbrace(c)))),
+            _ => None,
+        }
+    }
+}
+
+/// Returns what a lexeme of the most frequent kinds makes, which are cores by themselves.
+#[inline(always)]
 pub(crate) fn symbol<'a>(lexeme: &Lexeme<'a>) -> Option<Kind<'a>>
     ensures { IfSome result (IsLeafOf lexeme.now) }
 {
