@@ -93,7 +93,7 @@ impl<'a> Parser<'a> {
         }
     }
 
-    /// Begins the rule of a lexeme that begins neither a stretched operator nor a group.
+    /// Does the same, whatever the rule is.
     fn begin_rule(&mut self, lexeme: Lexeme<'a>) -> Result<State, AllocError>
         requires middle { lexeme ≢ Lexeme.Middle }
         requires trees { HasTrees 0 self.old }
@@ -107,7 +107,7 @@ impl<'a> Parser<'a> {
         }
     }
 
-    /// Begins a rule that takes more than its token before it waits for a part, or puts a lexeme that begins no rule.
+    /// Begins a rule that takes more than its token before it waits for a part, or marks a lexeme that begins no rule.
     fn begin_special(&mut self, lexeme: Lexeme<'a>) -> Result<State, AllocError>
         requires special { IsSpecial lexeme }
         requires middle { lexeme ≢ Lexeme.Middle }
