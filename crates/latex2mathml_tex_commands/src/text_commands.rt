@@ -21,7 +21,7 @@ fn text_commands() -> &'static [Named]
 }
 
 #[rattlefmt::skip]
-static TEXT_COMMANDS: [Named; 38] = [
+static TEXT_COMMANDS: [Named; 42] = [
     Named { name: "#", character: '#' },
     Named { name: "$", character: '$' },
     Named { name: "%", character: '%' },
@@ -42,8 +42,12 @@ static TEXT_COMMANDS: [Named; 38] = [
     Named { name: "textasciitilde", character: '~' },
     Named { name: "textbackslash", character: '\\' },
     Named { name: "textbar", character: '|' },
+    Named { name: "textbardbl", character: '‖' },
     Named { name: "textbraceleft", character: '{' },
     Named { name: "textbraceright", character: '}' },
+    Named { name: "textcopyright", character: '©' },
+    Named { name: "textdagger", character: '†' },
+    Named { name: "textdaggerdbl", character: '‡' },
     Named { name: "textdegree", character: '°' },
     Named { name: "textdollar", character: '$' },
     Named { name: "textellipsis", character: '…' },

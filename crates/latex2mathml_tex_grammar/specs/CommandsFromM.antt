@@ -78,26 +78,35 @@ commands_from_m =
     (codes "nexists", Shows (Sign Ordinary 0x2204)) ∷  -- ∄
     (codes "ng", Shows (UprightLetter 0x014B)) ∷  -- ŋ
     (codes "ngeq", Shows (Sign Relation 0x2271)) ∷  -- ≱
+    (codes "ngeqq", Shows (Sign Relation 0x2271)) ∷  -- ≱
+    (codes "ngeqslant", Shows (Sign Relation 0x2271)) ∷  -- ≱
     (codes "ngtr", Shows (Sign Relation 0x226F)) ∷  -- ≯
     (codes "ni", Shows (Sign Relation 0x220B)) ∷  -- ∋
     (codes "nleftarrow", Shows (Sign Relation 0x219A)) ∷  -- ↚
     (codes "nleftrightarrow", Shows (Sign Relation 0x21AE)) ∷  -- ↮
     (codes "nleq", Shows (Sign Relation 0x2270)) ∷  -- ≰
+    (codes "nleqq", Shows (Sign Relation 0x2270)) ∷  -- ≰
+    (codes "nleqslant", Shows (Sign Relation 0x2270)) ∷  -- ≰
     (codes "nless", Shows (Sign Relation 0x226E)) ∷  -- ≮
     (codes "nmid", Shows (Sign Relation 0x2224)) ∷  -- ∤
     (codes "nobreakspace", Spacing (pos 6)) ∷
     (codes "nolimits", NoLimits) ∷
     (codes "not", Negation) ∷
     (codes "notin", Shows (Sign Relation 0x2209)) ∷  -- ∉
+    (codes "notni", Shows (Sign Relation 0x220C)) ∷  -- ∌
     (codes "nparallel", Shows (Sign Relation 0x2226)) ∷  -- ∦
     (codes "nprec", Shows (Sign Relation 0x2280)) ∷  -- ⊀
     (codes "npreceq", Shows (Sign Relation 0x22E0)) ∷  -- ⋠
     (codes "nrightarrow", Shows (Sign Relation 0x219B)) ∷  -- ↛
+    (codes "nshortmid", Shows (Sign Relation 0x2224)) ∷  -- ∤
+    (codes "nshortparallel", Shows (Sign Relation 0x2226)) ∷  -- ∦
     (codes "nsim", Shows (Sign Relation 0x2241)) ∷  -- ≁
     (codes "nsubseteq", Shows (Sign Relation 0x2288)) ∷  -- ⊈
+    (codes "nsubseteqq", Shows (Sign Relation 0x2288)) ∷  -- ⊈
     (codes "nsucc", Shows (Sign Relation 0x2281)) ∷  -- ⊁
     (codes "nsucceq", Shows (Sign Relation 0x22E1)) ∷  -- ⋡
     (codes "nsupseteq", Shows (Sign Relation 0x2289)) ∷  -- ⊉
+    (codes "nsupseteqq", Shows (Sign Relation 0x2289)) ∷  -- ⊉
     (codes "ntriangleleft", Shows (Sign Relation 0x22EA)) ∷  -- ⋪
     (codes "ntrianglelefteq", Shows (Sign Relation 0x22EC)) ∷  -- ⋬
     (codes "ntriangleright", Shows (Sign Relation 0x22EB)) ∷  -- ⋫
@@ -123,11 +132,14 @@ commands_from_m =
     (codes "over", Changes (Divides Bar)) ∷
     (codes "overbrace", Brace Above 0x23DE) ∷  -- ⏞
     (codes "overbracket", Brace Above 0x23B4) ∷  -- ⎴
+    (codes "overgroup", Accent Above 0x23E0 Stretching) ∷  -- ⏠
     (codes "overleftarrow", Accent Above 0x2190 Stretching) ∷  -- ←
+    (codes "overleftharpoon", Accent Above 0x21BC Stretching) ∷  -- ↼
     (codes "overleftrightarrow", Accent Above 0x2194 Stretching) ∷  -- ↔
     (codes "overline", Accent Above 0x203E Stretching) ∷  -- ‾
     (codes "overparen", Brace Above 0x23DC) ∷  -- ⏜
     (codes "overrightarrow", Accent Above 0x2192 Stretching) ∷  -- →
+    (codes "overrightharpoon", Accent Above 0x21C0 Stretching) ∷  -- ⇀
     (codes "overset", Stack Above) ∷
     (codes "owns", Shows (Sign Relation 0x220B)) ∷  -- ∋
     (codes "parallel", Shows (Sign Relation 0x2225)) ∷  -- ∥
@@ -292,7 +304,9 @@ commands_from_m =
     (codes "underbar", Accent Below 0x0332 Stretching) ∷
     (codes "underbrace", Brace Below 0x23DF) ∷  -- ⏟
     (codes "underbracket", Brace Below 0x23B5) ∷  -- ⎵
+    (codes "undergroup", Accent Below 0x23E1 Stretching) ∷  -- ⏡
     (codes "underleftarrow", Accent Below 0x2190 Stretching) ∷  -- ←
+    (codes "underleftrightarrow", Accent Below 0x2194 Stretching) ∷  -- ↔
     (codes "underline", Accent Below 0x0332 Stretching) ∷
     (codes "underparen", Brace Below 0x23DD) ∷  -- ⏝
     (codes "underrightarrow", Accent Below 0x2192 Stretching) ∷  -- →
@@ -308,6 +322,7 @@ commands_from_m =
     (codes "upuparrows", Shows (Sign Relation 0x21C8)) ∷  -- ⇈
     (codes "uranus", Shows (Sign Ordinary 0x2645)) ∷  -- ♅
     (codes "urcorner", Shows (Sign Closing 0x231D)) ∷  -- ⌝
+    (codes "utilde", Accent Below 0x7E Stretching) ∷  -- ~
     (codes "vDash", Shows (Sign Relation 0x22A8)) ∷  -- ⊨
     (codes "varepsilon", Shows (Letter 0x03B5)) ∷  -- ε
     (codes "varkappa", Shows (UprightLetter 0x03F0)) ∷  -- ϰ
@@ -317,11 +332,16 @@ commands_from_m =
     (codes "varpropto", Shows (Sign Relation 0x221D)) ∷  -- ∝
     (codes "varrho", Shows (Letter 0x03F1)) ∷  -- ϱ
     (codes "varsigma", Shows (Letter 0x03C2)) ∷  -- ς
+    (codes "varsubsetneq", Shows (Sign Relation 0x228A)) ∷  -- ⊊
+    (codes "varsubsetneqq", Shows (Sign Relation 0x2ACB)) ∷  -- ⫋
+    (codes "varsupsetneq", Shows (Sign Relation 0x228B)) ∷  -- ⊋
+    (codes "varsupsetneqq", Shows (Sign Relation 0x2ACC)) ∷  -- ⫌
     (codes "vartheta", Shows (Letter 0x03D1)) ∷  -- ϑ
     (codes "vartriangle", Shows (Sign Relation 0x25B3)) ∷  -- △
     (codes "vartriangleleft", Shows (Sign Relation 0x22B2)) ∷  -- ⊲
     (codes "vartriangleright", Shows (Sign Relation 0x22B3)) ∷  -- ⊳
     (codes "varvdots", Shows (Sign Ordinary 0x22EE)) ∷  -- ⋮
+    (codes "vcentcolon", Shows (Sign Relation 0x3A)) ∷  -- :
     (codes "vdash", Shows (Sign Relation 0x22A2)) ∷  -- ⊢
     (codes "vdots", Shows (Sign Ordinary 0x22EE)) ∷  -- ⋮
     (codes "vec", Accent Above 0x20D7 Stretching) ∷
@@ -334,6 +354,7 @@ commands_from_m =
     (codes "widecheck", Accent Above 0x02C7 Stretching) ∷  -- ˇ
     (codes "widehat", Accent Above 0x0302 Stretching) ∷
     (codes "widetilde", Accent Above 0x7E Stretching) ∷  -- ~
+    (codes "wp", Shows (Letter 0x2118)) ∷  -- ℘
     (codes "wr", Shows (Sign Binary 0x2240)) ∷  -- ≀
     (codes "xLeftarrow", Arrow 0x21D0) ∷  -- ⇐
     (codes "xLeftrightarrow", Arrow 0x21D4) ∷  -- ⇔

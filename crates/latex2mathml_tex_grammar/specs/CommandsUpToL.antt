@@ -3,7 +3,7 @@
 use Rattle.std.specs.Prelude.{ℕ, pos, negsuc, List, [], ◌∷◌, Some, None, codes}
 use Rattle.latex2mathml_tex_grammar.specs.Meaning.{Meaning, Dots, Shows, FunctionName, Spacing, Styled, Words, Fraction, Accent, Sized, Left, Limits, Changes, ToAlphabet, ToStyle, Divides, words_apart, BeginTable, EndTable, LineBreak, Skip, SkipInBraces, ContinuedFraction, GeneralFraction, Boxed, PhantomWidth, StrikeUp, StrikeDown, Beside, ByStyle, Bar, NoBar, Braced, Bracketed, Bare, Frame, ToColor}
 use Rattle.latex2mathml_tex_grammar.specs.Symbols.{Letter, UprightLetter, Sign, BigOperator, Integral, Ordinary, Binary, Relation, Opening, Closing, Punctuation, Inner, Italic, Bold, BoldItalic, DoubleStruck, Fraktur, Calligraphic, InDisplay}
-use Rattle.latex2mathml_elements.specs.Attributes.{Above, Rigid, Big, Bigger, VeryBig, Biggest}
+use Rattle.latex2mathml_elements.specs.Attributes.{Above, Rigid, Big, Bigger, VeryBig, Biggest, Stretching}
 
 -- the table of commands, up to those that begin with `l`
 unfoldable pub commands_up_to_l : List (List ℕ × Meaning)
@@ -36,6 +36,7 @@ commands_up_to_l =
     (codes "Bumpeq", Shows (Sign Relation 0x224E)) ∷  -- ≎
     (codes "Cap", Shows (Sign Binary 0x22D2)) ∷  -- ⋒
     (codes "Chi", Shows (UprightLetter 0x03A7)) ∷  -- Χ
+    (codes "Coloneqq", Shows (Sign Relation 0x2A74)) ∷  -- ⩴
     (codes "Cup", Shows (Sign Binary 0x22D3)) ∷  -- ⋓
     (codes "DH", Shows (UprightLetter 0xD0)) ∷  -- Ð
     (codes "Dagger", Shows (Sign Ordinary 0x2021)) ∷  -- ‡
@@ -68,6 +69,7 @@ commands_up_to_l =
     (codes "OE", Shows (UprightLetter 0x0152)) ∷  -- Œ
     (codes "Omega", Shows (UprightLetter 0x03A9)) ∷  -- Ω
     (codes "Omicron", Shows (UprightLetter 0x039F)) ∷  -- Ο
+    (codes "Overrightarrow", Accent Above 0x21D2 Stretching) ∷  -- ⇒
     (codes "P", Shows (Sign Ordinary 0xB6)) ∷  -- ¶
     (codes "Phi", Shows (UprightLetter 0x03A6)) ∷  -- Φ
     (codes "Pi", Shows (UprightLetter 0x03A0)) ∷  -- Π
@@ -204,6 +206,9 @@ commands_up_to_l =
     (codes "circleddash", Shows (Sign Binary 0x229D)) ∷  -- ⊝
     (codes "clubsuit", Shows (Sign Ordinary 0x2663)) ∷  -- ♣
     (codes "colon", Shows (Sign Punctuation 0x3A)) ∷  -- :
+    (codes "coloncolon", Shows (Sign Relation 0x2237)) ∷  -- ∷
+    (codes "coloncolonequals", Shows (Sign Relation 0x2A74)) ∷  -- ⩴
+    (codes "colonequals", Shows (Sign Relation 0x2254)) ∷  -- ≔
     (codes "color", Changes ToColor) ∷
     (codes "complement", Shows (Sign Ordinary 0x2201)) ∷  -- ∁
     (codes "cong", Shows (Sign Relation 0x2245)) ∷  -- ≅
@@ -234,6 +239,7 @@ commands_up_to_l =
     (codes "dashrightarrow", Shows (Sign Relation 0x21E2)) ∷  -- ⇢
     (codes "dashv", Shows (Sign Relation 0x22A3)) ∷  -- ⊣
     (codes "dbinom", Fraction NoBar (Some InDisplay)) ∷
+    (codes "dblcolon", Shows (Sign Relation 0x2237)) ∷  -- ∷
     (codes "ddag", Shows (Sign Ordinary 0x2021)) ∷  -- ‡
     (codes "ddagger", Shows (Sign Binary 0x2021)) ∷  -- ‡
     (codes "dddot", Accent Above 0x20DB Rigid) ∷
@@ -277,9 +283,11 @@ commands_up_to_l =
     (codes "enspace", Spacing (pos 9)) ∷
     (codes "epsilon", Shows (Letter 0x03F5)) ∷  -- ϵ
     (codes "eqcirc", Shows (Sign Relation 0x2256)) ∷  -- ≖
+    (codes "eqqcolon", Shows (Sign Relation 0x2255)) ∷  -- ≕
     (codes "eqsim", Shows (Sign Relation 0x2242)) ∷  -- ≂
     (codes "eqslantgtr", Shows (Sign Relation 0x2A96)) ∷  -- ⪖
     (codes "eqslantless", Shows (Sign Relation 0x2A95)) ∷  -- ⪕
+    (codes "equalscolon", Shows (Sign Relation 0x2255)) ∷  -- ≕
     (codes "equiv", Shows (Sign Relation 0x2261)) ∷  -- ≡
     (codes "erf", FunctionName Beside (codes "erf")) ∷
     (codes "erfc", FunctionName Beside (codes "erfc")) ∷
@@ -319,6 +327,7 @@ commands_up_to_l =
     (codes "gtreqqless", Shows (Sign Relation 0x2A8C)) ∷  -- ⪌
     (codes "gtrless", Shows (Sign Relation 0x2277)) ∷  -- ≷
     (codes "gtrsim", Shows (Sign Relation 0x2273)) ∷  -- ≳
+    (codes "gvertneqq", Shows (Sign Relation 0x2269)) ∷  -- ≩
     (codes "hat", Accent Above 0x02C6 Rigid) ∷  -- ˆ
     (codes "hbar", Shows (Letter 0x210F)) ∷  -- ℏ
     (codes "hbox", Words None) ∷
@@ -419,4 +428,5 @@ commands_up_to_l =
     (codes "lt", Shows (Sign Relation 0x3C)) ∷  -- <
     (codes "ltimes", Shows (Sign Binary 0x22C9)) ∷  -- ⋉
     (codes "lvert", Shows (Sign Opening 0x2223)) ∷  -- ∣
+    (codes "lvertneqq", Shows (Sign Relation 0x2268)) ∷  -- ≨
     []

@@ -25,8 +25,12 @@ text_commands =
     (codes "textasciitilde", 0x7E) ∷  -- ~
     (codes "textbackslash", 0x5C) ∷  -- \
     (codes "textbar", 0x7C) ∷  -- |
+    (codes "textbardbl", 0x2016) ∷  -- ‖
     (codes "textbraceleft", 0x7B) ∷  -- {
     (codes "textbraceright", 0x7D) ∷  -- }
+    (codes "textcopyright", 0xA9) ∷  -- ©
+    (codes "textdagger", 0x2020) ∷  -- †
+    (codes "textdaggerdbl", 0x2021) ∷  -- ‡
     (codes "textdegree", 0xB0) ∷  -- °
     (codes "textdollar", 0x24) ∷  -- $
     (codes "textellipsis", 0x2026) ∷  -- …

@@ -11,7 +11,9 @@ usual_entries =
     (codes "-", 0, codes "") ∷
     (codes "/", 0, codes "") ∷
     (codes "Bbbk", 0, codes "\\mathbb{k}") ∷
+    (codes "Bra", 1, codes "\\left\\langle #1\\right|") ∷
     (codes "Huge", 0, codes "") ∷
+    (codes "Ket", 1, codes "\\left|#1\\right\\rangle") ∷
     (codes "LARGE", 0, codes "") ∷
     (codes "LaTeX", 0, codes "\\text{LaTeX}") ∷
     (codes "Large", 0, codes "") ∷
@@ -54,6 +56,7 @@ usual_entries =
     (codes "normalfont", 0, codes "") ∷
     (codes "normalsize", 0, codes "") ∷
     (codes "notag", 0, codes "") ∷
+    (codes "operatornamewithlimits", 0, codes "\\operatorname*") ∷
     (codes "pmod", 1, codes "\\quad(\\operatorname{mod}\\;#1)") ∷
     (codes "pod", 1, codes "\\quad(#1)") ∷
     (codes "qed", 0, codes "\\square") ∷
@@ -74,8 +77,19 @@ usual_entries =
     (codes "upshape", 0, codes "") ∷
     (codes "varDelta", 0, codes "\\mathit{\\Delta}") ∷
     (codes "varGamma", 0, codes "\\mathit{\\Gamma}") ∷
+    (codes "varLambda", 0, codes "\\mathit{\\Lambda}") ∷
     (codes "varOmega", 0, codes "\\mathit{\\Omega}") ∷
+    (codes "varPhi", 0, codes "\\mathit{\\Phi}") ∷
+    (codes "varPi", 0, codes "\\mathit{\\Pi}") ∷
+    (codes "varPsi", 0, codes "\\mathit{\\Psi}") ∷
     (codes "varSigma", 0, codes "\\mathit{\\Sigma}") ∷
+    (codes "varTheta", 0, codes "\\mathit{\\Theta}") ∷
+    (codes "varUpsilon", 0, codes "\\mathit{\\Upsilon}") ∷
+    (codes "varXi", 0, codes "\\mathit{\\Xi}") ∷
+    (codes "varinjlim", 0, codes "\\operatorname*{\\underrightarrow{\\mathrm{lim}}}") ∷
+    (codes "varliminf", 0, codes "\\operatorname*{\\underline{\\mathrm{lim}}}") ∷
+    (codes "varlimsup", 0, codes "\\operatorname*{\\overline{\\mathrm{lim}}}") ∷
+    (codes "varprojlim", 0, codes "\\operatorname*{\\underleftarrow{\\mathrm{lim}}}") ∷
     []
 
 -- the units as a list

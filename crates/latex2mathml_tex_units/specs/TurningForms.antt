@@ -5,9 +5,10 @@ use Rattle.std.specs.Str.{byte}
 -- whether the name of a usual macro or of such a word has these first two bytes and this length
 abbrev pub is_turning_form : ℕ → ℕ → ℕ → Bool
 is_turning_form first second len =
-    if first == byte "B" then second == byte "b" && len == 4
+    if first == byte "B" then (if second == byte "b" then len == 4 else if second == byte "r" then len == 3 else false)
     else if first == byte "D" then second == byte "e" && len == 19
     else if first == byte "H" then second == byte "u" && len == 4
+    else if first == byte "K" then second == byte "e" && len == 3
     else if first == byte "L" then (second == byte "A" || second == byte "a") && len == 5
     else if first == byte "T" then second == byte "e" && len == 3
     else if first == byte "a" then second == byte "l" && len == 10
@@ -22,10 +23,11 @@ is_turning_form first second len =
     else if first == byte "l" then (if second == byte "a" then len == 5 else if second == byte "l" then len == 4 else false)
     else if first == byte "m" then (if second == byte "a" then len == 9 || len == 10 else if second == byte "d" then len == 8 else if second == byte "o" then len == 3 else false)
     else if first == byte "n" then (if second == byte "e" then len == 10 else if second == byte "o" then len == 5 || len == 7 || len == 8 || len == 10 else false)
+    else if first == byte "o" then second == byte "p" && len == 22
     else if first == byte "p" then (if second == byte "m" then len == 4 else if second == byte "o" then len == 3 else if second == byte "r" then len == 14 else false)
     else if first == byte "r" then (if second == byte "a" then len == 8 else if second == byte "e" then len == 5 || len == 12 else if second == byte "l" then len == 4 else if second == byte "m" then len == 8 else false)
     else if first == byte "s" then (if second == byte "c" then len == 7 || len == 10 else if second == byte "f" then len == 5 || len == 8 else if second == byte "l" then len == 7 else if second == byte "m" then len == 5 else if second == byte "t" then len == 5 else false)
     else if first == byte "t" then (if second == byte "a" then len == 3 else if second == byte "i" then len == 4 else if second == byte "t" then len == 8 else false)
     else if first == byte "u" then second == byte "p" && len == 7
-    else if first == byte "v" then second == byte "a" && len == 8
+    else if first == byte "v" then second == byte "a" && (len == 5 || len == 6 || len == 8 || len == 9 || len == 10)
     else false

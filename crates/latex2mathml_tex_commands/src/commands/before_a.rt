@@ -4,7 +4,7 @@ ghost use Rattle.std.specs.List.{list_all};
 ghost use Rattle.latex2mathml_tex_commands.specs.{Keys.has_key, Meanings.entry_of, Parts.entries_in};
 
 use crate::meaning::{Alphabet, Class, Entry, LimitPlace, Meaning, Symbol};
-use latex2mathml_attributes::attributes::Size;
+use latex2mathml_attributes::attributes::{Side, Size, Stretch};
 
 /// Returns the entries.
 #[tactic(auto, unfolding(crate::specs::Parts::entries_in, latex2mathml_tex_grammar::specs::Commands::command_entries, latex2mathml_tex_grammar::specs::CommandsUpToL::commands_up_to_l, latex2mathml_tex_grammar::specs::CommandsFromM::commands_from_m))]
@@ -16,7 +16,7 @@ pub(crate) fn entries() -> &'static [Entry]
 }
 
 #[rattlefmt::skip]
-static BEFORE_A: [Entry; 89] = [
+static BEFORE_A: [Entry; 91] = [
     Entry { name: " ", key: 0x2000000000000000, meaning: Meaning::Spacing(6) },
     Entry { name: "!", key: 0x2100000000000000, meaning: Meaning::Spacing(-3) },
     Entry { name: "#", key: 0x2300000000000000, meaning: Meaning::Shows(Symbol::Sign(Class::Ordinary, '#')) },
@@ -45,6 +45,7 @@ static BEFORE_A: [Entry; 89] = [
     Entry { name: "Bumpeq", key: 0x42756d7065710000, meaning: Meaning::Shows(Symbol::Sign(Class::Relation, '≎')) },
     Entry { name: "Cap", key: 0x4361700000000000, meaning: Meaning::Shows(Symbol::Sign(Class::Binary, '⋒')) },
     Entry { name: "Chi", key: 0x4368690000000000, meaning: Meaning::Shows(Symbol::UprightLetter('Χ')) },
+    Entry { name: "Coloneqq", key: 0x436f6c6f6e657171, meaning: Meaning::Shows(Symbol::Sign(Class::Relation, '⩴')) },
     Entry { name: "Cup", key: 0x4375700000000000, meaning: Meaning::Shows(Symbol::Sign(Class::Binary, '⋓')) },
     Entry { name: "DH", key: 0x4448000000000000, meaning: Meaning::Shows(Symbol::UprightLetter('Ð')) },
     Entry { name: "Dagger", key: 0x4461676765720000, meaning: Meaning::Shows(Symbol::Sign(Class::Ordinary, '‡')) },
@@ -77,6 +78,7 @@ static BEFORE_A: [Entry; 89] = [
     Entry { name: "OE", key: 0x4f45000000000000, meaning: Meaning::Shows(Symbol::UprightLetter('Œ')) },
     Entry { name: "Omega", key: 0x4f6d656761000000, meaning: Meaning::Shows(Symbol::UprightLetter('Ω')) },
     Entry { name: "Omicron", key: 0x4f6d6963726f6e00, meaning: Meaning::Shows(Symbol::UprightLetter('Ο')) },
+    Entry { name: "Overrightarrow", key: 0x4f76657272696768, meaning: Meaning::Accent(Side::Above, '⇒', Stretch::Stretching) },
     Entry { name: "P", key: 0x5000000000000000, meaning: Meaning::Shows(Symbol::Sign(Class::Ordinary, '¶')) },
     Entry { name: "Phi", key: 0x5068690000000000, meaning: Meaning::Shows(Symbol::UprightLetter('Φ')) },
     Entry { name: "Pi", key: 0x5069000000000000, meaning: Meaning::Shows(Symbol::UprightLetter('Π')) },

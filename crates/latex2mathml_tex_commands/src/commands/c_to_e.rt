@@ -18,7 +18,7 @@ pub(crate) fn letter_c() -> &'static [Entry]
 }
 
 #[rattlefmt::skip]
-static LETTER_C: [Entry; 47] = [
+static LETTER_C: [Entry; 50] = [
     Entry { name: "cal", key: 0x63616c0000000000, meaning: Meaning::Changes(Change::ToAlphabet(Alphabet::Calligraphic)) },
     Entry { name: "cancel", key: 0x63616e63656c0000, meaning: Meaning::Boxed(OperandBox::StrikeUp) },
     Entry { name: "cap", key: 0x6361700000000000, meaning: Meaning::Shows(Symbol::Sign(Class::Binary, '∩')) },
@@ -43,6 +43,9 @@ static LETTER_C: [Entry; 47] = [
     Entry { name: "circleddash", key: 0x636972636c656464, meaning: Meaning::Shows(Symbol::Sign(Class::Binary, '⊝')) },
     Entry { name: "clubsuit", key: 0x636c756273756974, meaning: Meaning::Shows(Symbol::Sign(Class::Ordinary, '♣')) },
     Entry { name: "colon", key: 0x636f6c6f6e000000, meaning: Meaning::Shows(Symbol::Sign(Class::Punctuation, ':')) },
+    Entry { name: "coloncolon", key: 0x636f6c6f6e636f6c, meaning: Meaning::Shows(Symbol::Sign(Class::Relation, '∷')) },
+    Entry { name: "coloncolonequals", key: 0x636f6c6f6e636f6c, meaning: Meaning::Shows(Symbol::Sign(Class::Relation, '⩴')) },
+    Entry { name: "colonequals", key: 0x636f6c6f6e657175, meaning: Meaning::Shows(Symbol::Sign(Class::Relation, '≔')) },
     Entry { name: "color", key: 0x636f6c6f72000000, meaning: Meaning::Changes(Change::ToColor) },
     Entry { name: "complement", key: 0x636f6d706c656d65, meaning: Meaning::Shows(Symbol::Sign(Class::Ordinary, '∁')) },
     Entry { name: "cong", key: 0x636f6e6700000000, meaning: Meaning::Shows(Symbol::Sign(Class::Relation, '≅')) },
@@ -78,7 +81,7 @@ pub(crate) fn letter_d() -> &'static [Entry]
 }
 
 #[rattlefmt::skip]
-static LETTER_D: [Entry; 41] = [
+static LETTER_D: [Entry; 42] = [
     Entry { name: "dag", key: 0x6461670000000000, meaning: Meaning::Shows(Symbol::Sign(Class::Ordinary, '†')) },
     Entry { name: "dagger", key: 0x6461676765720000, meaning: Meaning::Shows(Symbol::Sign(Class::Binary, '†')) },
     Entry { name: "daleth", key: 0x64616c6574680000, meaning: Meaning::Shows(Symbol::UprightLetter('ℸ')) },
@@ -86,6 +89,7 @@ static LETTER_D: [Entry; 41] = [
     Entry { name: "dashrightarrow", key: 0x6461736872696768, meaning: Meaning::Shows(Symbol::Sign(Class::Relation, '⇢')) },
     Entry { name: "dashv", key: 0x6461736876000000, meaning: Meaning::Shows(Symbol::Sign(Class::Relation, '⊣')) },
     Entry { name: "dbinom", key: 0x6462696e6f6d0000, meaning: Meaning::Fraction(FractionRule::NoBar, Some(Style::InDisplay)) },
+    Entry { name: "dblcolon", key: 0x64626c636f6c6f6e, meaning: Meaning::Shows(Symbol::Sign(Class::Relation, '∷')) },
     Entry { name: "ddag", key: 0x6464616700000000, meaning: Meaning::Shows(Symbol::Sign(Class::Ordinary, '‡')) },
     Entry { name: "ddagger", key: 0x6464616767657200, meaning: Meaning::Shows(Symbol::Sign(Class::Binary, '‡')) },
     Entry { name: "dddot", key: 0x6464646f74000000, meaning: Meaning::Accent(Side::Above, '\u{20DB}', Stretch::Rigid) },
@@ -132,7 +136,7 @@ pub(crate) fn letter_e() -> &'static [Entry]
 }
 
 #[rattlefmt::skip]
-static LETTER_E: [Entry; 20] = [
+static LETTER_E: [Entry; 22] = [
     Entry { name: "earth", key: 0x6561727468000000, meaning: Meaning::Shows(Symbol::Sign(Class::Ordinary, '♁')) },
     Entry { name: "ell", key: 0x656c6c0000000000, meaning: Meaning::Shows(Symbol::Letter('ℓ')) },
     Entry { name: "emph", key: 0x656d706800000000, meaning: Meaning::Words(Some(Alphabet::Italic)) },
@@ -142,9 +146,11 @@ static LETTER_E: [Entry; 20] = [
     Entry { name: "enspace", key: 0x656e737061636500, meaning: Meaning::Spacing(9) },
     Entry { name: "epsilon", key: 0x657073696c6f6e00, meaning: Meaning::Shows(Symbol::Letter('ϵ')) },
     Entry { name: "eqcirc", key: 0x6571636972630000, meaning: Meaning::Shows(Symbol::Sign(Class::Relation, '≖')) },
+    Entry { name: "eqqcolon", key: 0x657171636f6c6f6e, meaning: Meaning::Shows(Symbol::Sign(Class::Relation, '≕')) },
     Entry { name: "eqsim", key: 0x657173696d000000, meaning: Meaning::Shows(Symbol::Sign(Class::Relation, '≂')) },
     Entry { name: "eqslantgtr", key: 0x6571736c616e7467, meaning: Meaning::Shows(Symbol::Sign(Class::Relation, '⪖')) },
     Entry { name: "eqslantless", key: 0x6571736c616e746c, meaning: Meaning::Shows(Symbol::Sign(Class::Relation, '⪕')) },
+    Entry { name: "equalscolon", key: 0x657175616c73636f, meaning: Meaning::Shows(Symbol::Sign(Class::Relation, '≕')) },
     Entry { name: "equiv", key: 0x6571756976000000, meaning: Meaning::Shows(Symbol::Sign(Class::Relation, '≡')) },
     Entry { name: "erf", key: 0x6572660000000000, meaning: Meaning::FunctionName(LimitPlace::Beside, "erf") },
     Entry { name: "erfc", key: 0x6572666300000000, meaning: Meaning::FunctionName(LimitPlace::Beside, "erfc") },

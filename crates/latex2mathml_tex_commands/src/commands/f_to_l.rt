@@ -38,7 +38,7 @@ pub(crate) fn letter_g() -> &'static [Entry]
 }
 
 #[rattlefmt::skip]
-static LETTER_G: [Entry; 24] = [
+static LETTER_G: [Entry; 25] = [
     Entry { name: "gamma", key: 0x67616d6d61000000, meaning: Meaning::Shows(Symbol::Letter('γ')) },
     Entry { name: "gcd", key: 0x6763640000000000, meaning: Meaning::FunctionName(LimitPlace::ByStyle, "gcd") },
     Entry { name: "ge", key: 0x6765000000000000, meaning: Meaning::Shows(Symbol::Sign(Class::Relation, '≥')) },
@@ -63,6 +63,7 @@ static LETTER_G: [Entry; 24] = [
     Entry { name: "gtreqqless", key: 0x6774726571716c65, meaning: Meaning::Shows(Symbol::Sign(Class::Relation, '⪌')) },
     Entry { name: "gtrless", key: 0x6774726c65737300, meaning: Meaning::Shows(Symbol::Sign(Class::Relation, '≷')) },
     Entry { name: "gtrsim", key: 0x67747273696d0000, meaning: Meaning::Shows(Symbol::Sign(Class::Relation, '≳')) },
+    Entry { name: "gvertneqq", key: 0x67766572746e6571, meaning: Meaning::Shows(Symbol::Sign(Class::Relation, '≩')) },
 ];
 
 /// Returns the entries of the names that begin with h.
@@ -160,7 +161,7 @@ pub(crate) fn letter_l() -> &'static [Entry]
 }
 
 #[rattlefmt::skip]
-static LETTER_L: [Entry; 67] = [
+static LETTER_L: [Entry; 68] = [
     Entry { name: "l", key: 0x6c00000000000000, meaning: Meaning::Shows(Symbol::UprightLetter('ł')) },
     Entry { name: "lVert", key: 0x6c56657274000000, meaning: Meaning::Shows(Symbol::Sign(Class::Opening, '∥')) },
     Entry { name: "lambda", key: 0x6c616d6264610000, meaning: Meaning::Shows(Symbol::Letter('λ')) },
@@ -228,4 +229,5 @@ static LETTER_L: [Entry; 67] = [
     Entry { name: "lt", key: 0x6c74000000000000, meaning: Meaning::Shows(Symbol::Sign(Class::Relation, '<')) },
     Entry { name: "ltimes", key: 0x6c74696d65730000, meaning: Meaning::Shows(Symbol::Sign(Class::Binary, '⋉')) },
     Entry { name: "lvert", key: 0x6c76657274000000, meaning: Meaning::Shows(Symbol::Sign(Class::Opening, '∣')) },
+    Entry { name: "lvertneqq", key: 0x6c766572746e6571, meaning: Meaning::Shows(Symbol::Sign(Class::Relation, '≨')) },
 ];

@@ -71,12 +71,14 @@ pub(crate) fn letter_u() -> &'static [Entry]
 }
 
 #[rattlefmt::skip]
-static LETTER_U: [Entry; 20] = [
+static LETTER_U: [Entry; 23] = [
     Entry { name: "ulcorner", key: 0x756c636f726e6572, meaning: Meaning::Shows(Symbol::Sign(Class::Opening, '⌜')) },
     Entry { name: "underbar", key: 0x756e646572626172, meaning: Meaning::Accent(Side::Below, '\u{332}', Stretch::Stretching) },
     Entry { name: "underbrace", key: 0x756e646572627261, meaning: Meaning::Brace(Side::Below, '⏟') },
     Entry { name: "underbracket", key: 0x756e646572627261, meaning: Meaning::Brace(Side::Below, '⎵') },
+    Entry { name: "undergroup", key: 0x756e64657267726f, meaning: Meaning::Accent(Side::Below, '⏡', Stretch::Stretching) },
     Entry { name: "underleftarrow", key: 0x756e6465726c6566, meaning: Meaning::Accent(Side::Below, '←', Stretch::Stretching) },
+    Entry { name: "underleftrightarrow", key: 0x756e6465726c6566, meaning: Meaning::Accent(Side::Below, '↔', Stretch::Stretching) },
     Entry { name: "underline", key: 0x756e6465726c696e, meaning: Meaning::Accent(Side::Below, '\u{332}', Stretch::Stretching) },
     Entry { name: "underparen", key: 0x756e646572706172, meaning: Meaning::Brace(Side::Below, '⏝') },
     Entry { name: "underrightarrow", key: 0x756e646572726967, meaning: Meaning::Accent(Side::Below, '→', Stretch::Stretching) },
@@ -92,6 +94,7 @@ static LETTER_U: [Entry; 20] = [
     Entry { name: "upuparrows", key: 0x757075706172726f, meaning: Meaning::Shows(Symbol::Sign(Class::Relation, '⇈')) },
     Entry { name: "uranus", key: 0x7572616e75730000, meaning: Meaning::Shows(Symbol::Sign(Class::Ordinary, '♅')) },
     Entry { name: "urcorner", key: 0x7572636f726e6572, meaning: Meaning::Shows(Symbol::Sign(Class::Closing, '⌝')) },
+    Entry { name: "utilde", key: 0x7574696c64650000, meaning: Meaning::Accent(Side::Below, '~', Stretch::Stretching) },
 ];
 
 /// Returns the entries of the names that begin with v.
@@ -104,7 +107,7 @@ pub(crate) fn letter_v() -> &'static [Entry]
 }
 
 #[rattlefmt::skip]
-static LETTER_V: [Entry; 22] = [
+static LETTER_V: [Entry; 27] = [
     Entry { name: "vDash", key: 0x7644617368000000, meaning: Meaning::Shows(Symbol::Sign(Class::Relation, '⊨')) },
     Entry { name: "varepsilon", key: 0x766172657073696c, meaning: Meaning::Shows(Symbol::Letter('ε')) },
     Entry { name: "varkappa", key: 0x7661726b61707061, meaning: Meaning::Shows(Symbol::UprightLetter('ϰ')) },
@@ -114,11 +117,16 @@ static LETTER_V: [Entry; 22] = [
     Entry { name: "varpropto", key: 0x76617270726f7074, meaning: Meaning::Shows(Symbol::Sign(Class::Relation, '∝')) },
     Entry { name: "varrho", key: 0x76617272686f0000, meaning: Meaning::Shows(Symbol::Letter('ϱ')) },
     Entry { name: "varsigma", key: 0x7661727369676d61, meaning: Meaning::Shows(Symbol::Letter('ς')) },
+    Entry { name: "varsubsetneq", key: 0x7661727375627365, meaning: Meaning::Shows(Symbol::Sign(Class::Relation, '⊊')) },
+    Entry { name: "varsubsetneqq", key: 0x7661727375627365, meaning: Meaning::Shows(Symbol::Sign(Class::Relation, '⫋')) },
+    Entry { name: "varsupsetneq", key: 0x7661727375707365, meaning: Meaning::Shows(Symbol::Sign(Class::Relation, '⊋')) },
+    Entry { name: "varsupsetneqq", key: 0x7661727375707365, meaning: Meaning::Shows(Symbol::Sign(Class::Relation, '⫌')) },
     Entry { name: "vartheta", key: 0x7661727468657461, meaning: Meaning::Shows(Symbol::Letter('ϑ')) },
     Entry { name: "vartriangle", key: 0x766172747269616e, meaning: Meaning::Shows(Symbol::Sign(Class::Relation, '△')) },
     Entry { name: "vartriangleleft", key: 0x766172747269616e, meaning: Meaning::Shows(Symbol::Sign(Class::Relation, '⊲')) },
     Entry { name: "vartriangleright", key: 0x766172747269616e, meaning: Meaning::Shows(Symbol::Sign(Class::Relation, '⊳')) },
     Entry { name: "varvdots", key: 0x76617276646f7473, meaning: Meaning::Shows(Symbol::Sign(Class::Ordinary, '⋮')) },
+    Entry { name: "vcentcolon", key: 0x7663656e74636f6c, meaning: Meaning::Shows(Symbol::Sign(Class::Relation, ':')) },
     Entry { name: "vdash", key: 0x7664617368000000, meaning: Meaning::Shows(Symbol::Sign(Class::Relation, '⊢')) },
     Entry { name: "vdots", key: 0x76646f7473000000, meaning: Meaning::Shows(Symbol::Sign(Class::Ordinary, '⋮')) },
     Entry { name: "vec", key: 0x7665630000000000, meaning: Meaning::Accent(Side::Above, '\u{20D7}', Stretch::Stretching) },
@@ -139,11 +147,12 @@ pub(crate) fn letter_w() -> &'static [Entry]
 }
 
 #[rattlefmt::skip]
-static LETTER_W: [Entry; 5] = [
+static LETTER_W: [Entry; 6] = [
     Entry { name: "wedge", key: 0x7765646765000000, meaning: Meaning::Shows(Symbol::Sign(Class::Binary, '∧')) },
     Entry { name: "widecheck", key: 0x7769646563686563, meaning: Meaning::Accent(Side::Above, 'ˇ', Stretch::Stretching) },
     Entry { name: "widehat", key: 0x7769646568617400, meaning: Meaning::Accent(Side::Above, '\u{302}', Stretch::Stretching) },
     Entry { name: "widetilde", key: 0x7769646574696c64, meaning: Meaning::Accent(Side::Above, '~', Stretch::Stretching) },
+    Entry { name: "wp", key: 0x7770000000000000, meaning: Meaning::Shows(Symbol::Letter('℘')) },
     Entry { name: "wr", key: 0x7772000000000000, meaning: Meaning::Shows(Symbol::Sign(Class::Binary, '≀')) },
 ];
 

@@ -79,7 +79,7 @@ pub(crate) fn letter_n() -> &'static [Entry]
 }
 
 #[rattlefmt::skip]
-static LETTER_N: [Entry; 49] = [
+static LETTER_N: [Entry; 58] = [
     Entry { name: "nLeftarrow", key: 0x6e4c656674617272, meaning: Meaning::Shows(Symbol::Sign(Class::Relation, '⇍')) },
     Entry { name: "nLeftrightarrow", key: 0x6e4c656674726967, meaning: Meaning::Shows(Symbol::Sign(Class::Relation, '⇎')) },
     Entry { name: "nRightarrow", key: 0x6e52696768746172, meaning: Meaning::Shows(Symbol::Sign(Class::Relation, '⇏')) },
@@ -101,26 +101,35 @@ static LETTER_N: [Entry; 49] = [
     Entry { name: "nexists", key: 0x6e65786973747300, meaning: Meaning::Shows(Symbol::Sign(Class::Ordinary, '∄')) },
     Entry { name: "ng", key: 0x6e67000000000000, meaning: Meaning::Shows(Symbol::UprightLetter('ŋ')) },
     Entry { name: "ngeq", key: 0x6e67657100000000, meaning: Meaning::Shows(Symbol::Sign(Class::Relation, '≱')) },
+    Entry { name: "ngeqq", key: 0x6e67657171000000, meaning: Meaning::Shows(Symbol::Sign(Class::Relation, '≱')) },
+    Entry { name: "ngeqslant", key: 0x6e676571736c616e, meaning: Meaning::Shows(Symbol::Sign(Class::Relation, '≱')) },
     Entry { name: "ngtr", key: 0x6e67747200000000, meaning: Meaning::Shows(Symbol::Sign(Class::Relation, '≯')) },
     Entry { name: "ni", key: 0x6e69000000000000, meaning: Meaning::Shows(Symbol::Sign(Class::Relation, '∋')) },
     Entry { name: "nleftarrow", key: 0x6e6c656674617272, meaning: Meaning::Shows(Symbol::Sign(Class::Relation, '↚')) },
     Entry { name: "nleftrightarrow", key: 0x6e6c656674726967, meaning: Meaning::Shows(Symbol::Sign(Class::Relation, '↮')) },
     Entry { name: "nleq", key: 0x6e6c657100000000, meaning: Meaning::Shows(Symbol::Sign(Class::Relation, '≰')) },
+    Entry { name: "nleqq", key: 0x6e6c657171000000, meaning: Meaning::Shows(Symbol::Sign(Class::Relation, '≰')) },
+    Entry { name: "nleqslant", key: 0x6e6c6571736c616e, meaning: Meaning::Shows(Symbol::Sign(Class::Relation, '≰')) },
     Entry { name: "nless", key: 0x6e6c657373000000, meaning: Meaning::Shows(Symbol::Sign(Class::Relation, '≮')) },
     Entry { name: "nmid", key: 0x6e6d696400000000, meaning: Meaning::Shows(Symbol::Sign(Class::Relation, '∤')) },
     Entry { name: "nobreakspace", key: 0x6e6f627265616b73, meaning: Meaning::Spacing(6) },
     Entry { name: "nolimits", key: 0x6e6f6c696d697473, meaning: Meaning::NoLimits },
     Entry { name: "not", key: 0x6e6f740000000000, meaning: Meaning::Negation },
     Entry { name: "notin", key: 0x6e6f74696e000000, meaning: Meaning::Shows(Symbol::Sign(Class::Relation, '∉')) },
+    Entry { name: "notni", key: 0x6e6f746e69000000, meaning: Meaning::Shows(Symbol::Sign(Class::Relation, '∌')) },
     Entry { name: "nparallel", key: 0x6e706172616c6c65, meaning: Meaning::Shows(Symbol::Sign(Class::Relation, '∦')) },
     Entry { name: "nprec", key: 0x6e70726563000000, meaning: Meaning::Shows(Symbol::Sign(Class::Relation, '⊀')) },
     Entry { name: "npreceq", key: 0x6e70726563657100, meaning: Meaning::Shows(Symbol::Sign(Class::Relation, '⋠')) },
     Entry { name: "nrightarrow", key: 0x6e72696768746172, meaning: Meaning::Shows(Symbol::Sign(Class::Relation, '↛')) },
+    Entry { name: "nshortmid", key: 0x6e73686f72746d69, meaning: Meaning::Shows(Symbol::Sign(Class::Relation, '∤')) },
+    Entry { name: "nshortparallel", key: 0x6e73686f72747061, meaning: Meaning::Shows(Symbol::Sign(Class::Relation, '∦')) },
     Entry { name: "nsim", key: 0x6e73696d00000000, meaning: Meaning::Shows(Symbol::Sign(Class::Relation, '≁')) },
     Entry { name: "nsubseteq", key: 0x6e73756273657465, meaning: Meaning::Shows(Symbol::Sign(Class::Relation, '⊈')) },
+    Entry { name: "nsubseteqq", key: 0x6e73756273657465, meaning: Meaning::Shows(Symbol::Sign(Class::Relation, '⊈')) },
     Entry { name: "nsucc", key: 0x6e73756363000000, meaning: Meaning::Shows(Symbol::Sign(Class::Relation, '⊁')) },
     Entry { name: "nsucceq", key: 0x6e73756363657100, meaning: Meaning::Shows(Symbol::Sign(Class::Relation, '⋡')) },
     Entry { name: "nsupseteq", key: 0x6e73757073657465, meaning: Meaning::Shows(Symbol::Sign(Class::Relation, '⊉')) },
+    Entry { name: "nsupseteqq", key: 0x6e73757073657465, meaning: Meaning::Shows(Symbol::Sign(Class::Relation, '⊉')) },
     Entry { name: "ntriangleleft", key: 0x6e747269616e676c, meaning: Meaning::Shows(Symbol::Sign(Class::Relation, '⋪')) },
     Entry { name: "ntrianglelefteq", key: 0x6e747269616e676c, meaning: Meaning::Shows(Symbol::Sign(Class::Relation, '⋬')) },
     Entry { name: "ntriangleright", key: 0x6e747269616e676c, meaning: Meaning::Shows(Symbol::Sign(Class::Relation, '⋫')) },
@@ -141,7 +150,7 @@ pub(crate) fn letter_o() -> &'static [Entry]
 }
 
 #[rattlefmt::skip]
-static LETTER_O: [Entry; 24] = [
+static LETTER_O: [Entry; 27] = [
     Entry { name: "o", key: 0x6f00000000000000, meaning: Meaning::Shows(Symbol::UprightLetter('ø')) },
     Entry { name: "odot", key: 0x6f646f7400000000, meaning: Meaning::Shows(Symbol::Sign(Class::Binary, '⊙')) },
     Entry { name: "oe", key: 0x6f65000000000000, meaning: Meaning::Shows(Symbol::UprightLetter('œ')) },
@@ -159,11 +168,14 @@ static LETTER_O: [Entry; 24] = [
     Entry { name: "over", key: 0x6f76657200000000, meaning: Meaning::Changes(Change::Divides(FractionRule::Bar)) },
     Entry { name: "overbrace", key: 0x6f76657262726163, meaning: Meaning::Brace(Side::Above, '⏞') },
     Entry { name: "overbracket", key: 0x6f76657262726163, meaning: Meaning::Brace(Side::Above, '⎴') },
+    Entry { name: "overgroup", key: 0x6f76657267726f75, meaning: Meaning::Accent(Side::Above, '⏠', Stretch::Stretching) },
     Entry { name: "overleftarrow", key: 0x6f7665726c656674, meaning: Meaning::Accent(Side::Above, '←', Stretch::Stretching) },
+    Entry { name: "overleftharpoon", key: 0x6f7665726c656674, meaning: Meaning::Accent(Side::Above, '↼', Stretch::Stretching) },
     Entry { name: "overleftrightarrow", key: 0x6f7665726c656674, meaning: Meaning::Accent(Side::Above, '↔', Stretch::Stretching) },
     Entry { name: "overline", key: 0x6f7665726c696e65, meaning: Meaning::Accent(Side::Above, '‾', Stretch::Stretching) },
     Entry { name: "overparen", key: 0x6f76657270617265, meaning: Meaning::Brace(Side::Above, '⏜') },
     Entry { name: "overrightarrow", key: 0x6f76657272696768, meaning: Meaning::Accent(Side::Above, '→', Stretch::Stretching) },
+    Entry { name: "overrightharpoon", key: 0x6f76657272696768, meaning: Meaning::Accent(Side::Above, '⇀', Stretch::Stretching) },
     Entry { name: "overset", key: 0x6f76657273657400, meaning: Meaning::Stack(Side::Above) },
     Entry { name: "owns", key: 0x6f776e7300000000, meaning: Meaning::Shows(Symbol::Sign(Class::Relation, '∋')) },
 ];

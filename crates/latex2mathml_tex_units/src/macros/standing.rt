@@ -151,9 +151,14 @@ fn is_turning_form(first: u8, second: u8, len: usize) -> bool
     ensures { result ≡ is_turning_form first second len }
 {
     match first {
-        b'B' => second == b'b' && len == 4,
+        b'B' => match second {
+            b'b' => len == 4,
+            b'r' => len == 3,
+            _ => false,
+        },
         b'D' => second == b'e' && len == 19,
         b'H' => second == b'u' && len == 4,
+        b'K' => second == b'e' && len == 3,
         b'L' => matches!(second, b'A' | b'a') && len == 5,
         b'T' => second == b'e' && len == 3,
         b'a' => second == b'l' && len == 10,
@@ -212,6 +217,7 @@ fn is_turning_form(first: u8, second: u8, len: usize) -> bool
             b'o' => matches!(len, 5 | 7 | 8 | 10),
             _ => false,
         },
+        b'o' => second == b'p' && len == 22,
         b'p' => match second {
             b'm' => len == 4,
             b'o' => len == 3,
@@ -240,7 +246,7 @@ fn is_turning_form(first: u8, second: u8, len: usize) -> bool
             _ => false,
         },
         b'u' => second == b'p' && len == 7,
-        b'v' => second == b'a' && len == 8,
+        b'v' => second == b'a' && matches!(len, 5 | 6 | 8 | 9 | 10),
         _ => false,
     }
 }

@@ -30,11 +30,13 @@ fn entries() -> &'static [Usual]
 
 /// An entry for each macro, in the order of their names' bytes.
 #[rattlefmt::skip]
-static ENTRIES: [Usual; 68] = [
+static ENTRIES: [Usual; 82] = [
     Usual { name: "-", arity: 0, body: "" },
     Usual { name: "/", arity: 0, body: "" },
     Usual { name: "Bbbk", arity: 0, body: "\\mathbb{k}" },
+    Usual { name: "Bra", arity: 1, body: "\\left\\langle #1\\right|" },
     Usual { name: "Huge", arity: 0, body: "" },
+    Usual { name: "Ket", arity: 1, body: "\\left|#1\\right\\rangle" },
     Usual { name: "LARGE", arity: 0, body: "" },
     Usual { name: "LaTeX", arity: 0, body: "\\text{LaTeX}" },
     Usual { name: "Large", arity: 0, body: "" },
@@ -77,6 +79,7 @@ static ENTRIES: [Usual; 68] = [
     Usual { name: "normalfont", arity: 0, body: "" },
     Usual { name: "normalsize", arity: 0, body: "" },
     Usual { name: "notag", arity: 0, body: "" },
+    Usual { name: "operatornamewithlimits", arity: 0, body: "\\operatorname*" },
     Usual { name: "pmod", arity: 1, body: "\\quad(\\operatorname{mod}\\;#1)" },
     Usual { name: "pod", arity: 1, body: "\\quad(#1)" },
     Usual { name: "qed", arity: 0, body: "\\square" },
@@ -97,8 +100,19 @@ static ENTRIES: [Usual; 68] = [
     Usual { name: "upshape", arity: 0, body: "" },
     Usual { name: "varDelta", arity: 0, body: "\\mathit{\\Delta}" },
     Usual { name: "varGamma", arity: 0, body: "\\mathit{\\Gamma}" },
+    Usual { name: "varLambda", arity: 0, body: "\\mathit{\\Lambda}" },
     Usual { name: "varOmega", arity: 0, body: "\\mathit{\\Omega}" },
+    Usual { name: "varPhi", arity: 0, body: "\\mathit{\\Phi}" },
+    Usual { name: "varPi", arity: 0, body: "\\mathit{\\Pi}" },
+    Usual { name: "varPsi", arity: 0, body: "\\mathit{\\Psi}" },
     Usual { name: "varSigma", arity: 0, body: "\\mathit{\\Sigma}" },
+    Usual { name: "varTheta", arity: 0, body: "\\mathit{\\Theta}" },
+    Usual { name: "varUpsilon", arity: 0, body: "\\mathit{\\Upsilon}" },
+    Usual { name: "varXi", arity: 0, body: "\\mathit{\\Xi}" },
+    Usual { name: "varinjlim", arity: 0, body: "\\operatorname*{\\underrightarrow{\\mathrm{lim}}}" },
+    Usual { name: "varliminf", arity: 0, body: "\\operatorname*{\\underline{\\mathrm{lim}}}" },
+    Usual { name: "varlimsup", arity: 0, body: "\\operatorname*{\\overline{\\mathrm{lim}}}" },
+    Usual { name: "varprojlim", arity: 0, body: "\\operatorname*{\\underleftarrow{\\mathrm{lim}}}" },
 ];
 
 /// Returns the entry with this name, if the sorted entries have one. Each comparison halves the entries that are left.
