@@ -4,6 +4,7 @@ pub mod Forests
 pub mod Groups
 pub mod Leaves
 pub mod Markups
+pub mod Plain
 pub mod Puts
 pub mod Styles
 pub mod Works

@@ -4,6 +4,7 @@ pub mod Forests
 pub mod Forms
 pub mod Groups
 pub mod Parts
+pub mod Plain
 pub mod Shapes
 pub mod Tags
 pub mod Works

@@ -29,17 +29,6 @@ macro_rules! texts {
     };
 }
 
-/// Returns the markup of an italic letter that is ASCII.
-#[tactic(auto, unfolding(crate::proofs::Encoding::encode_utf8))]
-pub(crate) fn letter_markup(c: char) -> Option<&'static str>
-    ensures { IfSome result (λ markup. markup.now ≡ print (letter c Italic)) }
-{
-    elements!(c, "<mi>", "</mi>",
-        'a' 'b' 'c' 'd' 'e' 'f' 'g' 'h' 'i' 'j' 'k' 'l' 'm' 'n' 'o' 'p' 'q' 'r' 's' 't' 'u' 'v' 'w' 'x' 'y' 'z'
-        'A' 'B' 'C' 'D' 'E' 'F' 'G' 'H' 'I' 'J' 'K' 'L' 'M' 'N' 'O' 'P' 'Q' 'R' 'S' 'T' 'U' 'V' 'W' 'X' 'Y' 'Z'
-    )
-}
-
 /// Returns the markup of an italic letter that is a small Greek one.
 #[tactic(auto, unfolding(crate::proofs::Encoding::encode_utf8))]
 pub(crate) fn greek_markup(c: char) -> Option<&'static str>
