@@ -30,8 +30,10 @@ called (table a rows) = codes "mtable"
 pub name_valid : (x : Element) → IsTrue (is_name (called x))
 name_valid x = grind arith
 
-pub name_plain : (x : Element) → IsPlain (called x)
-name_plain x = grind arith
+pub name_plain : (name : Name) → IsTrue (is_name name) → IsPlain name
+name_plain [] h = refl
+name_plain (b ∷ []) h = grind (arith, nat_tests)
+name_plain (b ∷ c ∷ name) h = grind (arith, nat_tests, name_plain (c ∷ name))
 
 -- a plain character that is a part of a value as it is
 abbrev pub is_quotable : ℕ → Bool

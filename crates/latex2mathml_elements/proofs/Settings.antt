@@ -6,7 +6,7 @@ use Rattle.latex2mathml_elements.specs.{Attributes.Attributes, Columns.Column}
 use Rattle.latex2mathml_elements.specs.Print.{accent_text, attributes_text, boxing_text, column_text, form_text, if_so, math_tag, size_text, space_text, stretch_text, style_text}
 use Rattle.latex2mathml_elements.specs.Colors.{Color, color_code, color_text}
 use Rattle.latex2mathml_elements.specs.Extents.{Extent, black_text, ems, extent_text, length_if_any, length_text}
-use Rattle.latex2mathml_elements.proofs.Plain.{IsPlain, IsQuotable, color_quotable, ems_quotable, is_plain, width_quotable}
+use Rattle.latex2mathml_elements.proofs.Plain.{IsPlain, IsQuotable, color_quotable, ems_quotable, is_plain, name_plain, width_quotable}
 use Rattle.latex2mathml_trees.specs.Markup.{Attribute, attribute, plain, is_attribute, is_name, is_part, spell_attribute}
 use Rattle.latex2mathml_trees.specs.Width.{width_text}
 use Rattle.latex2mathml_trees.proofs.Runs.{plain-spells}
@@ -74,29 +74,29 @@ quotable : (text : List ℕ) → IsQuotable text → IsPlain text × IsTrue (lis
 quotable [] h = (refl, refl)
 quotable (b ∷ bs) h = grind (arith, quotable bs)
 
-quoted : (name value unit : List ℕ) → IsTrue (is_name name) → IsPlain name → IsQuotable unit → IsQuotable value → AreSettings (codes " " ++ (name ++ (codes "=\"" ++ (value ++ (unit ++ codes "\"")))))
-quoted name value unit valid plain_name u v =
+quoted : (name value unit : List ℕ) → IsTrue (is_name name) → IsQuotable unit → IsQuotable value → AreSettings (codes " " ++ (name ++ (codes "=\"" ++ (value ++ (unit ++ codes "\"")))))
+quoted name value unit valid u v =
     let parts = quotable (value ++ unit) (simp (list_all-append, v, u)) in
     record {
       list = attribute name (map plain (value ++ unit)) ∷ [];
       valid = simp (valid, list_all-map is_part plain (value ++ unit), parts.1);
       spelled = simp (append_assoc, append-nil, plain-spells);
-      plain = simp (list_all-append, plain_name, (quotable value v).0, (quotable unit u).0);
+      plain = simp (list_all-append, name_plain name valid, (quotable value v).0, (quotable unit u).0);
     }
 
 pub width : (n : ℤ) → AreSettings (codes " width=\"" ++ (width_text n ++ codes "em\""))
-width n = quoted (codes "width") (width_text n) (codes "em") refl refl refl (width_quotable n)
+width n = quoted (codes "width") (width_text n) (codes "em") refl refl (width_quotable n)
 
-measure : (name : List ℕ) → IsTrue (is_name name) → IsPlain name → (n : ℤ) → AreSettings (length_text name n)
-measure name valid plain_name n = quoted name (ems n) (codes "em") valid plain_name refl (ems_quotable n)
+measure : (name : List ℕ) → IsTrue (is_name name) → (n : ℤ) → AreSettings (length_text name n)
+measure name valid n = quoted name (ems n) (codes "em") valid refl (ems_quotable n)
 
-measure_if_any : (name : List ℕ) → IsTrue (is_name name) → IsPlain name → (n : ℤ) → AreSettings (length_if_any name n)
-measure_if_any name valid plain_name (pos zero) = nothing
-measure_if_any name valid plain_name n = measure name valid plain_name n
+measure_if_any : (name : List ℕ) → IsTrue (is_name name) → (n : ℤ) → AreSettings (length_if_any name n)
+measure_if_any name valid (pos zero) = nothing
+measure_if_any name valid n = measure name valid n
 
-color : (name : List ℕ) → IsTrue (is_name name) → IsPlain name → (c : Option Color) → AreSettings (color_text name c)
-color name valid plain_name None = nothing
-color name valid plain_name (Some c) = quoted name (color_code c) [] valid plain_name refl (color_quotable c)
+color : (name : List ℕ) → IsTrue (is_name name) → (c : Option Color) → AreSettings (color_text name c)
+color name valid None = nothing
+color name valid (Some c) = quoted name (color_code c) [] valid refl (color_quotable c)
 
 pub settings : (a : Attributes) → AreSettings (attributes_text a)
 settings a =
@@ -112,18 +112,18 @@ settings a =
     (beside (words (if_so a.no_line (codes " linethickness=\"0\"")) (grind arith))
     (beside (words (style_text a.style) (grind arith))
     (beside (words (boxing_text a.boxing) (grind arith))
-    (beside (measure_if_any (codes "voffset") refl refl a.raised)
-    (beside (color (codes "mathcolor") refl refl a.color)
-    (color (codes "mathbackground") refl refl a.background))))))))))))))
+    (beside (measure_if_any (codes "voffset") refl a.raised)
+    (beside (color (codes "mathcolor") refl a.color)
+    (color (codes "mathbackground") refl a.background))))))))))))))
 
 pub column : (c : Column) → AreSettings (column_text c)
 column c = words (column_text c) (grind arith)
 
 pub extent : (e : Extent) → AreSettings (extent_text e)
 extent e =
-    beside (measure (codes "width") refl refl e.width)
-    (beside (measure_if_any (codes "height") refl refl e.height)
-    (beside (measure_if_any (codes "depth") refl refl e.depth)
+    beside (measure (codes "width") refl e.width)
+    (beside (measure_if_any (codes "height") refl e.height)
+    (beside (measure_if_any (codes "depth") refl e.depth)
     (words (black_text e.is_black) (grind arith))))
 
 -- the attributes of a formula
