@@ -1,16 +1,16 @@
 -- Texts that hold no dollar sign: escaped texts, numbers, and the prints of trees.
-use Rattle.std.proofs.Common.{arith, ◌≡◌, ℕ, ℤ, ◌+◌, ◌<◌, true, List, [], ◌∷◌, ◌++◌, Option, refl}
+use Rattle.std.proofs.Common.{arith, ◌≡◌, ℕ, ℤ, ◌+◌, ◌<◌, true, List, [], ◌∷◌, ◌++◌, refl}
 use Rattle.std.specs.Char.{encode_utf8}
 use Rattle.std.specs.Fmt.{decimal}
 use Rattle.latex2mathml_trees.proofs.ValueTexts.{decimal_passes, width_passes}
 use Rattle.std.proofs.{lemmas.Bool.Decides.nat_tests, lemmas.List.Folds.list_all-append}
-use Rattle.latex2mathml_tokens.specs.Attributes.{accent_text, display_text, variant_text}
+use Rattle.latex2mathml_tokens.specs.Attributes.{accent_text}
 use Rattle.latex2mathml_grammar.specs.Dollars.{is_other, IsDollarFree, free_both, free_first, free_more, free_rest}
 use Rattle.latex2mathml_tokens.specs.Escape.{content, content_byte, content_char, value, value_byte}
-use Rattle.latex2mathml_trees.specs.Print.{print, prints, members_print, letter_print, operator_print, slashed_print, member_print, style_open}
+use Rattle.latex2mathml_trees.specs.Print.{print, prints, members_print, letter_print, operator_print, slashed_print, member_print}
 use Rattle.latex2mathml_trees.specs.Tree.{Tree, Trees, no_trees, more_trees}
 use Rattle.latex2mathml_trees.specs.Width.{width_text}
-use Rattle.latex2mathml_tokens.specs.{declared.DisplayStyle.DisplayStyle, declared.attribute.Accent.Accent, declared.attribute.Variant.Variant}
+use Rattle.latex2mathml_tokens.specs.{declared.attribute.Accent.Accent, declared.attribute.Variant.Variant}
 
 -- Contents escape the dollar sign.
 free_content_byte : (b : ℕ) → IsDollarFree (content_byte b)
@@ -42,17 +42,8 @@ pub free_width : (n : ℤ) → IsDollarFree (width_text n)
 free_width = width_passes is_other other_digit refl refl
 
 -- Prints. A literal at the front of a text computes away, so what is proved names only what is between literals.
-free_variant : (variant : Variant) → IsDollarFree (variant_text variant)
-free_variant variant = grind arith
-
 pub free_accent : (accent : Accent) → IsDollarFree (accent_text accent)
 free_accent accent = grind arith
-
-pub free_display : (display : DisplayStyle) → IsDollarFree (display_text display)
-free_display display = grind arith
-
-pub free_style_open : (display : Option DisplayStyle) → IsDollarFree (style_open display)
-free_style_open display = grind arith
 
 pub free_letter : (c : ℕ) (variant : Variant) → IsDollarFree (letter_print c variant)
 free_letter c variant = grind (arith, list_all-append, free_content_char)
@@ -61,7 +52,7 @@ pub free_operator : (c : ℕ) → IsDollarFree (operator_print c)
 free_operator c = grind (arith, list_all-append, free_content_char)
 
 pub free_slashed : (x : Tree) (own : List ℕ) → IsDollarFree own → IsDollarFree (slashed_print x own)
-free_slashed x own h = grind (arith, list_all-append, free_content_char, free_variant)
+free_slashed x own h = grind (arith, list_all-append, free_content_char)
 
 -- what is between literals in the prints of most trees
 pub ruleset free_pieces = (free_both, free_content, free_content_char, free_width, free_accent, free_letter, free_operator, free_slashed)

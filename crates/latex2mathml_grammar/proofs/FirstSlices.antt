@@ -3,7 +3,7 @@ use Rattle.std.proofs.Common.{◌≡◌, ℕ, ◌≤◌, Bool, true, false, List
 use Rattle.std.proofs.{lemmas.Bool.cases_Bool, lemmas.Bool.Decides.nat_tests}
 use Rattle.std.specs.{Char.is_ascii_digit, Char.is_ascii_alphabetic, Prelude.count_by}
 use Rattle.latex2mathml_grammar.specs.Characters.{◌∈◌, Stops, head}
-use Rattle.latex2mathml_grammar.proofs.{Passing.Each, Passing.each, Counting.count_yes, Counting.count_no, Numbers.digit_no_period}
+use Rattle.latex2mathml_grammar.proofs.{Counting.Each, Counting.each, Counting.count_yes, Counting.count_no, Numbers.digit_no_period}
 use Rattle.latex2mathml_grammar.specs.Cutting.{run_of, behind_run, number_of, first_slice, slice, numbered}
 use Rattle.latex2mathml_grammar.specs.Spelling.{SpellsAt, IsNumber, is_period, is_digit_or_period, begins_longer, character, colon, colon_equals, number, digit, symbol_command, letter_command, lone_backslash}
 use Rattle.latex2mathml_tokens.specs.Tok.{Tok}

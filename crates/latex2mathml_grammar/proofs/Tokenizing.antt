@@ -1,9 +1,9 @@
 -- No slice begins with white space or is empty, so each slice takes something from the text.
-use Rattle.std.proofs.Common.{◌≡◌, ℕ, ◌+◌, ◌≤◌, ◌<◌, Bool, true, false, refl, List, [], ◌∷◌, ◌++◌, length, Option, sym, ap, subst, ◌∙◌, arith, length-append}
+use Rattle.std.proofs.Common.{◌≡◌, ℕ, ◌+◌, ◌≤◌, ◌<◌, Bool, true, false, List, [], ◌∷◌, ◌++◌, length, Option, ap, ◌∙◌, arith, length-append}
 use Rattle.std.specs.Char.{is_ascii_digit}
 use Rattle.std.proofs.lemmas.Bool.Decides.{nat_tests}
 use Rattle.latex2mathml_grammar.specs.Characters.{is_space}
-use Rattle.latex2mathml_grammar.specs.Spelling.{SpellsAt, Slice, IsFirstSlice, character, colon, colon_equals, number, digit, symbol_command, letter_command, lone_backslash}
+use Rattle.latex2mathml_grammar.specs.Spelling.{SpellsAt, Slice, IsFirstSlice, number}
 use Rattle.latex2mathml_tokens.specs.Tok.{Tok}
 
 -- the list begins with a character that is not white space
@@ -16,20 +16,13 @@ digit_dark c h = grind (arith, nat_tests)
 
 -- no slice begins with white space
 pub spells_dark : (alone : Bool) (w : List ℕ) (next : Option ℕ) (t : Tok) → SpellsAt alone w next t → Dark w
-spells_dark alone w next t (character c longer dark e f) = subst Dark (sym e) dark
-spells_dark alone w next t (colon stops e f) = subst Dark (sym e) refl
-spells_dark alone w next t (colon_equals e f) = subst Dark (sym e) refl
 spells_dark alone [] next t (number a n f) = absurd n.begins
 spells_dark alone (c ∷ w) next t (number a n f) = digit_dark c n.begins
-spells_dark alone w next t (digit c a d e f) = subst Dark (sym e) (digit_dark c d)
-spells_dark alone w next t (symbol_command c l e f) = subst Dark (sym e) refl
-spells_dark alone w next t (letter_command c cs e l s f) = subst Dark (sym e) refl
-spells_dark alone w next t (lone_backslash e n f) = subst Dark (sym e) refl
+spells_dark alone w next t spells = grind (arith, digit_dark)
 
 -- so no slice is empty
 dark_length : (w : List ℕ) → Dark w → 1 ≤ length w
-dark_length [] d = absurd d
-dark_length (c ∷ w) d = omega arith
+dark_length w d = grind arith
 
 -- so a step leaves less of the text
 pub step_shortens : (takes : Bool) (text rest : List ℕ) (s : Slice) → IsFirstSlice takes text s rest → length rest < length text
