@@ -1,5 +1,5 @@
 -- The print of a formula with an annotation is one element that obeys the child table with annotations.
-use Rattle.std.proofs.Common.{◌≡◌, ℕ, Bool, true, false, ◌&&◌, not, IsTrue, List, [], ◌∷◌, ◌++◌, Option, refl, sym, ap, subst, ◌∙◌, append-nil, append_assoc, arith, codes, cond, map}
+use Rattle.std.proofs.Common.{◌≡◌, ℕ, Bool, true, false, ◌&&◌, not, IsTrue, List, [], ◌∷◌, ◌++◌, Option, refl, ap, subst, append-nil, append_assoc, arith, codes, cond, map}
 use Rattle.std.specs.{Cmp.Lexicographic.bytes_decides, Str.bytes_eq}
 use Rattle.latex2mathml_elements.specs.Annotated.{IsAnnotatedMathElement, alternative_start, alternative_tag, annotated_child_table, annotated_print}
 use Rattle.latex2mathml_elements.specs.Characters.{EachText, IsAllowed}
@@ -13,9 +13,7 @@ use Rattle.latex2mathml_trees.proofs.Runs.{closed, content_leads, obeying, opene
 -- The child table with annotations allows more: its two further elements are not in the other table.
 
 either : (first second p q r : Bool) → (first ≡ true → r ≡ false) → (second ≡ true → r ≡ false) → r ≡ true → cond first p (cond second q r) ≡ true
-either true second p q r f g h = absurd (let k : false ≡ true = sym (f refl) ∙ h in cc)
-either false true p q r f g h = absurd (let k : false ≡ true = sym (g refl) ∙ h in cc)
-either false false p q r f g h = h
+either first second p q r f g h = grind arith
 
 allows_more : (parent : Option Name) (name : Name) (children : List Name) (has_text : Bool) → IsTrue (child_table parent name children has_text) → IsTrue (annotated_child_table parent name children has_text)
 allows_more parent name children has_text h =

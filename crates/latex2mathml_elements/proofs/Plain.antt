@@ -1,14 +1,14 @@
 -- Plain texts: printable ASCII characters, except for the dollar sign. Names of elements are plain, and so are numbers and
 -- colors, which are values of attributes as they are.
-use Rattle.std.proofs.Common.{ℕ, suc, ℤ, pos, negsuc, ◌+◌, ◌/◌, ◌%◌, ◌<◌, Bool, ◌&&◌, ◌==◌, not, IsTrue, List, [], ◌∷◌, refl, ap, ◌∙◌, arith, codes, nat_lt}
-use Rattle.std.proofs.{lemmas.Bool.Decides.nat_tests, lemmas.List.Folds.list_all-append}
-use Rattle.std.specs.{Fmt.decimal, List.list_all, Str.byte}
+use Rattle.std.proofs.Common.{ℕ, suc, ℤ, pos, negsuc, ◌+◌, ◌/◌, ◌%◌, ◌<◌, Bool, ◌&&◌, ◌==◌, not, IsTrue, List, [], ◌∷◌, refl, arith, codes, nat_lt}
+use Rattle.std.proofs.{lemmas.Bool.Decides.nat_tests}
+use Rattle.std.specs.{List.list_all, Str.byte}
 use Rattle.latex2mathml_elements.specs.Colors.{Color, color_code, hexadecimal}
 use Rattle.latex2mathml_elements.specs.Element.{Element, token, space, rectangle, container, pair, triple, table}
 use Rattle.latex2mathml_elements.specs.{Extents.ems, Print.container_name, Print.pair_name, Print.token_name, Print.triple_name}
 use Rattle.latex2mathml_trees.specs.Markup.{Name, plain, is_name, is_part}
-use Rattle.latex2mathml_trees.specs.Width.{after_point, thousandths_text, three_digits, trimmed, width_text}
-use Rattle.latex2mathml_trees.proofs.ValueTexts.{decimal_passes, width_passes}
+use Rattle.latex2mathml_trees.specs.Width.{width_text}
+use Rattle.latex2mathml_trees.proofs.ValueTexts.{thousandths_pass, width_passes}
 
 -- the printable ASCII characters, except for the dollar sign
 abbrev pub is_plain : ℕ → Bool
@@ -48,18 +48,9 @@ digit d h = grind (arith, nat_tests)
 pub width_quotable : (n : ℤ) → IsQuotable (width_text n)
 width_quotable = width_passes is_quotable digit refl refl
 
-thousandths_quotable : (t : ℕ) → IsQuotable (thousandths_text t)
-thousandths_quotable t =
-    list_all-append is_quotable (decimal (t / 1000)) _
-    ∙ ap (λ b. b && list_all is_quotable (after_point (trimmed (three_digits (t % 1000))))) (decimal_passes is_quotable digit (t / 1000))
-    ∙ decimals (t % 1000 / 100 % 10) (t % 1000 / 10 % 10) (t % 1000 % 10) (omega arith) (omega arith) (omega arith)
-  where
-    decimals : (a b c : ℕ) → a < 10 → b < 10 → c < 10 → IsQuotable (after_point (trimmed ((48 + a) ∷ (48 + b) ∷ (48 + c) ∷ [])))
-    decimals a b c h i j = grind (arith, digit)
-
 pub ems_quotable : (n : ℤ) → IsQuotable (ems n)
-ems_quotable (pos n) = thousandths_quotable n
-ems_quotable (negsuc n) = thousandths_quotable (suc n)
+ems_quotable (pos n) = thousandths_pass is_quotable digit refl n
+ems_quotable (negsuc n) = thousandths_pass is_quotable digit refl (suc n)
 
 hexadecimal_digit : (d : ℕ) → d < 16 → IsTrue (is_quotable (hexadecimal d))
 hexadecimal_digit d h = grind (arith, nat_tests)
