@@ -1,5 +1,5 @@
 -- The print of a formula with an annotation is one element that obeys the child table with annotations.
-use Rattle.std.proofs.Common.{◌≡◌, ℕ, Bool, true, false, ◌&&◌, not, IsTrue, List, [], ◌∷◌, ◌++◌, Option, refl, ap, subst, append-nil, append_assoc, arith, codes, cond, map}
+use Rattle.std.proofs.Common.{◌≡◌, ℕ, Bool, true, false, ◌&&◌, IsTrue, List, [], ◌∷◌, ◌++◌, Option, refl, ap, subst, append-nil, append_assoc, arith, codes, cond, map}
 use Rattle.std.specs.{Cmp.Lexicographic.bytes_decides, Str.bytes_eq}
 use Rattle.latex2mathml_elements.specs.Annotated.{IsAnnotatedMathElement, alternative_start, alternative_tag, annotated_child_table, annotated_print}
 use Rattle.latex2mathml_elements.specs.Characters.{EachText, IsAllowed}
@@ -21,14 +21,6 @@ allows_more parent name children has_text h =
     (λ is. subst (λ n. child_table parent n children has_text ≡ false) ((bytes_decides (codes "semantics") name).0 is) refl)
     (λ is. subst (λ n. child_table parent n children has_text ≡ false) ((bytes_decides (codes "annotation") name).0 is) refl)
     h
-
--- No element is an annotation.
-
-abbrev IsOther : Name → Type 0
-IsOther name = IsTrue (not (bytes_eq (codes "annotation") name))
-
-element_other : (x : Element) → IsOther (called x)
-element_other x = grind arith
 
 -- the attribute of the alternative text, as it is spelled
 reach : (u w : List ℕ) → u ≡ w → ((u ++ codes "\"") ++ []) ++ codes ">" ≡ w ++ codes "\">"
@@ -60,7 +52,7 @@ annotated is_display x tex =
     (then (element annotated_child_table allows_more _ x (above (codes "semantics") [] false inside) (λ h. h.0))
     (then (then (plainly refl (single annotated_child_table (open_tag (codes "annotation") (attribute (codes "encoding") (map plain (codes "application/x-tex")) ∷ [])) (above (codes "semantics") (called x ∷ []) false inside) (above (codes "annotation") [] false behind) refl refl))
     (then (record { runs = text.1; is_clean = contents tex (λ h. h.1) }) (plainly refl (obeying annotated_child_table (codes "annotation") [] text.0 behind refl refl))))
-    (then (plainly refl (obeying annotated_child_table (codes "semantics") (codes "annotation" ∷ called x ∷ []) false inside refl (ap (λ b. b && true) (element_other x))))
+    (then (plainly refl (obeying annotated_child_table (codes "semantics") (codes "annotation" ∷ called x ∷ []) false inside refl (grind arith)))
     (plainly refl (closed annotated_child_table (codes "math") (codes "semantics" ∷ []) false end refl refl))))))
 
 -- the law

@@ -1,5 +1,5 @@
 -- Texts that hold no dollar sign, and no character that XML forbids: plain texts, contents and alternative texts.
-use Rattle.std.proofs.Common.{◌≡◌, inl, inr, ℕ, ◌<◌, true, false, List, [], ◌∷◌, ◌++◌, refl, sym, subst, arith, append-nil, codes}
+use Rattle.std.proofs.Common.{◌≡◌, inl, inr, ℕ, true, false, List, [], ◌∷◌, ◌++◌, refl, sym, subst, arith, append-nil, codes}
 use Rattle.std.proofs.{lemmas.Bool.and_parts, lemmas.Bool.cases_Bool, lemmas.Bool.Decides.nat_tests, lemmas.Bool.Decides.eqb_tells, lemmas.Grind.flat_map-append, lemmas.List.Folds.list_all-append}
 use Rattle.std.proofs.lemmas.Str.{NoCharPasses-nil, NoCharPasses-append, encode_ascii}
 use Rattle.std.specs.{Char.encode_utf8, List.flat_map, List.list_all, Str.NonePass, Str.encode_utf8_all}
@@ -29,14 +29,11 @@ allowed_char c h = (c ∷ [], append-nil (encode_utf8 c), (h, tt))
 pub plain_is_allowed : (b : ℕ) → is_plain b ≡ true → is_forbidden b ≡ false
 plain_is_allowed b h = grind (arith, nat_tests)
 
-plain_is_ascii : (b : ℕ) → is_plain b ≡ true → b < 128
-plain_is_ascii b h = grind (arith, nat_tests)
-
 pub allowed_plain : (bs : List ℕ) → IsPlain bs → IsAllowed bs
 allowed_plain [] h = NoCharPasses-nil is_forbidden
 allowed_plain (b ∷ bs) h =
     let parts = and_parts (is_plain b) (list_all is_plain bs) h in
-    let first = subst IsAllowed (encode_ascii b (plain_is_ascii b parts.0)) (allowed_char b (plain_is_allowed b parts.0)) in
+    let first = subst IsAllowed (encode_ascii b (grind (arith, nat_tests, parts.0))) (allowed_char b (plain_is_allowed b parts.0)) in
     allowed_both (b ∷ []) bs first (allowed_plain bs parts.1)
 
 -- the text holds no dollar sign, and under a condition no character that XML forbids
@@ -69,12 +66,6 @@ module _ (escape : ℕ → List ℕ) (free : (b : ℕ) → IsDollarFree (escape 
     allowed = λ c. subst (λ t. IsAllowed (flat_map escape t)) (h c).1 (allowed_escaped (h c).0 (h c).2);
   }
 
-free_content_byte : (b : ℕ) → IsDollarFree (content_byte b)
-free_content_byte b = grind arith
-
-free_alternative_byte : (b : ℕ) → IsDollarFree (alternative_byte b)
-free_alternative_byte b = grind arith
-
 -- a character that is escaped becomes a reference of ASCII characters
 reference : (c : ℕ) → is_escaped c ≡ true → IsPlain (content (encode_utf8 c))
 unfolding encode_utf8
@@ -94,7 +85,7 @@ allowed_alternative_char c h = elim (eqb_tells c 34) [
 ]
 
 pub contents : {C : Type 0} (text : List ℕ) → (C → IsAllowed text) → IsClean C (content text)
-contents = escaped content_byte free_content_byte allowed_content_char
+contents = escaped content_byte (λ b. grind arith) allowed_content_char
 
 pub alternatives : {C : Type 0} (text : List ℕ) → (C → IsAllowed text) → IsClean C (alternative text)
-alternatives = escaped alternative_byte free_alternative_byte allowed_alternative_char
+alternatives = escaped alternative_byte (λ b. grind arith) allowed_alternative_char

@@ -3,7 +3,7 @@
 use Rattle.std.proofs.Common.{ℕ, Bool, false, ◌&&◌, IsTrue, List, [], ◌∷◌, ◌++◌, Option, Some, None, refl, ap, ◌∙◌, append_assoc, arith, codes, cond, subst}
 use Rattle.std.specs.{List.list_all, Str.bytes_eq}
 use Rattle.latex2mathml_elements.specs.Characters.{IsAllowed, EachText, EachTextOf, EachTextOfCells, EachTextOfRows}
-use Rattle.latex2mathml_elements.specs.Element.{Token, Container, Pair, Triple, Element, Elements, Rows, Cells, token, space, rectangle, container, pair, triple, table, none, more, one_row, more_rows, one_cell, more_cells}
+use Rattle.latex2mathml_elements.specs.Element.{Element, Elements, Rows, Cells, token, space, rectangle, container, pair, triple, table, none, more, one_row, more_rows, one_cell, more_cells}
 use Rattle.latex2mathml_elements.specs.Laws.{PrintAsElements}
 use Rattle.latex2mathml_elements.specs.Print.{cells_print, container_name, formula_print, pair_name, print, prints, rows_print, token_name, triple_name}
 use Rattle.latex2mathml_elements.proofs.{Characters.IsClean, Characters.both, Characters.clean, Characters.contents, Plain.IsPlain, Plain.called, Plain.name_plain, Plain.name_valid}
@@ -12,20 +12,6 @@ use Rattle.latex2mathml_trees.specs.{MathSchema.child_table, MathSchema.has_some
 use Rattle.latex2mathml_trees.specs.Markup.{Name, Schema, open_tag, close_tag, empty_tag, above, add, at_start, lowest, name_of, OpenElements, Runs, is_attribute, is_name, spell_event}
 use Rattle.latex2mathml_trees.specs.Width.{width_text}
 use Rattle.latex2mathml_trees.proofs.Runs.{content_leads, joined, obeying, single, spelled_as, staying}
-
--- the child table allows each element what its constructor gives it
-
-token_fits : (t : Token) (parent : Option Name) (has_text : Bool) → IsTrue (child_table parent (token_name t) [] has_text)
-token_fits t parent has_text = grind arith
-
-container_fits : (c : Container) (parent : Option Name) (names : List Name) → IsTrue (child_table parent (container_name c) names false)
-container_fits c parent names = grind arith
-
-pair_fits : (p : Pair) (parent : Option Name) (m n : Name) → IsTrue (child_table parent (pair_name p) (m ∷ n ∷ []) false)
-pair_fits p parent m n = grind arith
-
-triple_fits : (t : Triple) (parent : Option Name) (m n o : Name) → IsTrue (child_table parent (triple_name t) (m ∷ n ∷ o ∷ []) false)
-triple_fits t parent m n o = grind arith
 
 -- a part of a print: where it leads, and that it is clean
 pub record Piece (schema : Schema) (C : Type 0) (text : List ℕ) (s t : OpenElements) : Type 0 where
@@ -72,19 +58,19 @@ module _ (schema : Schema) (allows : (parent : Option Name) (name : Name) (child
     pub element : (x : Element) (s : OpenElements) → (C → EachText IsAllowed x) → Piece schema C (print x) s (add (called x) s)
     element (token t a text) s h =
         let inner = content_leads schema (token_name t) [] false (add (token_name t) s) text in
-        around _ [] inner.0 s (name_valid (token t a text)) (token_fits t (name_of (add (token_name t) s)) inner.0) (settings a) (record { runs = inner.1; is_clean = contents text h })
+        around _ [] inner.0 s (name_valid (token t a text)) (grind arith) (settings a) (record { runs = inner.1; is_clean = contents text h })
     element (space n) s h =
         subst (λ l. Piece schema C (codes "<mspace width=\"" ++ l) s (add (codes "mspace") s)) (append_assoc (width_text n) (codes "em\"") (codes "/>")) (space_piece s (width n))
     element (rectangle e) s h = space_piece s (extent e)
     element (container c a xs) s h =
         let inner = elements xs (container_name c) [] (add (container_name c) s) h in
-        around _ inner.0 false s (name_valid (container c a xs)) (container_fits c (name_of (add (container_name c) s)) inner.0) (settings a) inner.1
+        around _ inner.0 false s (name_valid (container c a xs)) (grind arith) (settings a) inner.1
     element (pair p a x y) s h =
         let valid = name_valid (pair p a x y) in
-        then (starts (pair_name p) s valid (settings a)) (then (element x _ (λ c. (h c).0)) (then (element y _ (λ c. (h c).1)) (ends (pair_name p) _ false _ valid (pair_fits p (name_of (add (pair_name p) s)) (called y) (called x)))))
+        then (starts (pair_name p) s valid (settings a)) (then (element x _ (λ c. (h c).0)) (then (element y _ (λ c. (h c).1)) (ends (pair_name p) _ false _ valid (grind arith))))
     element (triple t a x y z) s h =
         let valid = name_valid (triple t a x y z) in
-        then (starts (triple_name t) s valid (settings a)) (then (element x _ (λ c. (h c).0)) (then (element y _ (λ c. (h c).1)) (then (element z _ (λ c. (h c).2)) (ends (triple_name t) _ false _ valid (triple_fits t (name_of (add (triple_name t) s)) (called z) (called y) (called x))))))
+        then (starts (triple_name t) s valid (settings a)) (then (element x _ (λ c. (h c).0)) (then (element y _ (λ c. (h c).1)) (then (element z _ (λ c. (h c).2)) (ends (triple_name t) _ false _ valid (grind arith)))))
     element (table a rs) s h =
         let inner = rows rs [] (add (codes "mtable") s) refl h in around (codes "mtable") inner.0 false s refl inner.1 (settings a) inner.2
 

@@ -1,6 +1,6 @@
 -- Plain texts: printable ASCII characters, except for the dollar sign. Names of elements are plain, and so are numbers and
 -- colors, which are values of attributes as they are.
-use Rattle.std.proofs.Common.{ℕ, suc, ℤ, pos, negsuc, ◌+◌, ◌/◌, ◌%◌, ◌<◌, Bool, ◌&&◌, ◌==◌, not, IsTrue, List, [], ◌∷◌, refl, arith, codes, nat_lt}
+use Rattle.std.proofs.Common.{ℕ, suc, ℤ, pos, negsuc, ◌+◌, ◌<◌, Bool, ◌&&◌, ◌==◌, not, IsTrue, List, [], ◌∷◌, refl, arith, codes, nat_lt}
 use Rattle.std.proofs.{lemmas.Bool.Decides.nat_tests}
 use Rattle.std.specs.{List.list_all, Str.byte}
 use Rattle.latex2mathml_elements.specs.Colors.{Color, color_code, hexadecimal}
@@ -55,11 +55,5 @@ ems_quotable (negsuc n) = thousandths_pass is_quotable digit refl (suc n)
 hexadecimal_digit : (d : ℕ) → d < 16 → IsTrue (is_quotable (hexadecimal d))
 hexadecimal_digit d h = grind (arith, nat_tests)
 
-high : (n : ℕ) → IsTrue (is_quotable (hexadecimal (n / 16 % 16)))
-high n = hexadecimal_digit (n / 16 % 16) (omega arith)
-
-low : (n : ℕ) → IsTrue (is_quotable (hexadecimal (n % 16)))
-low n = hexadecimal_digit (n % 16) (omega arith)
-
 pub color_quotable : (c : Color) → IsQuotable (color_code c)
-color_quotable c = rw (high c.red, low c.red, high c.green, low c.green, high c.blue, low c.blue) refl
+color_quotable c = grind (arith, hexadecimal_digit)

@@ -13,23 +13,18 @@ use Rattle.latex2mathml_trees.specs.Width.{width_text}
 use Rattle.latex2mathml_tokens.specs.{declared.attribute.Accent.Accent, declared.attribute.Variant.Variant}
 
 -- Contents escape the dollar sign.
-free_content_byte : (b : ℕ) → IsDollarFree (content_byte b)
-free_content_byte b = grind arith
-
 pub free_content : (bs : List ℕ) → IsDollarFree (content bs)
 free_content [] = refl
-free_content (b ∷ bs) = free_both (content_byte b) _ (free_content_byte b) (free_content bs)
+free_content (b ∷ bs) = free_both (content_byte b) _ (grind arith) (free_content bs)
 
 pub free_content_char : (c : ℕ) → IsDollarFree (content_char c)
 free_content_char c = free_content (encode_utf8 c)
 
 -- Values keep it.
-free_value_byte : (b : ℕ) → is_other b ≡ true → IsDollarFree (value_byte b)
-free_value_byte b h = grind (arith, free_content_byte)
-
 pub free_value : (bs : List ℕ) → IsDollarFree bs → IsDollarFree (value bs)
 free_value [] h = refl
-free_value (b ∷ bs) h = free_both (value_byte b) _ (free_value_byte b (free_first b bs h)) (free_value bs (free_rest b bs h))
+free_value (b ∷ bs) h =
+    let first = free_first b bs h in free_both (value_byte b) _ (grind (arith, first)) (free_value bs (free_rest b bs h))
 
 -- Numbers and widths hold no dollar sign.
 other_digit : (d : ℕ) → d < 10 → is_other (48 + d) ≡ true

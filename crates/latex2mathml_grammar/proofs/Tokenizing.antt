@@ -1,6 +1,5 @@
 -- No slice begins with white space or is empty, so each slice takes something from the text.
-use Rattle.std.proofs.Common.{◌≡◌, ℕ, ◌+◌, ◌≤◌, ◌<◌, Bool, true, false, List, [], ◌∷◌, ◌++◌, length, Option, ap, ◌∙◌, arith, length-append}
-use Rattle.std.specs.Char.{is_ascii_digit}
+use Rattle.std.proofs.Common.{◌≡◌, ℕ, ◌+◌, ◌≤◌, ◌<◌, Bool, false, List, [], ◌∷◌, ◌++◌, length, Option, ap, ◌∙◌, arith, length-append}
 use Rattle.std.proofs.lemmas.Bool.Decides.{nat_tests}
 use Rattle.latex2mathml_grammar.specs.Characters.{is_space}
 use Rattle.latex2mathml_grammar.specs.Spelling.{SpellsAt, Slice, IsFirstSlice, number}
@@ -11,14 +10,11 @@ abbrev pub Dark : List ℕ → Type 0
 Dark [] = ⊥
 Dark (c ∷ cs) = is_space c ≡ false
 
-digit_dark : (c : ℕ) → is_ascii_digit c ≡ true → is_space c ≡ false
-digit_dark c h = grind (arith, nat_tests)
-
 -- no slice begins with white space
 pub spells_dark : (alone : Bool) (w : List ℕ) (next : Option ℕ) (t : Tok) → SpellsAt alone w next t → Dark w
 spells_dark alone [] next t (number a n f) = absurd n.begins
-spells_dark alone (c ∷ w) next t (number a n f) = digit_dark c n.begins
-spells_dark alone w next t spells = grind (arith, digit_dark)
+spells_dark alone (c ∷ w) next t (number a n f) = (let digit = n.begins in grind (arith, nat_tests, digit))
+spells_dark alone w next t spells = grind (arith, nat_tests)
 
 -- so no slice is empty
 dark_length : (w : List ℕ) → Dark w → 1 ≤ length w
