@@ -1,12 +1,11 @@
 -- Texts that hold no dollar sign: escaped texts, numbers, and the prints of trees.
 use Rattle.std.proofs.Common.{arith, ◌≡◌, ℕ, ℤ, ◌+◌, ◌<◌, true, List, [], ◌∷◌, ◌++◌, refl}
-use Rattle.std.specs.Char.{encode_utf8}
 use Rattle.std.specs.Fmt.{decimal}
 use Rattle.latex2mathml_trees.proofs.ValueTexts.{decimal_passes, width_passes}
 use Rattle.std.proofs.{lemmas.Bool.Decides.nat_tests, lemmas.List.Folds.list_all-append}
 use Rattle.latex2mathml_tokens.specs.Attributes.{accent_text}
 use Rattle.latex2mathml_grammar.specs.Dollars.{is_other, IsDollarFree, free_both, free_first, free_more, free_rest}
-use Rattle.latex2mathml_tokens.specs.Escape.{content, content_byte, content_char, value, value_byte}
+use Rattle.latex2mathml_tokens.specs.Escape.{content, content_byte, value, value_byte}
 use Rattle.latex2mathml_trees.specs.Print.{print, prints, members_print, letter_print, operator_print, slashed_print, member_print}
 use Rattle.latex2mathml_trees.specs.Tree.{Tree, Trees, no_trees, more_trees}
 use Rattle.latex2mathml_trees.specs.Width.{width_text}
@@ -16,9 +15,6 @@ use Rattle.latex2mathml_tokens.specs.{declared.attribute.Accent.Accent, declared
 pub free_content : (bs : List ℕ) → IsDollarFree (content bs)
 free_content [] = refl
 free_content (b ∷ bs) = free_both (content_byte b) _ (grind arith) (free_content bs)
-
-pub free_content_char : (c : ℕ) → IsDollarFree (content_char c)
-free_content_char c = free_content (encode_utf8 c)
 
 -- Values keep it.
 pub free_value : (bs : List ℕ) → IsDollarFree bs → IsDollarFree (value bs)
@@ -41,27 +37,24 @@ pub free_accent : (accent : Accent) → IsDollarFree (accent_text accent)
 free_accent accent = grind arith
 
 pub free_letter : (c : ℕ) (variant : Variant) → IsDollarFree (letter_print c variant)
-free_letter c variant = grind (arith, list_all-append, free_content_char)
+free_letter c variant = grind (arith, list_all-append, free_content)
 
 pub free_operator : (c : ℕ) → IsDollarFree (operator_print c)
-free_operator c = grind (arith, list_all-append, free_content_char)
+free_operator c = grind (arith, list_all-append, free_content)
 
 pub free_slashed : (x : Tree) (own : List ℕ) → IsDollarFree own → IsDollarFree (slashed_print x own)
-free_slashed x own h = grind (arith, list_all-append, free_content_char)
+free_slashed x own h = grind (arith, list_all-append, free_content)
 
 -- what is between literals in the prints of most trees
-pub ruleset free_pieces = (free_both, free_content, free_content_char, free_width, free_accent, free_letter, free_operator, free_slashed)
+pub ruleset free_pieces = (free_both, free_content, free_width, free_accent, free_letter, free_operator, free_slashed)
 
 -- the two parts of a text without a dollar sign
 pub free_parts : (a b : List ℕ) → IsDollarFree (a ++ b) → IsDollarFree a × IsDollarFree b
 free_parts a b h = grind (arith, list_all-append)
-
-free_member : (x : Tree) (own : List ℕ) → IsDollarFree own → IsDollarFree (member_print x own)
-free_member x own h = grind arith
 
 -- the members of a matrix, which are elsewhere printed next to each other
 pub free_members : (xs : Trees) → IsDollarFree (prints xs) → IsDollarFree (members_print xs)
 free_members no_trees h = refl
 free_members (more_trees x rest) h =
     let each = free_parts (print x) (prints rest) h in
-    free_both (member_print x (print x)) _ (free_member x (print x) each.0) (free_members rest each.1)
+    free_both (member_print x (print x)) _ (grind (arith, each.0)) (free_members rest each.1)
