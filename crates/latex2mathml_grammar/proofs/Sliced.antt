@@ -136,10 +136,7 @@ slice_at P w f (v, e, d) = subst P (sym (append_cancel_right w v f e)) d
 -- letters with no letter after them
 letters_are_read : (cs : List ℕ) (u g : List Tok) → map letter_of u ≡ map Some cs → first_letter g ≡ None → AreLetters cs (u ++ g) g
 letters_are_read [] [] g e h = (refl, h)
-letters_are_read (c ∷ cs) (t ∷ u) g e h =
-    let here : letter_of t ≡ Some c = cc in
-    let later : map letter_of u ≡ map Some cs = cc in
-    (t, (u ++ g, refl, here, letters_are_read cs u g later h))
+letters_are_read (c ∷ cs) (t ∷ u) g e h = (t, (u ++ g, refl, (cc), letters_are_read cs u g (cc) h))
 letters_are_read cs u g e h = absurd cc
 
 -- a member before members: it is not empty, since a token is left after it

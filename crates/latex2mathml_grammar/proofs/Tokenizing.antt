@@ -16,13 +16,10 @@ spells_dark alone [] next t (number a n f) = absurd n.begins
 spells_dark alone (c ∷ w) next t (number a n f) = (let digit = n.begins in grind (arith, nat_tests, digit))
 spells_dark alone w next t spells = grind (arith, nat_tests)
 
--- so no slice is empty
-dark_length : (w : List ℕ) → Dark w → 1 ≤ length w
-dark_length w d = grind arith
-
 -- so a step leaves less of the text
 pub step_shortens : (takes : Bool) (text rest : List ℕ) (s : Slice) → IsFirstSlice takes text s rest → length rest < length text
 step_shortens takes text rest s step =
-    let some : 1 ≤ length s.text = dark_length s.text (spells_dark _ _ _ _ step.3) in
+    let dark = spells_dark _ _ _ _ step.3 in
+    let some : 1 ≤ length s.text = grind (arith, dark) in
     let whole : length text ≡ length step.0 + (length s.text + length rest) = ap length step.1 ∙ length-append step.0 (s.text ++ rest) ∙ ap (λ n. length step.0 + n) (length-append s.text rest) in
     omega arith
