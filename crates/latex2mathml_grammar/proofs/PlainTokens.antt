@@ -1,14 +1,12 @@
 -- The tokens of slices: a slice is one character that is a token by itself, or its token is plain. So sizes in tokens hold
 -- no dollar sign.
 use Rattle.std.proofs.Common.{◌≡◌, ◌⊎◌, inl, inr, ℕ, Bool, true, false, not, ◌==◌, List, [], ◌∷◌, codes, Option, Some, unwrap_or, refl, sym, subst, arith, cond, map}
-use Rattle.std.proofs.lemmas.Bool.{and_parts}
 use Rattle.std.specs.{Char.encode_utf8, List.list_all, Str.byte, Str.bytes_eq, Str.encode_utf8_all}
 use Rattle.latex2mathml_tokens.specs.Commands.{command_entries, command_token, entry_token}
 use Rattle.latex2mathml_grammar.specs.Dollars.{is_other}
 use Rattle.latex2mathml_grammar.specs.Spelling.{SpellsAt, character_token, character, colon, colon_equals, number, digit, symbol_command, letter_command, lone_backslash, Slice, HasSlices, HasTokens, takes_digit}
 use Rattle.latex2mathml_tokens.specs.Tok.{Tok, EOF, Paren, Underscore, Circumflex, Big, Operator, Command}
-use Rattle.std.proofs.lemmas.Bool.Decides.{nat_tests}
-use Rattle.std.specs.List.{list_all}
+use Rattle.std.proofs.{lemmas.Bool.and_parts, lemmas.Bool.Decides.nat_tests}
 
 -- the token is not the end of a formula, a prime, a sign, an opening bracket, or a size with a dollar sign
 abbrev pub is_plain : Tok → Bool

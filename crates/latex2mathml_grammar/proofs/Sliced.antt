@@ -5,10 +5,9 @@ use Rattle.std.proofs.lemmas.List.{append_cancel_right}
 use Rattle.latex2mathml_grammar.specs.Grammar.{Sort, node, Rule, takes_token, prime, Outcome, Read, Refused, first, first_or_end, first_letter, letter_of, AreLetters, Reads, core_at_end, core_begun, single_read, node_read, ReadsRule, rule_gives, rule_refuses, part_read, part_refused, members_read, members_refused, sign_stands, sign_missing, token_taken, token_at_end, token_seen, letters_taken, ReadsAll, formula_ends, group_ends, never_closed, member_read, later_refused, member_refused}
 use Rattle.latex2mathml_grammar.specs.SliceRefusals.{PartRefuses, core_refuses, single_refuses, node_refuses, subscript_refuses, superscript_refuses, RuleRefuses, rule_itself, part_itself, behind_part, members_themselves, behind_members, behind_sign, behind_no_sign, behind_token, behind_no_token, at_next_token, behind_letters, MembersRefuse, end_missing, member_itself, behind_member, FormulaRefuses, node_itself, behind_node}
 use Rattle.latex2mathml_grammar.specs.Slices.{IsPart, no_core, core_by_rule, without_prime, with_prime, without_script, with_subscript, with_superscript, AreParts, no_part, part, members, with_sign, without_sign, with_token, without_token, by_next_token, letters, AreMembers, no_member, member, AreNodes, no_node, one_node}
-use Rattle.latex2mathml_tokens.specs.Tok.{Tok, EOF, Underscore, Circumflex}
+use Rattle.latex2mathml_tokens.specs.{Refusal.Refusal, Tok.Tok, Tok.EOF, Tok.Underscore, Tok.Circumflex}
 use Rattle.latex2mathml_trees.specs.Tree.{Tree}
 use Rattle.latex2mathml_grammar.proofs.Total.{some_taken}
-use Rattle.latex2mathml_tokens.specs.{Refusal.Refusal, Tok.Tok, Tok.Underscore, Tok.Circumflex}
 
 -- what is read of a part is a slice, and what is refused is refused after slices
 abbrev pub PartBySlices : Sort → List Tok → Outcome Tree → Type 0

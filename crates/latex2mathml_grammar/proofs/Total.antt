@@ -1,7 +1,6 @@
 -- Each list of tokens has exactly one outcome, and so one reading or one refusal.
 use Rattle.std.proofs.Common.{arith, ◌≡◌, ℕ, List, [], ◌∷◌, Option, Some, refl, sym, ap, subst, zero, suc, ◌-◌, ◌<◌, ◌≤◌, ◌≢◌, inl, inr, length, None}
 use Rattle.latex2mathml_grammar.specs.Grammar.{Sort, Rule, Outcome, Read, first, first_letter, AreLetters, Reads, core_at_end, core_begun, single_read, node_read, ReadsRule, rule_gives, rule_refuses, part_read, part_refused, members_read, members_refused, sign_stands, sign_missing, token_taken, token_at_end, token_seen, letters_taken, ReadsAll, formula_ends, group_ends, never_closed, member_read, later_refused, member_refused, core, single, node, gives, refuses, reads_part, reads_members, reads_sign, takes_token, sees_token, takes_letters, rule, Refused, first_or_end, letter_of, ReadsFormula, Refuses}
-use Rattle.latex2mathml_tokens.specs.Tok.{Tok}
 use Rattle.latex2mathml_trees.specs.Tree.{Tree}
 use Rattle.latex2mathml_tokens.specs.{Discreteness.tok-discrete, Refusal.Refusal, Tok.Tok, Tok.EOF}
 use Rattle.latex2mathml_grammar.specs.Laws.{HasOneReading}
