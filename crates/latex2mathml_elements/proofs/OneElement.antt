@@ -1,181 +1,113 @@
--- The print of an element is one element that obeys the child table.
-use Rattle.std.proofs.Common.{◌≡◌, ℕ, ℤ, Bool, true, false, ◌&&◌, IsTrue, List, [], ◌∷◌, ◌++◌, Option, refl, sym, ap, ◌∙◌, append_assoc, append-nil, codes, map}
+-- The print of an element is one element that obeys the child table, and each schema that allows more. It holds no dollar
+-- sign, and no character that XML forbids where its texts hold none.
+use Rattle.std.proofs.Common.{ℕ, Bool, false, ◌&&◌, IsTrue, List, [], ◌∷◌, ◌++◌, Option, Some, None, refl, ap, ◌∙◌, append_assoc, arith, codes, cond, subst}
 use Rattle.std.specs.{List.list_all, Str.bytes_eq}
-use Rattle.latex2mathml_elements.specs.{Attributes.Attributes, Columns.Column, Extents.Extent}
-use Rattle.latex2mathml_elements.specs.Element.{Token, Mi, Mn, Mo, Mtext, Container, Mrow, Msqrt, Mstyle, Mpadded, Mphantom, Pair, Mfrac, Mroot, Msub, Msup, Munder, Mover, Triple, Msubsup, Munderover, Element, Elements, Rows, Cells, token, space, rectangle, container, pair, triple, table, none, more as one_more, one_row, more_rows, one_cell, more_cells}
+use Rattle.latex2mathml_elements.specs.Characters.{IsAllowed, EachText, EachTextOf, EachTextOfCells, EachTextOfRows}
+use Rattle.latex2mathml_elements.specs.Element.{Element, Elements, Rows, Cells, token, space, rectangle, container, pair, triple, table, none, more, one_row, more_rows, one_cell, more_cells}
 use Rattle.latex2mathml_elements.specs.Laws.{PrintAsElements}
-use Rattle.latex2mathml_elements.specs.Print.{cell_print, cells_print, container_name, formula_print, pair_name, print, prints, row_print, rows_print, start_tag, token_name, triple_name}
-use Rattle.latex2mathml_elements.proofs.{Characters.allowed_print, Characters.dollar_free, Settings.AreSettings, Settings.column, Settings.extent, Settings.settings}
+use Rattle.latex2mathml_elements.specs.Print.{cells_print, container_name, formula_print, pair_name, print, prints, rows_print, token_name, triple_name}
+use Rattle.latex2mathml_elements.proofs.{Characters.IsClean, Characters.both, Characters.clean, Characters.contents, Plain.IsPlain, Plain.called, Plain.name_plain, Plain.name_valid}
+use Rattle.latex2mathml_elements.proofs.Settings.{AreSettings, column, extent, math, nothing, settings, width}
 use Rattle.latex2mathml_trees.specs.{MathSchema.child_table, MathSchema.has_some, MathSchema.IsMathElement}
-use Rattle.latex2mathml_trees.specs.Markup.{Name, attribute, plain, open_tag, empty_tag, above, add, at_start, lowest, name_of, IsElement, OpenElements, Runs, is_attribute, is_name}
-use Rattle.latex2mathml_trees.proofs.Runs.{closed, content_leads, ending_as, joined, more, more-above, more-append, obeying, opened, single, spelled_as, staying}
-use Rattle.latex2mathml_trees.proofs.ValueTexts.{beside, no_text, plain_before, plain_width}
+use Rattle.latex2mathml_trees.specs.Markup.{Name, Schema, open_tag, close_tag, empty_tag, above, add, at_start, lowest, name_of, OpenElements, Runs, is_attribute, is_name, spell_event}
+use Rattle.latex2mathml_trees.specs.Width.{width_text}
+use Rattle.latex2mathml_trees.proofs.Runs.{content_leads, joined, obeying, single, spelled_as, staying}
 
-abbrev pub called : Element → Name
-called (token t a text) = token_name t
-called (space width) = codes "mspace"
-called (rectangle e) = codes "mspace"
-called (container c a xs) = container_name c
-called (pair p a x y) = pair_name p
-called (triple t a x y z) = triple_name t
-called (table a rows) = codes "mtable"
+-- a part of a print: where it leads, and that it is clean
+pub record Piece (schema : Schema) (C : Type 0) (text : List ℕ) (s t : OpenElements) : Type 0 where
+  pub runs : Runs schema text s t
+  pub is_clean : IsClean C text
 
--- The names of elements are names, and the child table allows each element what its constructor gives it
+pub then : {schema : Schema} {C : Type 0} {a b : List ℕ} {s t u : OpenElements} → Piece schema C a s t → Piece schema C b t u → Piece schema C (a ++ b) s u
+then x y = record { runs = joined x.runs y.runs; is_clean = both x.is_clean y.is_clean }
 
-token_named : (t : Token) → IsTrue (is_name (token_name t))
-token_named Mi = refl
-token_named Mn = refl
-token_named Mo = refl
-token_named Mtext = refl
-
-token_fits : (t : Token) (parent : Option Name) (has_text : Bool) → IsTrue (child_table parent (token_name t) [] has_text)
-token_fits Mi parent has_text = refl
-token_fits Mn parent has_text = refl
-token_fits Mo parent has_text = refl
-token_fits Mtext parent has_text = refl
-
-container_named : (c : Container) → IsTrue (is_name (container_name c))
-container_named Mrow = refl
-container_named Msqrt = refl
-container_named Mstyle = refl
-container_named Mpadded = refl
-container_named Mphantom = refl
-
-container_fits : (c : Container) (parent : Option Name) (names : List Name) → IsTrue (child_table parent (container_name c) names false)
-container_fits Mrow parent names = refl
-container_fits Msqrt parent names = refl
-container_fits Mstyle parent names = refl
-container_fits Mpadded parent names = refl
-container_fits Mphantom parent names = refl
-
-pair_named : (p : Pair) → IsTrue (is_name (pair_name p))
-pair_named Mfrac = refl
-pair_named Mroot = refl
-pair_named Msub = refl
-pair_named Msup = refl
-pair_named Munder = refl
-pair_named Mover = refl
-
-pair_fits : (p : Pair) (parent : Option Name) (m n : Name) → IsTrue (child_table parent (pair_name p) (m ∷ n ∷ []) false)
-pair_fits Mfrac parent m n = refl
-pair_fits Mroot parent m n = refl
-pair_fits Msub parent m n = refl
-pair_fits Msup parent m n = refl
-pair_fits Munder parent m n = refl
-pair_fits Mover parent m n = refl
-
-triple_named : (t : Triple) → IsTrue (is_name (triple_name t))
-triple_named Msubsup = refl
-triple_named Munderover = refl
-
-triple_fits : (t : Triple) (parent : Option Name) (m n o : Name) → IsTrue (child_table parent (triple_name t) (m ∷ n ∷ o ∷ []) false)
-triple_fits Msubsup parent m n o = refl
-triple_fits Munderover parent m n o = refl
-
--- a start tag opens an element
-opens : {text : List ℕ} (n : Name) (s : OpenElements) → IsTrue (is_name n) → AreSettings text → Runs child_table (codes "<" ++ (n ++ (text ++ codes ">"))) s (above n [] false (add n s))
-opens n s valid some =
-    spelled_as (ap (λ l. codes "<" ++ (n ++ (l ++ codes ">"))) some.spelled)
-    (single child_table (open_tag n some.list) s (above n [] false (add n s)) (ap (λ b. b && list_all is_attribute some.list) valid ∙ some.valid) refl)
-
-starts : (n : Name) (a : Attributes) (s : OpenElements) → IsTrue (is_name n) → Runs child_table (start_tag n a) s (above n [] false (add n s))
-starts n a s valid = opens n s valid (settings a)
-
--- The rows of a table, and the cells of a row
+pub plainly : {schema : Schema} {C : Type 0} {text : List ℕ} {s t : OpenElements} → IsPlain text → Runs schema text s t → Piece schema C text s t
+plainly {text = text} h d = record { runs = d; is_clean = clean text h }
 
 -- at least one child, and each of this name
 abbrev AreSome : Name → List Name → Type 0
 AreSome name names = IsTrue (has_some names && list_all (bytes_eq name) names)
 
--- a row in a table, and a cell in a row
-row_runs : (inside : List ℕ) (ks names : List Name) (s : OpenElements) → AreSome (codes "mtd") names → Runs child_table inside (above (codes "mtr") [] false (above (codes "mtable") (codes "mtr" ∷ ks) false s)) (above (codes "mtr") names false (above (codes "mtable") (codes "mtr" ∷ ks) false s)) → Runs child_table (row_print inside) (above (codes "mtable") ks false s) (above (codes "mtable") (codes "mtr" ∷ ks) false s)
-row_runs inside ks names s are runs =
-    joined (opened child_table (codes "mtr") (above (codes "mtable") ks false s) refl)
-    (joined runs (obeying child_table (codes "mtr") names false (above (codes "mtable") (codes "mtr" ∷ ks) false s) refl are))
+module _ (schema : Schema) (allows : (parent : Option Name) (name : Name) (children : List Name) (has_text : Bool) → IsTrue (child_table parent name children has_text) → IsTrue (schema parent name children has_text)) (C : Type 0) where
+  starts : {text : List ℕ} (n : Name) (s : OpenElements) → IsTrue (is_name n) → AreSettings text → Piece schema C (codes "<" ++ (n ++ (text ++ codes ">"))) s (above n [] false (add n s))
+  starts {text} n s valid some = record {
+    runs = spelled_as (ap (λ l. codes "<" ++ (n ++ (l ++ codes ">"))) some.spelled)
+        (single schema (open_tag n some.list) s _ (ap (λ b. b && list_all is_attribute some.list) valid ∙ some.valid) refl);
+    is_clean = both (clean (codes "<") refl) (both (clean n (name_plain n valid)) (both (clean text some.plain) (clean (codes ">") refl)));
+  }
 
-cell_runs : (c : Column) (inside : List ℕ) (ks names : List Name) (s : OpenElements) → Runs child_table inside (above (codes "mtd") [] false (above (codes "mtr") (codes "mtd" ∷ ks) false s)) (above (codes "mtd") names false (above (codes "mtr") (codes "mtd" ∷ ks) false s)) → Runs child_table (cell_print c inside) (above (codes "mtr") ks false s) (above (codes "mtr") (codes "mtd" ∷ ks) false s)
-cell_runs c inside ks names s runs =
-    joined (opens (codes "mtd") (above (codes "mtr") ks false s) refl (column c))
-    (joined runs (obeying child_table (codes "mtd") names false (above (codes "mtr") (codes "mtd" ∷ ks) false s) refl refl))
+  -- an end tag closes an element that obeys the child table
+  ends : (n : Name) (ks : List Name) (d : Bool) (s : OpenElements) → IsTrue (is_name n) → IsTrue (child_table (name_of s) n ks d) → Piece schema C (spell_event (close_tag n)) (above n ks d s) s
+  ends n ks d s valid fit = record {
+    runs = obeying schema n ks d s valid (allows (name_of s) n ks d fit);
+    is_clean = both (clean (codes "</") refl) (both (clean n (name_plain n valid)) (clean (codes ">") refl));
+  }
 
-space_runs : (width : ℤ) (s : OpenElements) → Runs child_table (print (space width)) s (add (codes "mspace") s)
-space_runs width s =
-    let value = beside (plain_width width) (plain_before 101 refl (plain_before 109 refl no_text)) in
-    spelled_as (ap (λ l. codes "<mspace width=\"" ++ l) (reach _ _ value.spelled))
-    (single child_table (empty_tag (codes "mspace") (attribute (codes "width") value.parts ∷ [])) s (add (codes "mspace") s) (ap (λ b. b && true) value.are_parts) refl)
-  where
-    reach : (u w : List ℕ) → u ≡ w ++ codes "em" → ((u ++ codes "\"") ++ []) ++ codes "/>" ≡ w ++ codes "em\"/>"
-    reach u w e = simp (append_assoc, append-nil, e)
+  -- an element with what is inside
+  around : {text inside : List ℕ} (n : Name) (ks : List Name) (d : Bool) (s : OpenElements) → IsTrue (is_name n) → IsTrue (child_table (name_of (add n s)) n ks d) → AreSettings text → Piece schema C inside (above n [] false (add n s)) (above n ks d (add n s)) → Piece schema C ((codes "<" ++ (n ++ (text ++ codes ">"))) ++ (inside ++ spell_event (close_tag n))) s (add n s)
+  around n ks d s valid fit some x = then (starts n s valid some) (then x (ends n ks d (add n s) valid fit))
 
-rectangle_runs : (e : Extent) (s : OpenElements) → Runs child_table (print (rectangle e)) s (add (codes "mspace") s)
-rectangle_runs e s =
-    let some = extent e in
-    spelled_as (ap (λ l. codes "<mspace" ++ (l ++ codes "/>")) some.spelled)
-    (single child_table (empty_tag (codes "mspace") some.list) s (add (codes "mspace") s) some.valid refl)
+  space_piece : {text : List ℕ} (s : OpenElements) → AreSettings text → Piece schema C (codes "<mspace" ++ (text ++ codes "/>")) s (add (codes "mspace") s)
+  space_piece {text} s some = record {
+    runs = spelled_as (ap (λ l. codes "<mspace" ++ (l ++ codes "/>")) some.spelled)
+        (single schema (empty_tag (codes "mspace") some.list) s _ some.valid (ap (λ b. cond b (Some (add (codes "mspace") s)) None) (allows (name_of s) (codes "mspace") [] false refl)));
+    is_clean = both (clean (codes "<mspace") refl) (both (clean text some.plain) (clean (codes "/>") refl));
+  }
 
-mutual
-  pub element_runs : (x : Element) (s : OpenElements) → Runs child_table (print x) s (add (called x) s)
-  element_runs (token t a text) s =
-      let inner = content_leads child_table (token_name t) [] false (add (token_name t) s) text in
-      joined (starts (token_name t) a s (token_named t)) (joined inner.1 (obeying child_table (token_name t) [] inner.0 (add (token_name t) s) (token_named t) (token_fits t (name_of (add (token_name t) s)) inner.0)))
-  element_runs (space width) s = space_runs width s
-  element_runs (rectangle e) s = rectangle_runs e s
-  element_runs (container c a xs) s =
-      let n = container_name c in
-      let inner = elements_run xs (above n [] false (add n s)) in
-      joined (starts n a s (container_named c)) (joined (ending_as (more-above inner.0 [] n false (add n s)) inner.1) (obeying child_table n (inner.0 ++ []) false (add n s) (container_named c) (container_fits c (name_of (add n s)) (inner.0 ++ []))))
-  element_runs (pair p a x y) s =
-      let n = pair_name p in
-      joined (starts n a s (pair_named p)) (joined (element_runs x _) (joined (element_runs y _) (obeying child_table n (called y ∷ called x ∷ []) false (add n s) (pair_named p) (pair_fits p (name_of (add n s)) (called y) (called x)))))
-  element_runs (triple t a x y z) s =
-      let n = triple_name t in
-      joined (starts n a s (triple_named t)) (joined (element_runs x _) (joined (element_runs y _) (joined (element_runs z _) (obeying child_table n (called z ∷ called y ∷ called x ∷ []) false (add n s) (triple_named t) (triple_fits t (name_of (add n s)) (called z) (called y) (called x))))))
-  element_runs (table a rows) s =
-      let n = codes "mtable" in
-      let inner = rows_run rows [] (add n s) refl in
-      joined (starts n a s refl) (joined inner.1.1 (obeying child_table n inner.0 false (add n s) refl inner.1.0))
+  mutual
+    pub element : (x : Element) (s : OpenElements) → (C → EachText IsAllowed x) → Piece schema C (print x) s (add (called x) s)
+    element (token t a text) s h =
+        let inner = content_leads schema (token_name t) [] false (add (token_name t) s) text in
+        around _ [] inner.0 s (name_valid (token t a text)) (grind arith) (settings a) (record { runs = inner.1; is_clean = contents text h })
+    element (space n) s h =
+        subst (λ l. Piece schema C (codes "<mspace width=\"" ++ l) s (add (codes "mspace") s)) (append_assoc (width_text n) (codes "em\"") (codes "/>")) (space_piece s (width n))
+    element (rectangle e) s h = space_piece s (extent e)
+    element (container c a xs) s h =
+        let inner = elements xs (container_name c) [] (add (container_name c) s) h in
+        around _ inner.0 false s (name_valid (container c a xs)) (grind arith) (settings a) inner.1
+    element (pair p a x y) s h =
+        let valid = name_valid (pair p a x y) in
+        then (starts (pair_name p) s valid (settings a)) (then (element x _ (λ c. (h c).0)) (then (element y _ (λ c. (h c).1)) (ends (pair_name p) _ false _ valid (grind arith))))
+    element (triple t a x y z) s h =
+        let valid = name_valid (triple t a x y z) in
+        then (starts (triple_name t) s valid (settings a)) (then (element x _ (λ c. (h c).0)) (then (element y _ (λ c. (h c).1)) (then (element z _ (λ c. (h c).2)) (ends (triple_name t) _ false _ valid (grind arith)))))
+    element (table a rs) s h =
+        let inner = rows rs [] (add (codes "mtable") s) refl h in around (codes "mtable") inner.0 false s refl inner.1 (settings a) inner.2
 
-  rows_run : (rows : Rows) (ks : List Name) (s : OpenElements) → IsTrue (list_all (bytes_eq (codes "mtr")) ks) → (names : List Name) × (AreSome (codes "mtr") names × Runs child_table (rows_print rows) (above (codes "mtable") ks false s) (above (codes "mtable") names false s))
-  rows_run (one_row cells) ks s h =
-      let inner = cells_run cells [] (above (codes "mtable") (codes "mtr" ∷ ks) false s) refl in
-      (codes "mtr" ∷ ks, (h, row_runs _ ks inner.0 s inner.1.0 inner.1.1))
-  rows_run (more_rows cells rows) ks s h =
-      let inner = cells_run cells [] (above (codes "mtable") (codes "mtr" ∷ ks) false s) refl in
-      let others = rows_run rows (codes "mtr" ∷ ks) s h in
-      (others.0, (others.1.0, joined (row_runs _ ks inner.0 s inner.1.0 inner.1.1) others.1.1))
+    rows : (rs : Rows) (ks : List Name) (s : OpenElements) → IsTrue (list_all (bytes_eq (codes "mtr")) ks) → (C → EachTextOfRows IsAllowed rs) → (names : List Name) × AreSome (codes "mtr") names × Piece schema C (rows_print rs) (above (codes "mtable") ks false s) (above (codes "mtable") names false s)
+    rows (one_row cs) ks s k h = let inner = cells cs [] _ refl h in (codes "mtr" ∷ ks, k, around (codes "mtr") inner.0 false _ refl inner.1 nothing inner.2)
+    rows (more_rows cs rs) ks s k h =
+        let inner = cells cs [] _ refl (λ c. (h c).0) in
+        let others = rows rs (codes "mtr" ∷ ks) s k (λ c. (h c).1) in
+        (others.0, others.1, then (around (codes "mtr") inner.0 false _ refl inner.1 nothing inner.2) others.2)
 
-  cells_run : (cells : Cells) (ks : List Name) (s : OpenElements) → IsTrue (list_all (bytes_eq (codes "mtd")) ks) → (names : List Name) × (AreSome (codes "mtd") names × Runs child_table (cells_print cells) (above (codes "mtr") ks false s) (above (codes "mtr") names false s))
-  cells_run (one_cell c xs) ks s h =
-      let inner = elements_run xs (above (codes "mtd") [] false (above (codes "mtr") (codes "mtd" ∷ ks) false s)) in
-      (codes "mtd" ∷ ks, (h, cell_runs c _ ks (inner.0 ++ []) s (ending_as (more-above inner.0 [] (codes "mtd") false _) inner.1)))
-  cells_run (more_cells c xs cells) ks s h =
-      let inner = elements_run xs (above (codes "mtd") [] false (above (codes "mtr") (codes "mtd" ∷ ks) false s)) in
-      let others = cells_run cells (codes "mtd" ∷ ks) s h in
-      (others.0, (others.1.0, joined (cell_runs c _ ks (inner.0 ++ []) s (ending_as (more-above inner.0 [] (codes "mtd") false _) inner.1)) others.1.1))
+    cells : (cs : Cells) (ks : List Name) (s : OpenElements) → IsTrue (list_all (bytes_eq (codes "mtd")) ks) → (C → EachTextOfCells IsAllowed cs) → (names : List Name) × AreSome (codes "mtd") names × Piece schema C (cells_print cs) (above (codes "mtr") ks false s) (above (codes "mtr") names false s)
+    cells (one_cell c xs) ks s k h = let inner = elements xs (codes "mtd") [] _ h in (codes "mtd" ∷ ks, k, around (codes "mtd") inner.0 false _ refl refl (column c) inner.1)
+    cells (more_cells c xs cs) ks s k h =
+        let inner = elements xs (codes "mtd") [] _ (λ c. (h c).0) in
+        let others = cells cs (codes "mtd" ∷ ks) s k (λ c. (h c).1) in
+        (others.0, others.1, then (around (codes "mtd") inner.0 false _ refl refl (column c) inner.1) others.2)
 
-  elements_run : (xs : Elements) (s : OpenElements) → (names : List Name) × Runs child_table (prints xs) s (more names s)
-  elements_run none s = ([], staying)
-  elements_run (one_more x xs) s =
-      let rest = elements_run xs (add (called x) s) in
-      (rest.0 ++ called x ∷ [], joined (element_runs x s) (ending_as (sym (more-append rest.0 (called x ∷ []) s)) rest.1))
+    -- elements are further children of the element that they are in
+    elements : (xs : Elements) (n : Name) (ks : List Name) (s : OpenElements) → (C → EachTextOf IsAllowed xs) → (names : List Name) × Piece schema C (prints xs) (above n ks false s) (above n names false s)
+    elements none n ks s h = (ks, plainly refl staying)
+    elements (more x xs) n ks s h =
+        let others = elements xs n (called x ∷ ks) s (λ c. (h c).1) in (others.0, then (element x (above n ks false s) (λ c. (h c).0)) others.1)
 
-math_element : (is_display : Bool) (xs : Elements) → IsElement child_table (codes "math") (formula_print is_display xs)
-math_element is_display xs =
-    let end = lowest (codes "math" ∷ []) false in
-    let inner = elements_run xs (above (codes "math") [] false end) in
-    let children = ending_as (more-above inner.0 [] (codes "math") false end) inner.1 in
-    whole is_display (joined children (closed child_table (codes "math") (inner.0 ++ []) false end refl refl))
-  where
-    whole : (is_display : Bool) → Runs child_table (prints xs ++ codes "</math>") (above (codes "math") [] false (lowest (codes "math" ∷ []) false)) (lowest (codes "math" ∷ []) false) → IsElement child_table (codes "math") (formula_print is_display xs)
-    whole true rest = joined (single child_table (open_tag (codes "math") (attribute (codes "xmlns") (map plain (codes "http://www.w3.org/1998/Math/MathML")) ∷ attribute (codes "display") (map plain (codes "block")) ∷ [])) at_start _ refl refl) rest
-    whole false rest = joined (single child_table (open_tag (codes "math") (attribute (codes "xmlns") (map plain (codes "http://www.w3.org/1998/Math/MathML")) ∷ attribute (codes "display") (map plain (codes "inline")) ∷ [])) at_start _ refl refl) rest
+formula : (is_display : Bool) (xs : Elements) → Piece child_table (EachTextOf IsAllowed xs) (formula_print is_display xs) at_start (lowest (codes "math" ∷ []) false)
+formula is_display xs =
+    let allows = λ (parent : Option Name) (name : Name) (children : List Name) (has_text : Bool) (h : IsTrue (child_table parent name children has_text)). h in
+    let inner = elements child_table allows (EachTextOf IsAllowed xs) xs (codes "math") [] (lowest (codes "math" ∷ []) false) (λ h. h) in
+    let tag = math is_display in
+    subst (λ start. Piece child_table (EachTextOf IsAllowed xs) (start ++ (prints xs ++ codes "</math>")) at_start (lowest (codes "math" ∷ []) false)) tag.2
+    (around child_table allows (EachTextOf IsAllowed xs) (codes "math") inner.0 false at_start refl refl tag.1 inner.1)
 
 -- the law
 pub print_as_elements : PrintAsElements
 unfolding IsMathElement
 print_as_elements = record {
-  elements = λ x. (called x, element_runs x at_start);
-  formulas = math_element;
-  dollars = dollar_free;
-  characters = allowed_print;
+  elements = λ x. (called x, (element child_table (λ parent name children has_text h. h) (EachText IsAllowed x) x at_start (λ h. h)).runs);
+  formulas = λ is_display xs. (formula is_display xs).runs;
+  dollars = λ is_display xs. (formula is_display xs).is_clean.free;
+  characters = λ is_display xs. (formula is_display xs).is_clean.allowed;
 }

@@ -1,35 +1,26 @@
 -- Texts that hold no dollar sign: escaped texts, numbers, and the prints of trees.
-use Rattle.std.proofs.Common.{arith, ◌≡◌, ℕ, ℤ, ◌+◌, ◌<◌, true, List, [], ◌∷◌, ◌++◌, Option, refl}
-use Rattle.std.specs.Char.{encode_utf8}
+use Rattle.std.proofs.Common.{arith, ◌≡◌, ℕ, ℤ, ◌+◌, ◌<◌, true, List, [], ◌∷◌, ◌++◌, refl}
 use Rattle.std.specs.Fmt.{decimal}
 use Rattle.latex2mathml_trees.proofs.ValueTexts.{decimal_passes, width_passes}
 use Rattle.std.proofs.{lemmas.Bool.Decides.nat_tests, lemmas.List.Folds.list_all-append}
-use Rattle.latex2mathml_tokens.specs.Attributes.{accent_text, display_text, variant_text}
+use Rattle.latex2mathml_tokens.specs.Attributes.{accent_text}
 use Rattle.latex2mathml_grammar.specs.Dollars.{is_other, IsDollarFree, free_both, free_first, free_more, free_rest}
-use Rattle.latex2mathml_tokens.specs.Escape.{content, content_byte, content_char, value, value_byte}
-use Rattle.latex2mathml_trees.specs.Print.{print, prints, members_print, letter_print, operator_print, slashed_print, member_print, style_open}
+use Rattle.latex2mathml_tokens.specs.Escape.{content, content_byte, value, value_byte}
+use Rattle.latex2mathml_trees.specs.Print.{print, prints, members_print, letter_print, operator_print, slashed_print, member_print}
 use Rattle.latex2mathml_trees.specs.Tree.{Tree, Trees, no_trees, more_trees}
 use Rattle.latex2mathml_trees.specs.Width.{width_text}
-use Rattle.latex2mathml_tokens.specs.{declared.DisplayStyle.DisplayStyle, declared.attribute.Accent.Accent, declared.attribute.Variant.Variant}
+use Rattle.latex2mathml_tokens.specs.{declared.attribute.Accent.Accent, declared.attribute.Variant.Variant}
 
 -- Contents escape the dollar sign.
-free_content_byte : (b : ℕ) → IsDollarFree (content_byte b)
-free_content_byte b = grind arith
-
 pub free_content : (bs : List ℕ) → IsDollarFree (content bs)
 free_content [] = refl
-free_content (b ∷ bs) = free_both (content_byte b) _ (free_content_byte b) (free_content bs)
-
-pub free_content_char : (c : ℕ) → IsDollarFree (content_char c)
-free_content_char c = free_content (encode_utf8 c)
+free_content (b ∷ bs) = free_both (content_byte b) _ (grind arith) (free_content bs)
 
 -- Values keep it.
-free_value_byte : (b : ℕ) → is_other b ≡ true → IsDollarFree (value_byte b)
-free_value_byte b h = grind (arith, free_content_byte)
-
 pub free_value : (bs : List ℕ) → IsDollarFree bs → IsDollarFree (value bs)
 free_value [] h = refl
-free_value (b ∷ bs) h = free_both (value_byte b) _ (free_value_byte b (free_first b bs h)) (free_value bs (free_rest b bs h))
+free_value (b ∷ bs) h =
+    let first = free_first b bs h in free_both (value_byte b) _ (grind (arith, first)) (free_value bs (free_rest b bs h))
 
 -- Numbers and widths hold no dollar sign.
 other_digit : (d : ℕ) → d < 10 → is_other (48 + d) ≡ true
@@ -42,40 +33,28 @@ pub free_width : (n : ℤ) → IsDollarFree (width_text n)
 free_width = width_passes is_other other_digit refl refl
 
 -- Prints. A literal at the front of a text computes away, so what is proved names only what is between literals.
-free_variant : (variant : Variant) → IsDollarFree (variant_text variant)
-free_variant variant = grind arith
-
 pub free_accent : (accent : Accent) → IsDollarFree (accent_text accent)
 free_accent accent = grind arith
 
-pub free_display : (display : DisplayStyle) → IsDollarFree (display_text display)
-free_display display = grind arith
-
-pub free_style_open : (display : Option DisplayStyle) → IsDollarFree (style_open display)
-free_style_open display = grind arith
-
 pub free_letter : (c : ℕ) (variant : Variant) → IsDollarFree (letter_print c variant)
-free_letter c variant = grind (arith, list_all-append, free_content_char)
+free_letter c variant = grind (arith, list_all-append, free_content)
 
 pub free_operator : (c : ℕ) → IsDollarFree (operator_print c)
-free_operator c = grind (arith, list_all-append, free_content_char)
+free_operator c = grind (arith, list_all-append, free_content)
 
 pub free_slashed : (x : Tree) (own : List ℕ) → IsDollarFree own → IsDollarFree (slashed_print x own)
-free_slashed x own h = grind (arith, list_all-append, free_content_char, free_variant)
+free_slashed x own h = grind (arith, list_all-append, free_content)
 
 -- what is between literals in the prints of most trees
-pub ruleset free_pieces = (free_both, free_content, free_content_char, free_width, free_accent, free_letter, free_operator, free_slashed)
+pub ruleset free_pieces = (free_both, free_content, free_width, free_accent, free_letter, free_operator, free_slashed)
 
 -- the two parts of a text without a dollar sign
 pub free_parts : (a b : List ℕ) → IsDollarFree (a ++ b) → IsDollarFree a × IsDollarFree b
 free_parts a b h = grind (arith, list_all-append)
-
-free_member : (x : Tree) (own : List ℕ) → IsDollarFree own → IsDollarFree (member_print x own)
-free_member x own h = grind arith
 
 -- the members of a matrix, which are elsewhere printed next to each other
 pub free_members : (xs : Trees) → IsDollarFree (prints xs) → IsDollarFree (members_print xs)
 free_members no_trees h = refl
 free_members (more_trees x rest) h =
     let each = free_parts (print x) (prints rest) h in
-    free_both (member_print x (print x)) _ (free_member x (print x) each.0) (free_members rest each.1)
+    free_both (member_print x (print x)) _ (grind (arith, each.0)) (free_members rest each.1)

@@ -13,9 +13,10 @@ use Rattle.latex2mathml_grammar.specs.{RenderingLaws.IsNeverForDollars, Renderin
 use Rattle.latex2mathml_tokens.specs.{Refusal.InvalidNumberOfDollarSigns, declared.attribute.Variant.Variant}
 use Rattle.latex2mathml_tokens.specs.Tok.{Tok, EOF, Begin, LBrace, Left, Right, Middle, Sqrt, Style, Big, Binom}
 use Rattle.latex2mathml_tokens.specs.declared.attribute.ColumnAlign.TheVariants as align
-use Rattle.latex2mathml_grammar.proofs.DollarTokens.{IsFree, AreFree, free_tokens}
-use Rattle.latex2mathml_grammar.proofs.DollarTexts.{free_content, free_decimal, free_display, free_letter, free_members, free_operator, free_parts, free_pieces, free_style_open, free_value}
-use Rattle.latex2mathml_trees.specs.Print.{print, prints, members_print}
+use Rattle.latex2mathml_grammar.proofs.PlainTokens.{IsFree, AreFree, free_tokens}
+use Rattle.latex2mathml_grammar.proofs.DollarTexts.{free_content, free_decimal, free_letter, free_members, free_operator, free_parts, free_pieces, free_value}
+use Rattle.latex2mathml_tokens.specs.Attributes.{display_text}
+use Rattle.latex2mathml_trees.specs.Print.{print, prints, members_print, style_open}
 
 abbrev IsKept : Tree → Type 0
 IsKept x = HasNoArgument x × IsDollarFree (print x)
@@ -64,7 +65,7 @@ keeps : (t : Tok) → IsFree t → Keeps (rule t)
 keeps LBrace h = keeps_group
 keeps Sqrt h = (λ xs none free x. (let degree = keeps_group xs none free in search free_both), λ x. search free_both)
 keeps (Binom None) h = λ x a p y b q. ((a, b), simp (list_all-append, p, q, free_decimal))
-keeps (Binom (Some display)) h = λ x a p y b q. (((a, b), tt), simp (list_all-append, p, q, free_decimal, free_style_open))
+keeps (Binom (Some display)) h = λ x a p y b q. (((a, b), tt), (let open_free : IsDollarFree (style_open (Some display)) = grind arith in simp (list_all-append, p, q, free_decimal, open_free)))
 keeps (Style variant) h = keeps_style variant
 keeps (Big size) h = λ t. grind (arith, list_all-append, free_value size h, free_content)
 keeps Left h = λ t. keeps_fence Left t (fence_of t) _ (λ opening xs none free u. keeps_fence Right u (fence_of u) _ (λ close. (let group = keeps_group xs none free in search (free_both, free_content))))
@@ -126,7 +127,8 @@ no_argument text ts xs h d = (reading_is_kept (chars text) ts xs h d).0
 pub dollar_free : (text : List ℕ) → RendersDollarFree text
 unfolding IsRendering
 dollar_free text display markup (ts, h, d) =
-    rw d.2 (search (free_both, free_display, (reading_is_kept (chars text) ts d.0 h d.1).1))
+    let shown : IsDollarFree (display_text display) = grind arith in
+    rw d.2 (search (free_both, shown, (reading_is_kept (chars text) ts d.0 h d.1).1))
 
 -- no formula is refused for dollar signs
 pub never_dollars : (text : List ℕ) → IsNeverForDollars text

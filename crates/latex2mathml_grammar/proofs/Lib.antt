@@ -1,17 +1,13 @@
 pub mod Counting
 pub mod DollarTexts
-pub mod DollarTokens
 pub mod FirstSlices
 pub mod Kept
 pub mod MathElements
 pub mod Numbers
 pub mod OneList
-pub mod Passing
 pub mod PlainTokens
 pub mod Renderings
 pub mod Sliced
-pub mod SlicesRead
 pub mod Tokenizing
 pub mod Total
-pub mod Unique
 pub mod WhiteSpace

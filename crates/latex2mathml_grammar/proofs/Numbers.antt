@@ -1,10 +1,10 @@
 -- A number at the front of a text: digits, and at most one period among them.
-use Rattle.std.proofs.Common.{◌≡◌, ℕ, true, false, cond, List, [], ◌∷◌, ◌++◌, refl, sym, ap, subst, ◌∙◌, arith, append_assoc, append-nil}
+use Rattle.std.proofs.Common.{◌≡◌, ℕ, true, false, cond, List, [], ◌∷◌, ◌++◌, refl, sym, ap, ◌∙◌, arith, append_assoc, append-nil}
 use Rattle.std.proofs.{lemmas.Bool.Decides.nat_tests, lemmas.List.Elements.All-append, lemmas.List.Elements.All-cons, lemmas.List.Elements.All-weaker, lemmas.List.Sums.sum_by-append}
 use Rattle.std.specs.{Char.is_ascii_digit, Str.byte, List.AllPass, Prelude.count_by}
 use Rattle.latex2mathml_grammar.specs.{Beginnings.BeginsWithNumber, Beginnings.IsLongestRun, Characters.Begins, Characters.Stops, Characters.head}
 use Rattle.latex2mathml_grammar.specs.Spelling.{IsNumber, is_period, is_digit_or_period}
-use Rattle.latex2mathml_grammar.proofs.{Passing.Each, Passing.each, Counting.count_yes, Counting.count_no}
+use Rattle.latex2mathml_grammar.proofs.{Counting.Each, Counting.each, Counting.count_yes, Counting.count_no}
 
 pub digit_no_period : (c : ℕ) → is_ascii_digit c ≡ true → is_period c ≡ false
 digit_no_period c h = grind (arith, nat_tests)
@@ -18,9 +18,7 @@ periods-digits (d ∷ ds) h = count_no is_period d ds (digit_no_period d h.0) �
 
 -- where a text begins with a digit, so does its run of digits, whatever follows it
 Begins-run : (text front back more : List ℕ) → IsLongestRun is_ascii_digit text front back → Begins is_ascii_digit text → Begins is_ascii_digit (front ++ more)
-Begins-run text [] [] more run begins = absurd (subst (λ t. Begins is_ascii_digit t) run.0 begins)
-Begins-run text [] (c ∷ cs) more run begins =
-    let b : is_ascii_digit c ≡ true = subst (λ t. Begins is_ascii_digit t) run.0 begins in absurd (cc (b, run.2))
+Begins-run text [] back more run begins = grind arith
 Begins-run text (d ∷ ds) back more run begins = (each is_ascii_digit (d ∷ ds) run.1).0
 
 -- digits with no period after them

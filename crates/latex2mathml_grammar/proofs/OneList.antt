@@ -4,7 +4,7 @@ use Rattle.std.proofs.{Math.Seq.drop-append_seam, lemmas.Bool.cases_Bool, lemmas
 use Rattle.std.specs.{Char.is_ascii_digit, Char.is_ascii_alphabetic, List.AllPass, Str.byte, Str.encode_utf8_all}
 use Rattle.latex2mathml_grammar.specs.Characters.{◌∈◌, Begins, Stops, head, is_empty, is_space}
 use Rattle.std.proofs.lemmas.List.Elements.{All-nil, All-cons}
-use Rattle.latex2mathml_grammar.proofs.{Passing.each, FirstSlices.parted, FirstSlices.slice_of}
+use Rattle.latex2mathml_grammar.proofs.{Counting.each, FirstSlices.parted, FirstSlices.slice_of}
 use Rattle.latex2mathml_tokens.specs.{Among.is_among, Commands.command_token}
 use Rattle.latex2mathml_grammar.specs.Cutting.{slice, slices_within, slices_of}
 use Rattle.latex2mathml_grammar.specs.{Beginnings.BeginsWith, Beginnings.BeginsWithNumber, Beginnings.IsLongestRun, TokenLists.HasOneTokenList}
@@ -86,8 +86,7 @@ within (suc n) takes text (space, c ∷ cs, run) h =
     (slice w t ∷ more.0, (rest, step, more.1))
 
 dark_starts : (w rest : List ℕ) → Dark w → Stops is_space (head (w ++ rest)) × (is_empty (w ++ rest) ≡ false)
-dark_starts [] rest d = absurd d
-dark_starts (c ∷ w) rest d = (d, refl)
+dark_starts w rest d = grind arith
 
 -- the slices that a text has are the computed ones
 computed : (n : ℕ) (takes : Bool) (text : List ℕ) (ss : List Slice) → HasSlices takes text ss → length text < n → slices_within n takes text ≡ ss

@@ -1,11 +1,12 @@
--- The tokens of slices: a slice is one character that is a token by itself, or its token is plain.
-use Rattle.std.proofs.Common.{◌≡◌, ◌⊎◌, inl, inr, ℕ, Bool, true, false, not, ◌==◌, List, [], ◌∷◌, codes, Option, Some, unwrap_or, refl, sym, subst, cond}
-use Rattle.std.proofs.lemmas.Bool.{and_parts}
+-- The tokens of slices: a slice is one character that is a token by itself, or its token is plain. So sizes in tokens hold
+-- no dollar sign.
+use Rattle.std.proofs.Common.{◌≡◌, ◌⊎◌, inl, inr, ℕ, Bool, true, false, not, ◌==◌, List, [], ◌∷◌, codes, Option, Some, unwrap_or, refl, sym, subst, arith, cond, map}
 use Rattle.std.specs.{Char.encode_utf8, List.list_all, Str.byte, Str.bytes_eq, Str.encode_utf8_all}
 use Rattle.latex2mathml_tokens.specs.Commands.{command_entries, command_token, entry_token}
 use Rattle.latex2mathml_grammar.specs.Dollars.{is_other}
-use Rattle.latex2mathml_grammar.specs.Spelling.{SpellsAt, character_token, character, colon, colon_equals, number, digit, symbol_command, letter_command, lone_backslash}
+use Rattle.latex2mathml_grammar.specs.Spelling.{SpellsAt, character_token, character, colon, colon_equals, number, digit, symbol_command, letter_command, lone_backslash, Slice, HasSlices, HasTokens, takes_digit}
 use Rattle.latex2mathml_tokens.specs.Tok.{Tok, EOF, Paren, Underscore, Circumflex, Big, Operator, Command}
+use Rattle.std.proofs.{lemmas.Bool.and_parts, lemmas.Bool.Decides.nat_tests}
 
 -- the token is not the end of a formula, a prime, a sign, an opening bracket, or a size with a dollar sign
 abbrev pub is_plain : Tok → Bool
@@ -27,8 +28,7 @@ plain-command_entries = refl
 
 -- the first entry is found, or a later one
 found_first : (t other : Tok) (later : Option Tok) (p : Bool) → IsPlain t → IsPlain (unwrap_or later other) → IsPlain (unwrap_or (cond p (Some t) later) other)
-found_first t other later true h l = h
-found_first t other later false h l = l
+found_first t other later p h l = grind arith
 
 plain_entry : (rs : List (List ℕ × Tok)) (name : List ℕ) → list_all (λ r. is_plain r.1) rs ≡ true → IsPlain (unwrap_or (entry_token rs name) (Command name))
 plain_entry [] name h = refl
@@ -54,3 +54,26 @@ known alone w next t (digit c a i e f) = inr (subst IsPlain (sym f) refl)
 known alone w next t (symbol_command c a e f) = inr (subst IsPlain (sym f) (plain_command (encode_utf8_all (c ∷ []))))
 known alone w next t (letter_command c cs e a s f) = inr (subst IsPlain (sym f) (plain_command (encode_utf8_all (c ∷ cs))))
 known alone w next t (lone_backslash e n f) = inr (subst IsPlain (sym f) refl)
+
+-- the size of the token, if it is one, holds no dollar sign
+abbrev pub IsFree : Tok → Type 0
+IsFree (Big size) = list_all is_other size ≡ true
+IsFree t = Unit {0}
+
+abbrev pub AreFree : List Tok → Type 0
+AreFree [] = Unit {0}
+AreFree (t ∷ ts) = IsFree t × AreFree ts
+
+free_known : (w : List ℕ) (t : Tok) → IsKnown w t → IsFree t
+free_known w (Big size) (inl (c, e, f)) = grind (arith, nat_tests)
+free_known w (Big size) (inr plain) = plain
+free_known w t known = tt
+
+-- the tokens of slices
+free_slices : (takes : Bool) (text : List ℕ) (ss : List Slice) → HasSlices takes text ss → AreFree (map (λ s. s.token) ss)
+free_slices takes text [] d = tt
+free_slices takes text (s ∷ ss) (rest, step, later) = (free_known s.text s.token (known _ s.text _ s.token step.3), free_slices _ rest ss later)
+
+-- the tokens of a text
+pub free_tokens : (previous : Option Tok) (text : List ℕ) (ts : List Tok) → HasTokens previous text ts → AreFree ts
+free_tokens previous text ts (ss, d, e) = subst AreFree (sym e) (free_slices (takes_digit previous) text ss d)

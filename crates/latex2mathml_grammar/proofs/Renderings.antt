@@ -7,7 +7,7 @@ use Rattle.latex2mathml_grammar.specs.{RenderingLaws.HasOneRendering, RenderingL
 use Rattle.latex2mathml_tokens.specs.{Tok.Tok, declared.DisplayStyle.DisplayStyle}
 use Rattle.latex2mathml_trees.specs.Tree.{Tree}
 use Rattle.latex2mathml_grammar.proofs.{Kept.dollar_free, Kept.never_dollars, Kept.no_argument, MathElements.rendering_is_math}
-use Rattle.latex2mathml_grammar.proofs.{OneList.at_most_one, OneList.some_list, Total.has_one_reading, Unique.one_all}
+use Rattle.latex2mathml_grammar.proofs.{OneList.at_most_one, OneList.some_list, Total.has_one_reading, Total.one_all}
 
 -- two token lists of a text have one outcome
 one_outcome : {text : List ℕ} {ts us : List Tok} {o p : Outcome (List Tree)} → HasTokens None text ts → ReadsAll None ts o → HasTokens None text us → ReadsAll None us p → o ≡ p

@@ -1,9 +1,8 @@
 -- No slice begins with white space or is empty, so each slice takes something from the text.
-use Rattle.std.proofs.Common.{◌≡◌, ℕ, ◌+◌, ◌≤◌, ◌<◌, Bool, true, false, refl, List, [], ◌∷◌, ◌++◌, length, Option, sym, ap, subst, ◌∙◌, arith, length-append}
-use Rattle.std.specs.Char.{is_ascii_digit}
+use Rattle.std.proofs.Common.{◌≡◌, ℕ, ◌+◌, ◌≤◌, ◌<◌, Bool, false, List, [], ◌∷◌, ◌++◌, length, Option, ap, ◌∙◌, arith, length-append}
 use Rattle.std.proofs.lemmas.Bool.Decides.{nat_tests}
 use Rattle.latex2mathml_grammar.specs.Characters.{is_space}
-use Rattle.latex2mathml_grammar.specs.Spelling.{SpellsAt, Slice, IsFirstSlice, character, colon, colon_equals, number, digit, symbol_command, letter_command, lone_backslash}
+use Rattle.latex2mathml_grammar.specs.Spelling.{SpellsAt, Slice, IsFirstSlice, number}
 use Rattle.latex2mathml_tokens.specs.Tok.{Tok}
 
 -- the list begins with a character that is not white space
@@ -11,29 +10,16 @@ abbrev pub Dark : List ℕ → Type 0
 Dark [] = ⊥
 Dark (c ∷ cs) = is_space c ≡ false
 
-digit_dark : (c : ℕ) → is_ascii_digit c ≡ true → is_space c ≡ false
-digit_dark c h = grind (arith, nat_tests)
-
 -- no slice begins with white space
 pub spells_dark : (alone : Bool) (w : List ℕ) (next : Option ℕ) (t : Tok) → SpellsAt alone w next t → Dark w
-spells_dark alone w next t (character c longer dark e f) = subst Dark (sym e) dark
-spells_dark alone w next t (colon stops e f) = subst Dark (sym e) refl
-spells_dark alone w next t (colon_equals e f) = subst Dark (sym e) refl
 spells_dark alone [] next t (number a n f) = absurd n.begins
-spells_dark alone (c ∷ w) next t (number a n f) = digit_dark c n.begins
-spells_dark alone w next t (digit c a d e f) = subst Dark (sym e) (digit_dark c d)
-spells_dark alone w next t (symbol_command c l e f) = subst Dark (sym e) refl
-spells_dark alone w next t (letter_command c cs e l s f) = subst Dark (sym e) refl
-spells_dark alone w next t (lone_backslash e n f) = subst Dark (sym e) refl
-
--- so no slice is empty
-dark_length : (w : List ℕ) → Dark w → 1 ≤ length w
-dark_length [] d = absurd d
-dark_length (c ∷ w) d = omega arith
+spells_dark alone (c ∷ w) next t (number a n f) = (let digit = n.begins in grind (arith, nat_tests, digit))
+spells_dark alone w next t spells = grind (arith, nat_tests)
 
 -- so a step leaves less of the text
 pub step_shortens : (takes : Bool) (text rest : List ℕ) (s : Slice) → IsFirstSlice takes text s rest → length rest < length text
 step_shortens takes text rest s step =
-    let some : 1 ≤ length s.text = dark_length s.text (spells_dark _ _ _ _ step.3) in
+    let dark = spells_dark _ _ _ _ step.3 in
+    let some : 1 ≤ length s.text = grind (arith, dark) in
     let whole : length text ≡ length step.0 + (length s.text + length rest) = ap length step.1 ∙ length-append step.0 (s.text ++ rest) ∙ ap (λ n. length step.0 + n) (length-append s.text rest) in
     omega arith

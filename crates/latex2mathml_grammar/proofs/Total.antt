@@ -1,10 +1,76 @@
 -- Each list of tokens has exactly one outcome, and so one reading or one refusal.
-use Rattle.std.proofs.Common.{ℕ, zero, suc, ◌-◌, ◌<◌, ◌≤◌, ◌≡◌, ◌≢◌, inl, inr, List, [], ◌∷◌, length, Option, Some, None, refl, sym, ap, arith}
-use Rattle.latex2mathml_tokens.specs.{Discreteness.tok-discrete, Refusal.Refusal, Tok.Tok, Tok.EOF}
-use Rattle.latex2mathml_grammar.specs.Grammar.{Sort, core, single, node, Rule, gives, refuses, reads_part, reads_members, reads_sign, takes_token, sees_token, takes_letters, rule, Outcome, Read, Refused, first_or_end, letter_of, AreLetters, Reads, core_at_end, core_begun, single_read, node_read, ReadsRule, rule_gives, rule_refuses, part_read, part_refused, members_read, members_refused, sign_stands, sign_missing, token_taken, token_at_end, token_seen, letters_taken, ReadsAll, formula_ends, group_ends, never_closed, member_read, later_refused, member_refused, ReadsFormula, Refuses}
-use Rattle.latex2mathml_grammar.specs.Laws.{HasOneReading}
+use Rattle.std.proofs.Common.{arith, ◌≡◌, ℕ, List, [], ◌∷◌, Option, Some, refl, sym, ap, subst, zero, suc, ◌-◌, ◌<◌, ◌≤◌, ◌≢◌, inl, inr, length, None}
+use Rattle.latex2mathml_grammar.specs.Grammar.{Sort, Rule, Outcome, Read, first, first_letter, AreLetters, Reads, core_at_end, core_begun, single_read, node_read, ReadsRule, rule_gives, rule_refuses, part_read, part_refused, members_read, members_refused, sign_stands, sign_missing, token_taken, token_at_end, token_seen, letters_taken, ReadsAll, formula_ends, group_ends, never_closed, member_read, later_refused, member_refused, core, single, node, gives, refuses, reads_part, reads_members, reads_sign, takes_token, sees_token, takes_letters, rule, Refused, first_or_end, letter_of, ReadsFormula, Refuses}
 use Rattle.latex2mathml_trees.specs.Tree.{Tree}
-use Rattle.latex2mathml_grammar.proofs.Unique.{one, one_all}
+use Rattle.latex2mathml_tokens.specs.{Discreteness.tok-discrete, Refusal.Refusal, Tok.Tok, Tok.EOF}
+use Rattle.latex2mathml_grammar.specs.Laws.{HasOneReading}
+
+-- what follows one outcome of a part also follows the other, which is equal
+moved_rule : {A : Type 0} (then : A → Rule) {x y : A} {m n : List Tok} {o : Outcome Tree} → Read x m ≡ Read y n → ReadsRule (then y) n o → ReadsRule (then x) m o
+moved_rule then {x} {y} {m} {n} e d = (let p : y ≡ x = cc in let q : n ≡ m = cc in rw q at (rw p at d))
+
+-- the members after one outcome of a member also follow the other
+moved_all : {end : Option Tok} {x y : Tree} {m n : List Tok} {o : Outcome (List Tree)} → Read x m ≡ Read y n → ReadsAll end n o → ReadsAll end m o
+moved_all {m = m} {n = n} e d = (let q : n ≡ m = cc in rw q at d)
+
+-- there is only one longest run of letters
+one_run : (cs ds : List ℕ) (l m n : List Tok) → AreLetters cs l m → AreLetters ds l n → Read cs m ≡ Read ds n
+one_run [] [] l m n p q = cc (p.0, q.0)
+one_run [] (d ∷ ds) l m n p q = cc (p.0, p.1, q.1.2, ap first_letter q.1.1)
+one_run (c ∷ cs) [] l m n p q = cc (q.0, q.1, p.1.2, ap first_letter p.1.1)
+one_run (c ∷ cs) (d ∷ ds) l m n p q =
+    let same_rest : q.1.0 ≡ p.1.0 = cc (p.1.1, q.1.1) in
+    let later = one_run cs ds p.1.0 m n p.1.3 (subst (λ k. AreLetters ds k n) same_rest q.1.3) in
+    cc (p.1.1, q.1.1, p.1.2, q.1.2, later)
+
+-- a group ends where its end token is
+at_end : {end : Tok} {l m : List Tok} {o : Outcome (List Tree)} → l ≡ end ∷ m → ReadsAll (Some end) l o → o ≡ Read [] m
+at_end p d = grind arith
+
+mutual
+  -- a core, a single or a node has only one outcome
+  pub one : {s : Sort} {l : List Tok} {o p : Outcome Tree} → Reads s l o → Reads s l p → o ≡ p
+  one core_at_end core_at_end = refl
+  one (core_begun d) (core_begun e) = one_rule d e
+  one (single_read d) (single_read e) = one_rule d e
+  one (node_read d) (node_read e) = one_rule d e
+
+  -- a rule has only one outcome
+  one_rule : {r : Rule} {l : List Tok} {o p : Outcome Tree} → ReadsRule r l o → ReadsRule r l p → o ≡ p
+  one_rule rule_gives rule_gives = refl
+  one_rule rule_refuses rule_refuses = refl
+  one_rule (part_read {then = then} d ds) (part_read e es) = one_rule ds (moved_rule then (one d e) es)
+  one_rule (part_read d ds) (part_refused e) = cc (one d e)
+  one_rule (part_refused d) (part_read e es) = cc (one d e)
+  one_rule (part_refused d) (part_refused e) = one d e
+  one_rule (members_read {then = then} d ds) (members_read e es) = one_rule ds (moved_rule then (one_all d e) es)
+  one_rule (members_read d ds) (members_refused e) = cc (one_all d e)
+  one_rule (members_refused d) (members_read e es) = cc (one_all d e)
+  one_rule (members_refused d) (members_refused e) = cc (one_all d e)
+  one_rule (sign_stands {m = m} p d) (sign_stands {m = n} q e) = (let same : n ≡ m = cc in one_rule d (rw same at e))
+  one_rule (sign_stands p d) (sign_missing h e) = absurd (h (ap first p))
+  one_rule (sign_missing h d) (sign_stands p e) = absurd (h (ap first p))
+  one_rule (sign_missing h d) (sign_missing k e) = one_rule d e
+  one_rule (token_taken d) (token_taken e) = one_rule d e
+  one_rule (token_at_end d) (token_at_end e) = one_rule d e
+  one_rule (token_seen d) (token_seen e) = one_rule d e
+  one_rule (letters_taken cs {then = then} p d) (letters_taken ds q e) = one_rule d (moved_rule then (one_run cs ds _ _ _ p q) e)
+
+  -- consecutive nodes have only one outcome
+  pub one_all : {end : Option Tok} {l : List Tok} {o p : Outcome (List Tree)} → ReadsAll end l o → ReadsAll end l p → o ≡ p
+  one_all formula_ends formula_ends = refl
+  one_all never_closed never_closed = refl
+  one_all (group_ends p) e = sym (at_end p e)
+  one_all d (group_ends p) = at_end p d
+  one_all (member_read h d ds) (member_read k e es) = cc (one d e, one_all ds (moved_all (one d e) es))
+  one_all (member_read h d ds) (later_refused k e es) = cc (one_all ds (moved_all (one d e) es))
+  one_all (member_read h d ds) (member_refused k e) = cc (one d e)
+  one_all (later_refused h d ds) (member_read k e es) = cc (one_all ds (moved_all (one d e) es))
+  one_all (later_refused h d ds) (later_refused k e es) = one_all ds (moved_all (one d e) es)
+  one_all (later_refused h d ds) (member_refused k e) = cc (one d e)
+  one_all (member_refused h d) (member_read k e es) = cc (one d e)
+  one_all (member_refused h d) (later_refused k e es) = cc (one d e)
+  one_all (member_refused h d) (member_refused k e) = cc (one d e)
 
 -- there is an outcome, which leaves at most k tokens
 data Comes (A : Type 0) (reads : Outcome A → Type 0) (k : ℕ) : Type 0 where
@@ -127,12 +193,9 @@ has_one_reading l = record {
   never_both = λ xs r d e. (let same = one_all d e in cc same);
 }
 
--- since there is only one outcome, what is read leaves at most as many tokens
-one_rest : {s : Sort} {l f : List Tok} {x : Tree} {k : ℕ} → Comes Tree (Reads s l) k → Reads s l (Read x f) → length f ≤ k
-one_rest {f = f} (comes_to y m fits e) d =
-    let same : m ≡ f = cc (one e d) in
-    omega (arith, ap length same)
-one_rest (is_refused r e) d = absurd (cc (one e d))
-
+-- since there is only one outcome, what is read leaves fewer tokens
 pub some_taken : (s : Sort) (t : Tok) (l f : List Tok) (x : Tree) → Reads s (t ∷ l) (Read x f) → length f ≤ length l
-some_taken s t l f x d = omega (arith, one_rest ((outcomes (suc (length (t ∷ l)))).of_sort s (t ∷ l) (omega arith)) d)
+some_taken s t l f x d = elim ((outcomes (suc (length (t ∷ l)))).of_sort s (t ∷ l) (omega arith)) [
+  | comes_to y m fits e ↦ (let same : m ≡ f = cc (one e d) in omega (arith, ap length same))
+  | is_refused r e ↦ absurd (cc (one e d))
+]

@@ -7,7 +7,7 @@ use Rattle.latex2mathml_grammar.specs.{Cutting.slices_of, Rendering.IsRendering,
 use Rattle.latex2mathml_grammar.specs.Places.{AreSlices, IsBetweenTokens, IsDigitPlace, IsReadAlike, SpaceChangesNothing, HasPlaces}
 use Rattle.latex2mathml_grammar.specs.Spelling.{SpellsAt, Slice, HasSlices, HasTokens, is_equals_sign, is_period, takes_digit, character, colon, colon_equals, number, digit, symbol_command, letter_command, lone_backslash}
 use Rattle.latex2mathml_tokens.specs.Tok.{Tok}
-use Rattle.latex2mathml_grammar.proofs.{OneList.at_most_one, OneList.cut, Passing.Each, Passing.each, Passing.passing}
+use Rattle.latex2mathml_grammar.proofs.{OneList.at_most_one, OneList.cut, Counting.Each, Counting.each, Counting.passing}
 use Rattle.latex2mathml_grammar.proofs.Tokenizing.{Dark, spells_dark}
 
 -- a slice, where other characters may follow it

@@ -2,7 +2,7 @@
 use Rattle.std.proofs.Common.{◌≡◌, ◌∙◌, ℕ, Bool, true, false, List, [], ◌∷◌, ◌++◌, IfOk, IfSome, IsFalse, IsTrue, MatchOption, Option, Some, None, Result, Ok, Err, ap, drop, option_map, refl, reverse, subst, sym, take}
 use Rattle.std.specs.{Prelude.⊤, Str.chars}
 use Rattle.latex2mathml_elements.specs.{Annotated.IsAnnotatedMathElement, Annotated.annotated_print, Characters.IsAllowed, Dollars.IsDollarFree, Element.Element, Element.children, Print.formula_print}
-use Rattle.latex2mathml_elements.proofs.{Annotated.annotated_print_as_elements, Characters.annotated_dollar_free, Characters.dollar_free, OneElement.print_as_elements}
+use Rattle.latex2mathml_elements.proofs.{Annotated.annotated_print_as_elements, OneElement.print_as_elements}
 use Rattle.latex2mathml_trees.specs.MathSchema.{IsMathElement}
 use Rattle.latex2mathml_tex_grammar.specs.{Atoms.Atom, DefinitionTexts.Defines, Macros.SameMacros, Macros.Table, Makes.Core, Makes.is_display, Makes.no_scripts, Meaning.Beside, Refusal.Kind, Refusal.Refusal, Refusal.refusal_at, Rests.finished, Rows.Row, Rows.empty_row, Rows.row_element, Rows.with_atom, Symbols.Style}
 use Rattle.latex2mathml_tex_grammar.specs.Formulas.{IsExpansion, IsReading, ReadsFormula, as_atoms, as_rows, formula_context, is_outside, row_print, row_print_with_source, source_text}
@@ -183,7 +183,7 @@ pub sound_text : (definitions : List ℕ) (macros : Table) (tex : List ℕ) (sty
 sound_text definitions macros tex style markup h (row, reading, is) = rw is (markup_allowed definitions macros (chars tex) style row h reading).0
 
 pub no_dollar : (macros : Table) (tex : List ℕ) (style : Style) (markup : List ℕ) → IsAnswer macros tex style markup → IsDollarFree markup
-no_dollar macros tex style markup (row, reading, is) = rw is (dollar_free (is_display style) (children (reverse row.elements)))
+no_dollar macros tex style markup (row, reading, is) = rw is (print_as_elements.dollars (is_display style) (children (reverse row.elements)))
 
 -- An answer with its source is one `math` element, and can be in a page of XML or between dollar signs.
 
@@ -194,7 +194,7 @@ pub sound_text_with_source : (definitions : List ℕ) (macros : Table) (tex : Li
 sound_text_with_source definitions macros tex style markup h (row, reading, is) = rw is (markup_with_source_allowed definitions macros (chars tex) style row h reading).0
 
 pub no_dollar_with_source : (macros : Table) (tex : List ℕ) (style : Style) (markup : List ℕ) → IsAnswerWithSource macros tex style markup → IsDollarFree markup
-no_dollar_with_source macros tex style markup (row, reading, is) = rw is (annotated_dollar_free (is_display style) (row_element row.elements) (source_text (chars tex)))
+no_dollar_with_source macros tex style markup (row, reading, is) = rw is (annotated_print_as_elements.dollars (is_display style) (row_element row.elements) (source_text (chars tex)))
 
 -- what was appended to nothing is all
 pub appended : (P : List ℕ → Type 0) (old new : List ℕ) → old ≡ [] → (markup : List ℕ) × P markup × (new ≡ old ++ markup) → P new

@@ -3,7 +3,7 @@ use Rattle.std.proofs.Common.{ℕ, List, [], ◌∷◌, Option, subst, reverse}
 use Rattle.latex2mathml_elements.specs.{Characters.IsAllowed, Dollars.IsDollarFree, Element.Element, Element.children}
 use Rattle.latex2mathml_elements.specs.Columns.{Columns}
 use Rattle.latex2mathml_tex_grammar.specs.{Scanning.BeforeRow, Tables.Lines, Atoms.Atom, DefinitionTexts.Defines, Delimiters.delimiter_of, Formulas.IsReading, Formulas.row_print, Formulas.row_print_with_source, Formulas.source_text, Laws.ReadingsAreAllowed, Macros.Table, Rows.Row, Rows.Operand, Rows.empty_row, Rows.row_element, Symbols.Alphabet, Symbols.Style, Environments.pairs, Rows.with_atom}
-use Rattle.latex2mathml_elements.proofs.Characters.{allowed_print, annotated_allowed_print, annotated_dollar_free, dollar_free}
+use Rattle.latex2mathml_elements.proofs.{Annotated.annotated_print_as_elements, OneElement.print_as_elements}
 use Rattle.latex2mathml_tex_grammar.specs.Makes.{Core, core, divider, is_display, number, Scripts}
 use Rattle.latex2mathml_tex_grammar.specs.Reading.{Outcome, ReadsRule, rule_gives, rule_refuses, operand_read, operand_refused, core_read, core_refused, core_missing, core_stopped, atoms_read, atoms_refused, words_read, words_refused, units_taken, units_missing, unit_follows, no_unit_follows, digits_taken, delimiter_taken, delimiter_missing, ReadsOperand, group_operand, group_refused, digit_operand, other_operand, other_refused, no_operand, operand_at_end, operand_stopped, ReadsScripts, scripts_end, mark_taken, script_read, script_refused, mark_refused, ReadsAtom, divider_read, divider_refused, on_empty_row, base_read, base_refused, ReadsAtoms, text_ends, never_ended, atoms_stopped, atoms_end, atom_read, atom_refused, rest_read, change_refused, ReadsWord, word_stands, group_of_words, formula_read, formula_refused, words_in_alphabet, no_word, word_missing, word_at_end, word_stopped, ReadsWords, words_end, words_never_ended, words_stopped, word_read, word_refused, found_taken, found_refused, passed_over, rows_read, rows_refused, ReadsRows, cell_read, cell_refused, ReadsBehindCell, next_cell, next_row, table_ends, rows_to_end, text_ends_table, Read, Refused}
 use Rattle.latex2mathml_tex_grammar.specs.Rules.{Context, Ending, Rule, gives, takes_delimiter, TableEnd, WholeText, InBraces, InBrackets, InDollars, InDelimiters, InCell}
@@ -169,14 +169,14 @@ pub markup_allowed : (definitions : List ℕ) (macros : Table) (text : List ℕ)
 markup_allowed definitions macros text style row h reading =
     let xs = children (reverse row.elements) in
     let each = row_children_allowed row.elements (reading_allowed definitions macros text style row h reading) in
-    (allowed_print (is_display style) xs each, dollar_free (is_display style) xs)
+    (print_as_elements.characters (is_display style) xs each, print_as_elements.dollars (is_display style) xs)
 
 -- nor does the markup of a reading with its source
 pub markup_with_source_allowed : (definitions : List ℕ) (macros : Table) (text : List ℕ) (style : Style) (row : Row) → Defines definitions macros → IsReading macros text style row → IsAllowed (row_print_with_source style text row) × IsDollarFree (row_print_with_source style text row)
 markup_with_source_allowed definitions macros text style row h reading =
     let x = row_element row.elements in
     let each = row_element_allowed row.elements (reading_allowed definitions macros text style row h reading) in
-    (annotated_allowed_print (is_display style) x (source_text text) each (source_allowed text), annotated_dollar_free (is_display style) x (source_text text))
+    (annotated_print_as_elements.characters (is_display style) x (source_text text) each (source_allowed text), annotated_print_as_elements.dollars (is_display style) x (source_text text))
 
 -- the law
 pub readings_are_allowed : ReadingsAreAllowed

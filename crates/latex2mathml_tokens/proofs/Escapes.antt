@@ -17,7 +17,7 @@ same_char : (f : ℕ → List ℕ) (c : ℕ) → ((b : ℕ) → (b < 128 → b �
 same_char f c h = same_bytes f (encode_utf8 c) (λ k lt. h (get_or (encode_utf8 c) k 0) (λ small. sym (inside_one c [] (encode_utf8 c) k (sym (append-nil (encode_utf8 c))) lt small)))
 
 -- f and g agree on a list if they agree on each byte of it
-alike : (f g : ℕ → List ℕ) (bs : List ℕ) → ((k : ℕ) → k < length bs → f (get_or bs k 0) ≡ g (get_or bs k 0)) → flat_map f bs ≡ flat_map g bs
+pub alike : (f g : ℕ → List ℕ) (bs : List ℕ) → ((k : ℕ) → k < length bs → f (get_or bs k 0) ≡ g (get_or bs k 0)) → flat_map f bs ≡ flat_map g bs
 alike f g [] h = refl
 alike f g (b ∷ bs) h =
     ap (λ l. l ++ flat_map f bs) (h 0 (omega arith)) ∙ ap (λ l. g b ++ l) (alike f g bs (λ k lt. h (suc k) (omega arith)))

@@ -17,7 +17,7 @@ pub record IsValue (text : List ℕ) : Type 0 where
 pub no_text : IsValue []
 no_text = record { parts = []; are_parts = refl; spelled = refl }
 
-one_part : (p : Part) → IsTrue (is_part p) → IsValue (spell_part p)
+pub one_part : (p : Part) → IsTrue (is_part p) → IsValue (spell_part p)
 one_part p h = record { parts = p ∷ []; are_parts = ap (λ b. b && true) h; spelled = append-nil (spell_part p) }
 
 pub beside : {a b : List ℕ} → IsValue a → IsValue b → IsValue (a ++ b)
@@ -61,7 +61,7 @@ module _ (passes : ℕ → Bool) (digit_passes : (d : ℕ) → d < 10 → IsTrue
   point_passes : (a b c : ℕ) → IsTrue (passes 46) → IsTrue (passes a) → IsTrue (passes b) → IsTrue (passes c) → IsTrue (list_all passes (after_point (trimmed (a ∷ b ∷ c ∷ []))))
   point_passes a b c point h i j = grind arith
 
-  thousandths_pass : IsTrue (passes 46) → (t : ℕ) → IsTrue (list_all passes (thousandths_text t))
+  pub thousandths_pass : IsTrue (passes 46) → (t : ℕ) → IsTrue (list_all passes (thousandths_text t))
   thousandths_pass point t =
       let n = t % 1000 in
       let tail = point_passes _ _ _ point (digit_passes (n / 100 % 10) (omega arith)) (digit_passes (n / 10 % 10) (omega arith)) (digit_passes (n % 10) (omega arith)) in

@@ -1,6 +1,6 @@
 use Rattle.latex2mathml_grammar.specs.{Grammar.ReadsFormula, Slices.IsPart, Slices.AreParts, Slices.AreMembers}
 use Rattle.latex2mathml_grammar.proofs.Sliced.{part_by_slices, rule_by_slices, all_by_slices, slice_at}
-use Rattle.latex2mathml_grammar.proofs.SlicesRead.{part_is_read, parts_are_read, members_are_read, nodes_are_read}
+use Rattle.latex2mathml_grammar.proofs.Sliced.{part_is_read, parts_are_read, members_are_read, nodes_are_read}
 use Rattle.latex2mathml_grammar.proofs.laws.read_by_slices.Goals as goal
 
 pub returns : goal.returns

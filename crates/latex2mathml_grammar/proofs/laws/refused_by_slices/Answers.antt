@@ -1,6 +1,6 @@
 use Rattle.latex2mathml_grammar.specs.Grammar.{Refuses}
 use Rattle.latex2mathml_grammar.proofs.Sliced.{part_by_slices, rule_by_slices, all_by_slices}
-use Rattle.latex2mathml_grammar.proofs.SlicesRead.{part_is_refused, parts_are_refused, members_are_refused, formula_is_refused}
+use Rattle.latex2mathml_grammar.proofs.Sliced.{part_is_refused, parts_are_refused, members_are_refused, formula_is_refused}
 use Rattle.latex2mathml_grammar.proofs.laws.refused_by_slices.Goals as goal
 
 pub returns : goal.returns

@@ -1,5 +1,5 @@
 use Rattle.latex2mathml_grammar.proofs.Sliced.{part_by_slices, rule_by_slices, all_by_slices}
-use Rattle.latex2mathml_grammar.proofs.SlicesRead.{part_takes, members_take}
+use Rattle.latex2mathml_grammar.proofs.Sliced.{part_takes, members_take}
 use Rattle.latex2mathml_grammar.proofs.laws.sliced.Goals as goal
 
 pub returns : goal.returns
