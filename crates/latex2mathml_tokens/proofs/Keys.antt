@@ -121,6 +121,8 @@ key_tied k l a b h i e m n =
     let q = key_is l b i in
     tied 8 a b p.1 q.1 m n (sym p.0 ∙ e ∙ q.0)
 
+pub ruleset by_keys = (key_less, key_greater, key_tied)
+
 -- the invariant of the loop over the bytes: the key of the first n of them
 pub record Begun (name : List ℕ) (key n : ℕ) : Type 0 where
   pub value : key ≡ number n name
