@@ -2,8 +2,8 @@
 use Rattle.std.proofs.Common.{◌≡◌, ◌≢◌, ℕ, suc, ◌<◌, List, [], ◌∷◌, ◌++◌, length, get_or, refl, sym, ap, ◌∙◌, arith, append-nil, encode_utf8, map, map-id}
 use Rattle.std.specs.List.{flat_map}
 use Rattle.std.specs.Str.{IsUtf8, NoCharPasses, chars, encode_utf8_all}
-use Rattle.std.proofs.{lemmas.Bool.Decides.nat_tests, lemmas.Grind.flat_map-append, lemmas.List.Concat.flat_map_single}
-use Rattle.std.proofs.lemmas.Str.{NoCharPasses-byte, encodes-chars, inside_one}
+use Rattle.std.proofs.{lemmas.Bool.Decides.nat_tests, lemmas.Grind.flat_map-append, lemmas.Grind.put_two, lemmas.List.Concat.flat_map_single}
+use Rattle.std.proofs.lemmas.Str.{NoCharPasses-byte, encodes-append, encodes-chars, inside_one}
 use Rattle.latex2mathml_tokens.specs.Escape.{content, content_byte, is_escaped, quoted_byte, value, value_byte}
 
 -- f and g agree on a list if they agree on each byte of it
@@ -42,28 +42,12 @@ pub ruleset others = (content_char-other, value_char-other, quoted_char-other)
 pub content-plain : (bs : List ℕ) → NoCharPasses is_escaped bs → content bs ≡ bs
 content-plain bs h = same_bytes content_byte bs (λ k lt. grind (arith, nat_tests, NoCharPasses-byte is_escaped bs k h lt))
 
-by_chars : (f : List ℕ → List ℕ) → f [] ≡ [] → ((xs ys : List ℕ) → f (xs ++ ys) ≡ f xs ++ f ys) → (cs : List ℕ) → flat_map (λ c. f (encode_utf8 c)) cs ≡ f (encode_utf8_all cs)
-by_chars f none more [] = sym none
-by_chars f none more (c ∷ cs) =
-    ap (λ l. f (encode_utf8 c) ++ l) (by_chars f none more cs) ∙ sym (more (encode_utf8 c) (encode_utf8_all cs))
-
--- f of a text is f of each character that a loop over the text yields, in order
-pub text_by_chars : (f : List ℕ → List ℕ) → f [] ≡ [] → ((xs ys : List ℕ) → f (xs ++ ys) ≡ f xs ++ f ys) → (cs bs : List ℕ) → IsUtf8 bs → map (λ c. c) cs ≡ chars bs → flat_map (λ c. f (encode_utf8 c)) cs ≡ f bs
-text_by_chars f none more cs bs u e =
-    by_chars f none more cs ∙ ap (λ l. f (encode_utf8_all l)) (sym (map-id cs) ∙ e) ∙ ap f (encodes-chars bs u)
+-- the characters that a loop over a text yields are the text
+pub all_yielded : (cs bs : List ℕ) → IsUtf8 bs → map (λ c. c) cs ≡ chars bs → encode_utf8_all cs ≡ bs
+all_yielded cs bs utf8 yielded = ap encode_utf8_all (sym (map-id cs) ∙ yielded) ∙ encodes-chars bs utf8
 
 pub content-append : (xs ys : List ℕ) → content (xs ++ ys) ≡ content xs ++ content ys
 content-append xs ys = flat_map-append content_byte xs ys
 
-pub value-append : (xs ys : List ℕ) → value (xs ++ ys) ≡ value xs ++ value ys
-value-append xs ys = flat_map-append value_byte xs ys
-
-pub quoted_bytes-append : (xs ys : List ℕ) → flat_map quoted_byte (xs ++ ys) ≡ flat_map quoted_byte xs ++ flat_map quoted_byte ys
-quoted_bytes-append xs ys = flat_map-append quoted_byte xs ys
-
--- what is between quotation marks, as contents
-abbrev pub quoted_content : List ℕ → List ℕ
-quoted_content bs = content (flat_map quoted_byte bs)
-
-pub quoted_content-append : (xs ys : List ℕ) → quoted_content (xs ++ ys) ≡ quoted_content xs ++ quoted_content ys
-quoted_content-append xs ys = ap content (quoted_bytes-append xs ys) ∙ content-append (flat_map quoted_byte xs) (flat_map quoted_byte ys)
+-- what one more character adds to what is written
+pub ruleset one_more = (encodes-append, flat_map-append, append-nil, put_two)
