@@ -61,7 +61,9 @@ unfolding ascending
 stands_before m [] name d in_rs a h = absurd (omega arith)
 stands_before zero (r ∷ rs) name d in_rs a h = none_before name r rs a h
 stands_before (suc m) (r ∷ rs) name d in_rs a h =
-    let rest : ascending (map entry_of rs) ≡ true = (and_parts _ _ a).1 in rw (stands_before m rs name d (omega arith) rest h) refl
+    let in_rest : m < length rs = omega arith in
+    let rest = (and_parts _ _ a).1 in
+    rw (stands_before m rs name d in_rest rest h) refl
 
 pub stands_from : (m : ℕ) (rs : List Entry) (name : List ℕ) (d : Entry) → m < length rs → ascending (map entry_of rs) ≡ true → slice_cmp nat_cmp name (get_or rs m d).name.now ≢ Less → entry_token (map entry_of rs) name ≡ entry_token (map entry_of (drop m rs)) name
 unfolding ascending
