@@ -45,13 +45,11 @@ module _ (first last : List Entry) (name : List ℕ) (d : Entry) (e : IsFirst fi
   -- a name that is less than the first one of the last half is in the first half
   pub in_first : slice_cmp nat_cmp name (get_or last 0 d).name.now ≡ Less → entry_token (map entry_of first) name ≡ entry_token command_entries name
   in_first is =
-      let less : slice_cmp nat_cmp name (get_or (first ++ last) (length first + 0) d).name.now ≡ Less = rw (get_or-append-add first last 0 d) is in
-      ap (λ es. entry_token (map entry_of es) name) (sym (take-append-add first last 0 ∙ append-nil first))
-      ∙ sym (stands_before (length first + 0) (first ++ last) name d seam is_sorted less) ∙ ap (λ es. entry_token es name) whole
+      let before = stands_before (length first + 0) (first ++ last) name d seam is_sorted (rw (get_or-append-add first last 0 d) is) in
+      sym (simp (take-append-add, append-nil, whole) at before)
 
   -- any other name is in the last half
   pub in_last : slice_cmp nat_cmp name (get_or last 0 d).name.now ≢ Less → entry_token (map entry_of last) name ≡ entry_token command_entries name
   in_last is =
-      let other : slice_cmp nat_cmp name (get_or (first ++ last) (length first + 0) d).name.now ≢ Less = rw (get_or-append-add first last 0 d) is in
-      ap (λ es. entry_token (map entry_of es) name) (sym (drop-append-add first last 0))
-      ∙ sym (stands_from (length first + 0) (first ++ last) name d seam is_sorted other) ∙ ap (λ es. entry_token es name) whole
+      let from = stands_from (length first + 0) (first ++ last) name d seam is_sorted (rw (get_or-append-add first last 0 d) is) in
+      sym (simp (drop-append-add, whole) at from)

@@ -1,7 +1,7 @@
 -- Equality as a test that returns true or false, for values whose equality is decidable.
-use Rattle.std.specs.Prelude.{◌≡◌, Bool, true, false, Option, Some, None, unwrap_or, refl}
+use Rattle.std.specs.Prelude.{◌≡◌, Bool, true, false, Option, Some, None, is_some, unwrap_or, refl}
 use Rattle.std.specs.{Bool.Decides, Cmp.IsPartialEquivalence, Cmp.decided, Cmp.on_per, Cmp.partial_equiv_from_equiv}
-use Rattle.std.proofs.Common.{sym, ap, subst}
+use Rattle.std.proofs.Common.{sym, ap}
 use Rattle.std.proofs.lemmas.Bool.{false≢true}
 use mathlib.Core.HLevel.{Discrete}
 use native.Mathlib.Decide.{ℕ_discrete, map_dec}
@@ -31,13 +31,9 @@ told_apart_by number one decide x y = map_dec (one x y) (ap number) (decide (num
 pub bare : (D : Declared) → Bare D.parts → Discrete D.D
 bare D none = told_apart_by (tag_of D) (tag_one D none) ℕ_discrete
 
-abbrev IsMissing : {A : Type 0} → Option A → Type 0
-IsMissing None = Unit {0}
-IsMissing (Some x) = ⊥
-
 -- equality is decidable for values that may be missing
 pub optional : {A : Type 0} → Discrete A → Discrete (Option A)
 optional decide None None = yes refl
-optional decide None (Some y) = no (λ e. subst IsMissing e tt)
-optional decide (Some x) None = no (λ e. subst IsMissing (sym e) tt)
+optional decide None (Some y) = no (λ e. false≢true (ap is_some e))
+optional decide (Some x) None = no (λ e. false≢true (sym (ap is_some e)))
 optional decide (Some x) (Some y) = map_dec (ap Some) (ap (λ o. unwrap_or o x)) (decide x y)
