@@ -55,11 +55,8 @@ module _ (strict : Bool) where
   exactly : (count : ℕ) (ks : List Name) → length ks ≡ count → (length ks == count && true) ≡ (count == count && true)
   exactly count ks e = ap (λ l. l == count && true) e
 
-  two_end : (n : Name) (a b : List ℕ) → Holds n 2 → AreElements strict 1 a → AreElements strict 1 b → (s : OpenElements) → Runs (schema_of strict) (a ++ (b ++ spell_event (close_tag n))) (above n [] false s) s
-  two_end n a b holds x y s = before n 0 1 a _ x (before n 1 1 b _ y (closed_after n 2 holds.0 holds.1)) [] s (λ e. refl)
-
-  two : (n : Name) (a b : List ℕ) → Holds n 2 → AreElements strict 1 a → AreElements strict 1 b → AreElements strict 1 (spell_event (open_tag n []) ++ (a ++ (b ++ spell_event (close_tag n))))
-  two n a b holds x y = tagged strict n [] (ap (λ b. b && true) holds.0) (two_end n a b holds x y)
+  two : (n : Name) (attributes : List Attribute) (a b : List ℕ) → IsTrue (is_event (open_tag n attributes)) → Holds n 2 → AreElements strict 1 a → AreElements strict 1 b → AreElements strict 1 (spell_event (open_tag n attributes) ++ (a ++ (b ++ spell_event (close_tag n))))
+  two n attributes a b valid holds x y = tagged strict n attributes valid (λ s. before n 0 1 a _ x (before n 1 1 b _ y (closed_after n 2 holds.0 holds.1)) [] s (λ e. refl))
 
   three : (n : Name) (a b c : List ℕ) → Holds n 3 → AreElements strict 1 a → AreElements strict 1 b → AreElements strict 1 c → AreElements strict 1 (spell_event (open_tag n []) ++ (a ++ (b ++ (c ++ spell_event (close_tag n)))))
   three n a b c holds x y z = tagged strict n [] (ap (λ b. b && true) holds.0) (λ s. before n 0 1 a _ x (before n 1 1 b _ y (before n 2 1 c _ z (closed_after n 3 holds.0 holds.1))) [] s (λ e. refl))
@@ -69,13 +66,13 @@ module _ (strict : Bool) where
   accented n holds c accent.False a x = tagged strict n [] (ap (λ b. b && true) holds.0) (λ s. before n 0 1 a _ x (sign_before n 1 (attribute (codes "accent") (map plain (codes "false")) ∷ []) (encode_utf8 c) _ refl (closed_after n 2 holds.0 holds.1)) [] s (λ e. refl))
 
   fraction : (t : LineThickness) (a b : List ℕ) → AreElements strict 1 a → AreElements strict 1 b → AreElements strict 1 (codes "<mfrac" ++ (thickness_text t ++ (codes ">" ++ (a ++ (b ++ codes "</mfrac>")))))
-  fraction Thin a b x y = tagged strict (codes "mfrac") (attribute (codes "linethickness") (map plain (codes "thin")) ∷ []) refl (two_end (codes "mfrac") a b (refl, λ parent. exactly 2) x y)
-  fraction Medium a b x y = two (codes "mfrac") a b (refl, λ parent. exactly 2) x y
-  fraction Thick a b x y = tagged strict (codes "mfrac") (attribute (codes "linethickness") (map plain (codes "thick")) ∷ []) refl (two_end (codes "mfrac") a b (refl, λ parent. exactly 2) x y)
+  fraction Thin a b x y = two (codes "mfrac") (attribute (codes "linethickness") (map plain (codes "thin")) ∷ []) a b refl (refl, λ parent. exactly 2) x y
+  fraction Medium a b x y = two (codes "mfrac") [] a b refl (refl, λ parent. exactly 2) x y
+  fraction Thick a b x y = two (codes "mfrac") (attribute (codes "linethickness") (map plain (codes "thick")) ∷ []) a b refl (refl, λ parent. exactly 2) x y
   fraction (Length l) a b x y =
       let v = plain_decimal l in
       respelled (ap (λ w. codes "<mfrac linethickness=\"" ++ w) (reach v.parts (decimal l) _ v.spelled))
-      (tagged strict (codes "mfrac") (attribute (codes "linethickness") v.parts ∷ []) (ap (λ b. b && true) v.are_parts) (two_end (codes "mfrac") a b (refl, λ parent. exactly 2) x y))
+      (two (codes "mfrac") (attribute (codes "linethickness") v.parts ∷ []) a b (ap (λ b. b && true) v.are_parts) (refl, λ parent. exactly 2) x y)
     where
       reach : (u : List Part) (v rest : List ℕ) → flat_map spell_part u ≡ v → (((flat_map spell_part u ++ codes "\"") ++ []) ++ codes ">") ++ rest ≡ (v ++ codes "\"") ++ (codes ">" ++ rest)
       reach u v rest e = simp (append_assoc, append-nil, e)
@@ -121,16 +118,16 @@ module _ (strict : Bool) where
         let whole = respelled (ap (λ l. codes "<mi>" ++ l) (append_assoc (content name) (codes "</mi>") (codes "<mo>&#x2061;</mo>" ++ print x))) r in
         record { names = whole.names; counted = λ e. absurd (h e); leads = whole.leads }
     elements (space width) h = leaves.space_is_element strict width
-    elements (subscript a b) h = two (codes "msub") _ _ (refl, λ parent. exactly 2) (elements a (λ e. (h e).0)) (elements b (λ e. (h e).1))
-    elements (superscript a b) h = two (codes "msup") _ _ (refl, λ parent. exactly 2) (elements a (λ e. (h e).0)) (elements b (λ e. (h e).1))
+    elements (subscript a b) h = two (codes "msub") [] _ _ refl (refl, λ parent. exactly 2) (elements a (λ e. (h e).0)) (elements b (λ e. (h e).1))
+    elements (superscript a b) h = two (codes "msup") [] _ _ refl (refl, λ parent. exactly 2) (elements a (λ e. (h e).0)) (elements b (λ e. (h e).1))
     elements (sub_sup a b c) h = three (codes "msubsup") _ _ _ (refl, λ parent. exactly 3) (elements a (λ e. (h e).0)) (elements b (λ e. (h e).1)) (elements c (λ e. (h e).2))
     elements (over_op c k x) h = accented (codes "mover") (refl, λ parent. exactly 2) c k _ (elements x h)
     elements (under_op c k x) h = accented (codes "munder") (refl, λ parent. exactly 2) c k _ (elements x h)
-    elements (overset a b) h = two (codes "mover") _ _ (refl, λ parent. exactly 2) (elements b (λ e. (h e).1)) (elements a (λ e. (h e).0))
-    elements (underset a b) h = two (codes "munder") _ _ (refl, λ parent. exactly 2) (elements b (λ e. (h e).1)) (elements a (λ e. (h e).0))
-    elements (under a b) h = two (codes "munder") _ _ (refl, λ parent. exactly 2) (elements a (λ e. (h e).0)) (elements b (λ e. (h e).1))
+    elements (overset a b) h = two (codes "mover") [] _ _ refl (refl, λ parent. exactly 2) (elements b (λ e. (h e).1)) (elements a (λ e. (h e).0))
+    elements (underset a b) h = two (codes "munder") [] _ _ refl (refl, λ parent. exactly 2) (elements b (λ e. (h e).1)) (elements a (λ e. (h e).0))
+    elements (under a b) h = two (codes "munder") [] _ _ refl (refl, λ parent. exactly 2) (elements a (λ e. (h e).0)) (elements b (λ e. (h e).1))
     elements (under_over a b c) h = three (codes "munderover") _ _ _ (refl, λ parent. exactly 3) (elements a (λ e. (h e).0)) (elements b (λ e. (h e).1)) (elements c (λ e. (h e).2))
-    elements (root d x) h = two (codes "mroot") _ _ (refl, λ parent. exactly 2) (elements x (λ e. (h e).1)) (elements d (λ e. (h e).0))
+    elements (root d x) h = two (codes "mroot") [] _ _ refl (refl, λ parent. exactly 2) (elements x (λ e. (h e).1)) (elements d (λ e. (h e).0))
     elements (sqrt x) h = within (codes "msqrt") [] 1 _ refl refl (λ parent ks. refl) (elements x h)
     elements (frac a b t) h = fraction t _ _ (elements a (λ e. (h e).0)) (elements b (λ e. (h e).1))
     elements (row members) h = let some = all_elements members h in within (codes "mrow") [] some.0 _ refl refl (λ parent ks. refl) some.1

@@ -4,7 +4,7 @@ use Rattle.std.specs.{Str.bytes_eq, List.list_all}
 use Rattle.std.proofs.{lemmas.Grind.common_steps, lemmas.Option.option_and_then_some}
 use Rattle.latex2mathml_trees.specs.Markup.{Name, Attribute, Event, open_tag, close_tag, OpenElements, lowest, above, at_start, add, mark, name_of, Schema, any_element, step, run, Runs, IsBalanced, spell_event, is_attribute, is_name}
 use Rattle.latex2mathml_trees.specs.MathSchema.{IsMathElement, child_table, holding, holding_table, holds, is_parent, may_be_in}
-use Rattle.latex2mathml_trees.specs.Pages.{IsPage, JoinsBalanced, JoinsMarkup, JoinsPages, is_in_table, page_schema, takes_math}
+use Rattle.latex2mathml_trees.specs.Pages.{IsPage, JoinsMarkup, is_in_table, page_schema, takes_math}
 use Rattle.latex2mathml_trees.proofs.Runs.{ending_as, joined, more, more-above, more-lowest, obeying, single, staying}
 
 -- levels on top of others: the lowest level becomes part of the highest of the others
@@ -111,28 +111,22 @@ holds_any : (named b : Bool) → IsTrue (not named) → IsTrue (cond named b tru
 holds_any named b free = grind (arith, common_steps)
 
 -- the laws
-joins_balanced : JoinsBalanced
-joins_balanced = record {
-  nothing = ([], (false, staying));
-  joined = λ markup other m n. one_after_other any_element markup other (any_fits any_element None) m n;
-  wrapped = λ name attributes markup valid valids m. within_element any_element name attributes markup (any_fits any_element (Some name)) (λ children met. refl) valid valids m;
-  page = page_balanced;
-  inserted = λ markup levels m. math_onto any_element levels markup (any_fits child_table (name_of levels)) m;
-}
-
-joins_pages : JoinsPages
-joins_pages = record {
-  nothing = ([], (false, staying));
-  joined = λ page other m n. one_after_other page_schema page other (record { outer = λ name children met h. h; inner = λ parent name children met h. h }) m n;
-  wrapped = λ name attributes page valid valids free m. within_element page_schema name attributes page (page_within name free) (λ children met. holds_any (is_in_table name) (may_be_in takes_math None name && holds (holding holding_table name) children met) free) valid valids m;
-  element = λ markup m. (codes "math" ∷ [], (false, math_onto page_schema at_start markup (table_fits None refl) m));
-  inserted = λ markup levels takes m. math_onto page_schema levels markup (table_fits (name_of levels) takes) m;
-}
-
 pub joins_markup : JoinsMarkup
 joins_markup = record {
   nowhere = λ schema levels. staying;
   onwards = λ schema markup other start middle end m n. joined m n;
-  balanced = joins_balanced;
-  pages = joins_pages;
+  balanced = record {
+    nothing = ([], (false, staying));
+    joined = λ markup other m n. one_after_other any_element markup other (any_fits any_element None) m n;
+    wrapped = λ name attributes markup valid valids m. within_element any_element name attributes markup (any_fits any_element (Some name)) (λ children met. refl) valid valids m;
+    page = page_balanced;
+    inserted = λ markup levels m. math_onto any_element levels markup (any_fits child_table (name_of levels)) m;
+  };
+  pages = record {
+    nothing = ([], (false, staying));
+    joined = λ page other m n. one_after_other page_schema page other (record { outer = λ name children met h. h; inner = λ parent name children met h. h }) m n;
+    wrapped = λ name attributes page valid valids free m. within_element page_schema name attributes page (page_within name free) (λ children met. holds_any (is_in_table name) (may_be_in takes_math None name && holds (holding holding_table name) children met) free) valid valids m;
+    element = λ markup m. (codes "math" ∷ [], (false, math_onto page_schema at_start markup (table_fits None refl) m));
+    inserted = λ markup levels takes m. math_onto page_schema levels markup (table_fits (name_of levels) takes) m;
+  };
 }
