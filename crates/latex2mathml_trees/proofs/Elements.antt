@@ -1,11 +1,11 @@
 -- The print of a tree is elements one after another. Where no function in it has an argument, it is one element that obeys
 -- the child table.
-use Rattle.std.proofs.Common.{◌≡◌, ℕ, ◌+◌, ◌==◌, Bool, true, false, ◌&&◌, IsTrue, List, [], ◌∷◌, ◌++◌, length, Option, Some, None, refl, sym, ap, ◌∙◌, append_assoc, append-nil, length-append, arith, codes, map}
-use Rattle.std.specs.{Char.encode_utf8, Fmt.decimal, List.flat_map, List.list_all}
+use Rattle.std.proofs.Common.{◌≡◌, ℕ, ◌+◌, ◌==◌, Bool, true, false, ◌&&◌, IsTrue, List, [], ◌∷◌, ◌++◌, length, Option, Some, None, refl, sym, ap, append_assoc, append-nil, length-append, arith, codes, map}
+use Rattle.std.specs.{Char.encode_utf8, List.list_all}
 use Rattle.latex2mathml_trees.specs.{Arguments.HasNoArgument, Arguments.HaveNoArgument, MathSchema.IsOneElement, MathSchema.child_table}
 use Rattle.latex2mathml_tokens.specs.{Attributes.accent_text, Attributes.thickness_text, declared.DisplayStyle.DisplayStyle}
 use Rattle.latex2mathml_tokens.specs.Escape.{content, content_char, quoted, value}
-use Rattle.latex2mathml_trees.specs.Markup.{Name, Part, plain, Attribute, attribute, open_tag, close_tag, OpenElements, above, at_start, name_of, Runs, IsBalanced, is_name, is_attribute, is_event, spell_event, spell_part}
+use Rattle.latex2mathml_trees.specs.Markup.{Name, plain, Attribute, attribute, open_tag, close_tag, OpenElements, above, at_start, name_of, Runs, IsBalanced, is_name, is_attribute, is_event, spell_event}
 use Rattle.latex2mathml_trees.specs.Print.{print, prints, members_print, slashed_print, style_open}
 use Rattle.latex2mathml_trees.specs.Tree.{Tree, Trees, number, letter, operator, function, applied, space, subscript, superscript, sub_sup, over_op, under_op, overset, underset, under, under_over, root, sqrt, frac, row, fenced, stretched, other_operator, sized_paren, words, matrix, ampersand, new_line, slashed, style, undefined, no_trees, more_trees}
 use Rattle.latex2mathml_tokens.specs.declared.DisplayStyle.TheVariants.{Block, Inline}
@@ -41,8 +41,7 @@ module _ (strict : Bool) where
   -- a sign prints its close tag together with what follows
   sign_before : (n : Name) (j : ℕ) (attributes : List Attribute) (bs rest : List ℕ) → IsTrue (list_all is_attribute attributes) → End n (j + 1) rest → End n j (spell_event (open_tag (codes "mo") attributes) ++ (content bs ++ (codes "</mo>" ++ rest)))
   sign_before n j attributes bs rest valid end ks s h =
-      spelled_as (append_assoc (spell_event (open_tag (codes "mo") attributes)) _ rest ∙ ap (λ l. spell_event (open_tag (codes "mo") attributes) ++ l) (append_assoc (content bs) (codes "</mo>") rest))
-      (before n j 1 _ rest (sign strict attributes valid bs) end ks s h)
+      spelled_as (simp append_assoc) (before n j 1 _ rest (sign strict attributes valid bs) end ks s h)
 
   -- an element that may hold any elements
   within : (n : Name) (attributes : List Attribute) (k : ℕ) (a : List ℕ) → IsTrue (is_event (open_tag n attributes)) → IsTrue (is_name n) → ((parent : Option Name) (ks : List Name) → IsTrue (child_table parent n ks false)) → AreElements strict k a → AreElements strict 1 (spell_event (open_tag n attributes) ++ (a ++ spell_event (close_tag n)))
@@ -71,11 +70,8 @@ module _ (strict : Bool) where
   fraction Thick a b x y = two (codes "mfrac") (attribute (codes "linethickness") (map plain (codes "thick")) ∷ []) a b refl (refl, λ parent. exactly 2) x y
   fraction (Length l) a b x y =
       let v = plain_decimal l in
-      respelled (ap (λ w. codes "<mfrac linethickness=\"" ++ w) (reach v.parts (decimal l) _ v.spelled))
-      (two (codes "mfrac") (attribute (codes "linethickness") v.parts ∷ []) a b (ap (λ b. b && true) v.are_parts) (refl, λ parent. exactly 2) x y)
-    where
-      reach : (u : List Part) (v rest : List ℕ) → flat_map spell_part u ≡ v → (((flat_map spell_part u ++ codes "\"") ++ []) ++ codes ">") ++ rest ≡ (v ++ codes "\"") ++ (codes ">" ++ rest)
-      reach u v rest e = simp (append_assoc, append-nil, e)
+      respelled (two (codes "mfrac") (attribute (codes "linethickness") v.parts ∷ []) a b (ap (λ b. b && true) v.are_parts) (refl, λ parent. exactly 2) x y)
+      (simp (append_assoc, append-nil, v.spelled))
 
   abbrev fence : List ℕ → List Attribute
   fence form = attribute (codes "stretchy") (map plain (codes "true")) ∷ attribute (codes "form") (map plain form) ∷ []
@@ -90,12 +86,9 @@ module _ (strict : Bool) where
   sized : (z p : List ℕ) → AreElements strict 1 (codes "<mrow><mo maxsize=\"" ++ (value z ++ (codes "\" minsize=\"" ++ (value z ++ (codes "\">" ++ (content p ++ codes "</mo></mrow>"))))))
   sized z p =
       let v = escaped z in
-      respelled (ap (λ w. codes "<mrow><mo maxsize=\"" ++ w) (reach v.parts (value z) _ v.spelled))
-      (tagged strict (codes "mrow") [] refl
+      respelled (tagged strict (codes "mrow") [] refl
       (λ s. sign_before (codes "mrow") 0 (attribute (codes "maxsize") v.parts ∷ attribute (codes "minsize") v.parts ∷ []) p (codes "</mrow>") (ap (λ b. b && (b && true)) v.are_parts) (closed_after (codes "mrow") 1 refl (λ parent ks e. refl)) [] s (λ e. refl)))
-    where
-      reach : (u : List Part) (v rest : List ℕ) → flat_map spell_part u ≡ v → (((flat_map spell_part u ++ codes "\"") ++ (codes " minsize=\"" ++ ((flat_map spell_part u ++ codes "\"") ++ []))) ++ codes ">") ++ rest ≡ v ++ (codes "\" minsize=\"" ++ (v ++ (codes "\">" ++ rest)))
-      reach u v rest e = simp (append_assoc, append-nil, e)
+      (simp (append_assoc, append-nil, v.spelled))
 
   slashed_elements : (x : Tree) → AreElements strict 1 (print x) → AreElements strict 1 (slashed_print x (print x))
   slashed_elements (letter c v) g = leaves.slashed_letter strict c v
@@ -114,8 +107,7 @@ module _ (strict : Bool) where
     elements (operator c) h = leaves.operator_is_element strict c
     elements (function name) h = identifier strict name
     elements (applied name x) h =
-        let r = both (identifier strict name) (both (application strict) (elements x (λ e. absurd (h e)))) in
-        let whole = respelled (ap (λ l. codes "<mi>" ++ l) (append_assoc (content name) (codes "</mi>") (codes "<mo>&#x2061;</mo>" ++ print x))) r in
+        let whole = respelled (both (identifier strict name) (both (application strict) (elements x (λ e. absurd (h e))))) (simp append_assoc) in
         record { names = whole.names; counted = λ e. absurd (h e); leads = whole.leads }
     elements (space width) h = leaves.space_is_element strict width
     elements (subscript a b) h = two (codes "msub") [] _ _ refl (refl, λ parent. exactly 2) (elements a (λ e. (h e).0)) (elements b (λ e. (h e).1))
