@@ -1,18 +1,18 @@
 -- Equality of attributes, tokens and refusals is decidable.
-use Rattle.std.specs.Prelude.{◌≡◌, ℕ, zero, suc, Bool, Option, refl}
-use Rattle.std.proofs.Common.{sym, ap, ◌∙◌}
-use mathlib.Core.HLevel.{Discrete}
+use Rattle.std.specs.Prelude.{Bool, Option, refl}
+use mathlib.Core.HLevel.{Discrete, ×_discrete}
 use mathlib.Core.List.{List-discrete}
+use mathlib.Core.Sum as Sum
 use native.Mathlib.Decide.{ℕ_discrete}
 use lib.IntN.{ℤ_discrete}
 use Rattle.latex2mathml_tokens.specs.{Refusal.Refusal, Refusal.Refusal-discrete, Same.bare, Same.optional, Same.same, Same.told_apart_by}
 use Rattle.latex2mathml_tokens.specs.{Tok.Tok, Tok.Tok-discrete, declared.DisplayStyle.DisplayStyle}
 use Rattle.latex2mathml_tokens.specs.{declared.attribute.Variant.Variant, declared.attribute.Accent.Accent}
 use Rattle.latex2mathml_tokens.specs.{declared.attribute.LineThickness.LineThickness, declared.attribute.ColumnAlign.ColumnAlign}
-use Rattle.latex2mathml_tokens.specs.declared.attribute.LineThickness.TheVariants.{Thin, Medium, Thick, Length}
 use Rattle.latex2mathml_tokens.specs.contracts.DisplayStyle as display
 use Rattle.latex2mathml_tokens.specs.contracts.attribute.Accent as accent
 use Rattle.latex2mathml_tokens.specs.contracts.attribute.ColumnAlign as align
+use Rattle.latex2mathml_tokens.specs.contracts.attribute.LineThickness as thickness
 use Rattle.latex2mathml_tokens.specs.contracts.attribute.Variant as variant
 
 pub variant-discrete : Discrete Variant
@@ -21,28 +21,13 @@ variant-discrete = bare variant.the_type tt
 pub accent-discrete : Discrete Accent
 accent-discrete = bare accent.the_type tt
 
--- A thickness that is a length comes after the others.
-thickness_number : LineThickness → ℕ
-thickness_number Thin = 0
-thickness_number Medium = 1
-thickness_number Thick = 2
-thickness_number (Length length) = suc (suc (suc length))
-
-thickness_at : ℕ → LineThickness
-thickness_at zero = Thin
-thickness_at (suc zero) = Medium
-thickness_at (suc (suc zero)) = Thick
-thickness_at (suc (suc (suc length))) = Length length
-
-thickness_at-thickness_number : (thickness : LineThickness) → thickness_at (thickness_number thickness) ≡ thickness
-unfolding thickness_at thickness_number
-thickness_at-thickness_number Thin = refl
-thickness_at-thickness_number Medium = refl
-thickness_at-thickness_number Thick = refl
-thickness_at-thickness_number (Length length) = refl
+-- a thickness has no field, or it is a length
+none : Discrete (Unit {0})
+none x y = yes refl
 
 pub thickness-discrete : Discrete LineThickness
-thickness-discrete = told_apart_by thickness_number (λ x y e. sym (thickness_at-thickness_number x) ∙ ap thickness_at e ∙ thickness_at-thickness_number y) ℕ_discrete
+thickness-discrete =
+    told_apart_by thickness.the_type.to thickness.the_type.to_one (Sum.discrete none (Sum.discrete none (Sum.discrete none (Sum.discrete (×_discrete ℕ_discrete none) (λ x. absurd x)))))
 
 pub align-discrete : Discrete ColumnAlign
 align-discrete = bare align.the_type tt
