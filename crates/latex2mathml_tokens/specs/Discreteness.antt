@@ -21,13 +21,15 @@ variant-discrete = bare variant.the_type tt
 pub accent-discrete : Discrete Accent
 accent-discrete = bare accent.the_type tt
 
--- a thickness has no field, or it is a length
-none : Discrete (Unit {0})
-none x y = yes refl
+no_field : Discrete (Unit {0})
+no_field x y = yes refl
 
+-- a thickness is one of three without a field, or it is a length
 pub thickness-discrete : Discrete LineThickness
 thickness-discrete =
-    told_apart_by thickness.the_type.to thickness.the_type.to_one (Sum.discrete none (Sum.discrete none (Sum.discrete none (Sum.discrete (×_discrete ℕ_discrete none) (λ x. absurd x)))))
+    let lengths = Sum.discrete (×_discrete ℕ_discrete no_field) (λ x. absurd x) in
+    let thicknesses = Sum.discrete no_field (Sum.discrete no_field (Sum.discrete no_field lengths)) in
+    told_apart_by thickness.the_type.to thickness.the_type.to_one thicknesses
 
 pub align-discrete : Discrete ColumnAlign
 align-discrete = bare align.the_type tt

@@ -23,9 +23,9 @@ is_yes-Decides (no q) = (λ h. absurd (false≢true h), λ p. absurd (q p))
 pub same_laws : {A K : Type 0} (decide : Discrete A) (f : K → A) → IsPartialEquivalence (λ a b. same decide (f a) (f b))
 same_laws decide f = on_per f (partial_equiv_from_equiv (decided (same decide) (λ x y. is_yes-Decides (decide x y))))
 
--- equality is decidable where each value has a number, and no other value has the same one
-pub told_apart_by : {A B : Type 0} (number : A → B) → ((x y : A) → number x ≡ number y → x ≡ y) → Discrete B → Discrete A
-told_apart_by number one decide x y = map_dec (one x y) (ap number) (decide (number x) (number y))
+-- equality is decidable where it is decidable for the images of a map that is one to one
+pub told_apart_by : {A B : Type 0} (f : A → B) → ((x y : A) → f x ≡ f y → x ≡ y) → Discrete B → Discrete A
+told_apart_by f one decide x y = map_dec (one x y) (ap f) (decide (f x) (f y))
 
 -- an enum without fields is told apart by the place of its variant
 pub bare : (D : Declared) → Bare D.parts → Discrete D.D
