@@ -2,7 +2,7 @@
 use Rattle.std.proofs.Common.{◌≡◌, ◌≢◌, ℕ, true, ◌+◌, ◌<◌, List, ◌++◌, map, get_or, length, sym, ap, ◌∙◌, append-nil, arith, take-append-drop}
 use Rattle.std.specs.declared.cmp.Ordering.TheVariants.{Less}
 use Rattle.std.specs.{Cmp.Lexicographic.slice_cmp, Ordering.nat_cmp}
-use Rattle.std.proofs.lemmas.{List.get_or-append-add, List.length-append, List.length-map, List.map-append, List.Sums.AllPass-from_list_all}
+use Rattle.std.proofs.lemmas.{List.get_or-append-add, List.length-append, List.length-map, List.map-append}
 use Rattle.std.proofs.Math.Seq.{drop-append-add, take-append-add}
 use Rattle.latex2mathml_tokens.specs.{Commands.command_entries, Commands.entry_token, Entries.entry_of, Ordered.ascending}
 use Rattle.latex2mathml_tokens.specs.{Entries.entries_from_l, Entries.entries_up_to_k, Entries.up_to_k, declared.token.table.Entry.Entry}
@@ -29,8 +29,6 @@ first_ascends first e = rw e (ascending-take up_to_k command_entries ascending-c
 
 pub last_ascends : (last : List Entry) → IsLast last → ascending (map entry_of last) ≡ true
 last_ascends last e = rw e (ascending-drop up_to_k command_entries ascending-command_entries)
-
-pub ruleset halves = (first_is_small, last_is_small, last_has_some, first_ascends, last_ascends, AllPass-from_list_all)
 
 module _ (first last : List Entry) (name : List ℕ) (d : Entry) (e : IsFirst first) (f : IsLast last) where
   whole : map entry_of (first ++ last) ≡ command_entries

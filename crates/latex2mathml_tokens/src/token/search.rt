@@ -33,7 +33,6 @@ pub(crate) fn look_up(name: &str) -> (Option<Lexeme<'static>>, u64)
 }
 
 /// Returns the half of the table that has an entry with this name, if there is one.
-#[tactic(auto, using(crate::proofs::Halves::halves))]
 fn half(key: u64, name: &str, comparisons: &mut u64) -> &'static [Entry]
     requires room { comparisons.old + 1 < 2 ^ 64 }
     requires key { IsTrue (is_key key name.now) }

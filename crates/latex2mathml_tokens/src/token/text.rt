@@ -33,7 +33,6 @@ struct Quoted<'a>(&'a str);
 impl fmt::Display for Quoted<'_> {
     ghost output = { λ text. Some (quoted text.0.now) };
 
-    #[tactic(auto, using(crate::proofs::Escapes::one_more))]
     fn fmt<W: fmt::Write>(&self, f: &mut fmt::Formatter<W>) -> fmt::Result {
         let text = self.0;
         // The contract of this call says that the text is UTF-8, which the proof of the loop needs.
