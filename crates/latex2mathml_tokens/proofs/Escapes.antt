@@ -2,8 +2,8 @@
 use Rattle.std.proofs.Common.{◌≡◌, ◌≢◌, ℕ, suc, ◌<◌, List, [], ◌∷◌, ◌++◌, length, get_or, refl, sym, ap, ◌∙◌, arith, append-nil, encode_utf8, map, map-id}
 use Rattle.std.specs.List.{flat_map}
 use Rattle.std.specs.Str.{IsUtf8, NoCharPasses, chars, encode_utf8_all}
-use Rattle.std.proofs.{lemmas.Bool.Decides.nat_tests, lemmas.Grind.flat_map-append, lemmas.Grind.put_two, lemmas.List.Concat.flat_map_single}
-use Rattle.std.proofs.lemmas.Str.{NoCharPasses-byte, encodes-append, encodes-chars, inside_one}
+use Rattle.std.proofs.{lemmas.Bool.Decides.nat_tests, lemmas.Grind.flat_map-append, lemmas.List.Concat.flat_map_single}
+use Rattle.std.proofs.lemmas.Str.{NoCharPasses-byte, encodes-chars, inside_one}
 use Rattle.latex2mathml_tokens.specs.Escape.{content, content_byte, is_escaped, quoted_byte, value, value_byte}
 
 -- f and g agree on a list if they agree on each byte of it
@@ -48,6 +48,3 @@ all_yielded cs bs utf8 yielded = ap encode_utf8_all (sym (map-id cs) ∙ yielded
 
 pub content-append : (xs ys : List ℕ) → content (xs ++ ys) ≡ content xs ++ content ys
 content-append xs ys = flat_map-append content_byte xs ys
-
--- what one more character adds to what is written
-pub ruleset one_more = (encodes-append, flat_map-append, append-nil, put_two)

@@ -18,7 +18,6 @@ pub fn write_undefined<W: fmt::Write>(text: &str, f: &mut fmt::Formatter<W>) -> 
 }
 
 /// Writes what is between the quotation marks of a text in quotes, as contents.
-#[tactic(auto, using(latex2mathml_tokens::proofs::Escapes::one_more))]
 fn write_quoted<W: fmt::Write>(text: &str, f: &mut fmt::Formatter<W>) -> fmt::Result
     ensures { WritesOnOk W.write_str_gives f.old result
         (content (flat_map quoted_byte text.now)) f.new }
@@ -58,7 +57,6 @@ pub(crate) fn needs_escape(c: char) -> bool
 }
 
 /// Writes a text as contents, character by character.
-#[tactic(auto, using(latex2mathml_tokens::proofs::Escapes::one_more))]
 pub(crate) fn write_escaped<W: fmt::Write>(text: &str, f: &mut fmt::Formatter<W>) -> fmt::Result
     ensures { WritesOnOk W.write_str_gives f.old result (content text.now) f.new }
 {
@@ -83,7 +81,6 @@ pub fn write_content_char<W: fmt::Write>(c: char, f: &mut fmt::Formatter<W>) -> 
 }
 
 /// Writes a text as the value of an attribute.
-#[tactic(auto, using(latex2mathml_tokens::proofs::Escapes::one_more))]
 pub fn write_value<W: fmt::Write>(text: &str, f: &mut fmt::Formatter<W>) -> fmt::Result
     ensures { WritesOnOk W.write_str_gives f.old result (value text.now) f.new }
 {
