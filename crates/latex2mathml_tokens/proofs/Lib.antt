@@ -1,3 +1,4 @@
+pub mod Encoding
 pub mod Escapes
 pub mod Halves
 pub mod Keys

@@ -29,6 +29,7 @@ pub enum Paren {
 
 impl Paren {
     /// Returns the text, such as `(`.
+    #[tactic(auto, unfolding(crate::proofs::Encoding::encode_utf8))]
     pub fn text(self) -> &'static str
         ensures { result.now ≡ paren_text self }
     {
@@ -138,6 +139,7 @@ pub enum FunctionName {
 
 impl FunctionName {
     /// Returns the name, such as `arccos`.
+    #[tactic(auto, unfolding(crate::proofs::Encoding::encode_utf8))]
     pub fn text(self) -> &'static str
         ensures { result.now ≡ function_text self }
     {

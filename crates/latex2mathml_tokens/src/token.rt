@@ -107,6 +107,7 @@ impl Token {
 
     /// Does the same as [`Token::from_command`], and sets `compared` to the number of names of the command table that were
     /// compared, even for an `Err`.
+    #[tactic(auto, using(crate::proofs::Order::no_text))]
     pub fn from_command_counted(
         alloc: Global,
         command: &str,

@@ -45,14 +45,9 @@ module _ (strict : Bool) where
       record { ks' = q.ks'; cs' = q.cs'; rs' = q.rs'; cells = q.cells; rows = q.rows; leads = joined p.leads q.leads }
 
   pub one_member : (x : Tree) → AreElements strict 1 (print x) → AreMembers strict (member_print x (print x))
-  one_member new_line g ks cs rs s h i = record {
-    ks' = [];
-    cs' = [];
-    rs' = codes "mtr" ∷ rs;
-    cells = refl;
-    rows = i;
-    leads = joined (close_cell ks cs rs s) (joined (close_row cs rs s h) (joined (opened (schema_of strict) (codes "mtr") _ refl) (opened (schema_of strict) (codes "mtd") _ refl)));
-  }
+  one_member new_line g ks cs rs s h i =
+      let opens = joined (opened (schema_of strict) (codes "mtr") _ refl) (opened (schema_of strict) (codes "mtd") _ refl) in
+      record { ks' = []; cs' = []; rs' = codes "mtr" ∷ rs; cells = refl; rows = i; leads = joined (close_cell ks cs rs s) (joined (close_row cs rs s h) opens) }
   one_member ampersand g ks cs rs s h i = record { ks' = []; cs' = codes "mtd" ∷ cs; rs' = rs; cells = h; rows = i; leads = joined (close_cell ks cs rs s) (opened (schema_of strict) (codes "mtd") _ refl) }
   one_member x g ks cs rs s h i = record { ks' = g.names ++ ks; cs' = cs; rs' = rs; cells = h; rows = i; leads = ending_as (more-above g.names ks (codes "mtd") false _) (g.leads (in_cell ks cs rs s)) }
 

@@ -1,11 +1,11 @@
 -- The print of a tree is elements one after another. Where no function in it has an argument, it is one element that obeys
 -- the child table.
-use Rattle.std.proofs.Common.{◌≡◌, ℕ, ◌+◌, ◌==◌, Bool, true, false, ◌&&◌, IsTrue, List, [], ◌∷◌, ◌++◌, length, Option, Some, None, refl, sym, ap, ◌∙◌, append_assoc, append-nil, length-append, arith, codes, map}
-use Rattle.std.specs.{Char.encode_utf8, Fmt.decimal, List.flat_map, List.list_all}
+use Rattle.std.proofs.Common.{◌≡◌, ℕ, ◌+◌, ◌==◌, Bool, true, false, ◌&&◌, IsTrue, List, [], ◌∷◌, ◌++◌, length, Option, Some, None, refl, sym, ap, append_assoc, append-nil, length-append, arith, codes, map}
+use Rattle.std.specs.{Char.encode_utf8, List.list_all}
 use Rattle.latex2mathml_trees.specs.{Arguments.HasNoArgument, Arguments.HaveNoArgument, MathSchema.IsOneElement, MathSchema.child_table}
 use Rattle.latex2mathml_tokens.specs.{Attributes.accent_text, Attributes.thickness_text, declared.DisplayStyle.DisplayStyle}
 use Rattle.latex2mathml_tokens.specs.Escape.{content, content_char, quoted, value}
-use Rattle.latex2mathml_trees.specs.Markup.{Name, Part, plain, Attribute, attribute, open_tag, close_tag, OpenElements, above, at_start, name_of, Runs, IsBalanced, is_name, is_attribute, is_event, spell_event, spell_part}
+use Rattle.latex2mathml_trees.specs.Markup.{Name, plain, Attribute, attribute, open_tag, close_tag, OpenElements, above, at_start, name_of, Runs, IsBalanced, is_name, is_attribute, is_event, spell_event}
 use Rattle.latex2mathml_trees.specs.Print.{print, prints, members_print, slashed_print, style_open}
 use Rattle.latex2mathml_trees.specs.Tree.{Tree, Trees, number, letter, operator, function, applied, space, subscript, superscript, sub_sup, over_op, under_op, overset, underset, under, under_over, root, sqrt, frac, row, fenced, stretched, other_operator, sized_paren, words, matrix, ampersand, new_line, slashed, style, undefined, no_trees, more_trees}
 use Rattle.latex2mathml_tokens.specs.declared.DisplayStyle.TheVariants.{Block, Inline}
@@ -41,8 +41,7 @@ module _ (strict : Bool) where
   -- a sign prints its close tag together with what follows
   sign_before : (n : Name) (j : ℕ) (attributes : List Attribute) (bs rest : List ℕ) → IsTrue (list_all is_attribute attributes) → End n (j + 1) rest → End n j (spell_event (open_tag (codes "mo") attributes) ++ (content bs ++ (codes "</mo>" ++ rest)))
   sign_before n j attributes bs rest valid end ks s h =
-      spelled_as (append_assoc (spell_event (open_tag (codes "mo") attributes)) _ rest ∙ ap (λ l. spell_event (open_tag (codes "mo") attributes) ++ l) (append_assoc (content bs) (codes "</mo>") rest))
-      (before n j 1 _ rest (sign strict attributes valid bs) end ks s h)
+      spelled_as (simp append_assoc) (before n j 1 _ rest (sign strict attributes valid bs) end ks s h)
 
   -- an element that may hold any elements
   within : (n : Name) (attributes : List Attribute) (k : ℕ) (a : List ℕ) → IsTrue (is_event (open_tag n attributes)) → IsTrue (is_name n) → ((parent : Option Name) (ks : List Name) → IsTrue (child_table parent n ks false)) → AreElements strict k a → AreElements strict 1 (spell_event (open_tag n attributes) ++ (a ++ spell_event (close_tag n)))
@@ -55,11 +54,8 @@ module _ (strict : Bool) where
   exactly : (count : ℕ) (ks : List Name) → length ks ≡ count → (length ks == count && true) ≡ (count == count && true)
   exactly count ks e = ap (λ l. l == count && true) e
 
-  two_end : (n : Name) (a b : List ℕ) → Holds n 2 → AreElements strict 1 a → AreElements strict 1 b → (s : OpenElements) → Runs (schema_of strict) (a ++ (b ++ spell_event (close_tag n))) (above n [] false s) s
-  two_end n a b holds x y s = before n 0 1 a _ x (before n 1 1 b _ y (closed_after n 2 holds.0 holds.1)) [] s (λ e. refl)
-
-  two : (n : Name) (a b : List ℕ) → Holds n 2 → AreElements strict 1 a → AreElements strict 1 b → AreElements strict 1 (spell_event (open_tag n []) ++ (a ++ (b ++ spell_event (close_tag n))))
-  two n a b holds x y = tagged strict n [] (ap (λ b. b && true) holds.0) (two_end n a b holds x y)
+  two : (n : Name) (attributes : List Attribute) (a b : List ℕ) → IsTrue (is_event (open_tag n attributes)) → Holds n 2 → AreElements strict 1 a → AreElements strict 1 b → AreElements strict 1 (spell_event (open_tag n attributes) ++ (a ++ (b ++ spell_event (close_tag n))))
+  two n attributes a b valid holds x y = tagged strict n attributes valid (λ s. before n 0 1 a _ x (before n 1 1 b _ y (closed_after n 2 holds.0 holds.1)) [] s (λ e. refl))
 
   three : (n : Name) (a b c : List ℕ) → Holds n 3 → AreElements strict 1 a → AreElements strict 1 b → AreElements strict 1 c → AreElements strict 1 (spell_event (open_tag n []) ++ (a ++ (b ++ (c ++ spell_event (close_tag n)))))
   three n a b c holds x y z = tagged strict n [] (ap (λ b. b && true) holds.0) (λ s. before n 0 1 a _ x (before n 1 1 b _ y (before n 2 1 c _ z (closed_after n 3 holds.0 holds.1))) [] s (λ e. refl))
@@ -69,16 +65,13 @@ module _ (strict : Bool) where
   accented n holds c accent.False a x = tagged strict n [] (ap (λ b. b && true) holds.0) (λ s. before n 0 1 a _ x (sign_before n 1 (attribute (codes "accent") (map plain (codes "false")) ∷ []) (encode_utf8 c) _ refl (closed_after n 2 holds.0 holds.1)) [] s (λ e. refl))
 
   fraction : (t : LineThickness) (a b : List ℕ) → AreElements strict 1 a → AreElements strict 1 b → AreElements strict 1 (codes "<mfrac" ++ (thickness_text t ++ (codes ">" ++ (a ++ (b ++ codes "</mfrac>")))))
-  fraction Thin a b x y = tagged strict (codes "mfrac") (attribute (codes "linethickness") (map plain (codes "thin")) ∷ []) refl (two_end (codes "mfrac") a b (refl, λ parent. exactly 2) x y)
-  fraction Medium a b x y = two (codes "mfrac") a b (refl, λ parent. exactly 2) x y
-  fraction Thick a b x y = tagged strict (codes "mfrac") (attribute (codes "linethickness") (map plain (codes "thick")) ∷ []) refl (two_end (codes "mfrac") a b (refl, λ parent. exactly 2) x y)
+  fraction Thin a b x y = two (codes "mfrac") (attribute (codes "linethickness") (map plain (codes "thin")) ∷ []) a b refl (refl, λ parent. exactly 2) x y
+  fraction Medium a b x y = two (codes "mfrac") [] a b refl (refl, λ parent. exactly 2) x y
+  fraction Thick a b x y = two (codes "mfrac") (attribute (codes "linethickness") (map plain (codes "thick")) ∷ []) a b refl (refl, λ parent. exactly 2) x y
   fraction (Length l) a b x y =
       let v = plain_decimal l in
-      respelled (ap (λ w. codes "<mfrac linethickness=\"" ++ w) (reach v.parts (decimal l) _ v.spelled))
-      (tagged strict (codes "mfrac") (attribute (codes "linethickness") v.parts ∷ []) (ap (λ b. b && true) v.are_parts) (two_end (codes "mfrac") a b (refl, λ parent. exactly 2) x y))
-    where
-      reach : (u : List Part) (v rest : List ℕ) → flat_map spell_part u ≡ v → (((flat_map spell_part u ++ codes "\"") ++ []) ++ codes ">") ++ rest ≡ (v ++ codes "\"") ++ (codes ">" ++ rest)
-      reach u v rest e = simp (append_assoc, append-nil, e)
+      respelled (two (codes "mfrac") (attribute (codes "linethickness") v.parts ∷ []) a b (ap (λ b. b && true) v.are_parts) (refl, λ parent. exactly 2) x y)
+      (simp (append_assoc, append-nil, v.spelled))
 
   abbrev fence : List ℕ → List Attribute
   fence form = attribute (codes "stretchy") (map plain (codes "true")) ∷ attribute (codes "form") (map plain form) ∷ []
@@ -93,12 +86,9 @@ module _ (strict : Bool) where
   sized : (z p : List ℕ) → AreElements strict 1 (codes "<mrow><mo maxsize=\"" ++ (value z ++ (codes "\" minsize=\"" ++ (value z ++ (codes "\">" ++ (content p ++ codes "</mo></mrow>"))))))
   sized z p =
       let v = escaped z in
-      respelled (ap (λ w. codes "<mrow><mo maxsize=\"" ++ w) (reach v.parts (value z) _ v.spelled))
-      (tagged strict (codes "mrow") [] refl
+      respelled (tagged strict (codes "mrow") [] refl
       (λ s. sign_before (codes "mrow") 0 (attribute (codes "maxsize") v.parts ∷ attribute (codes "minsize") v.parts ∷ []) p (codes "</mrow>") (ap (λ b. b && (b && true)) v.are_parts) (closed_after (codes "mrow") 1 refl (λ parent ks e. refl)) [] s (λ e. refl)))
-    where
-      reach : (u : List Part) (v rest : List ℕ) → flat_map spell_part u ≡ v → (((flat_map spell_part u ++ codes "\"") ++ (codes " minsize=\"" ++ ((flat_map spell_part u ++ codes "\"") ++ []))) ++ codes ">") ++ rest ≡ v ++ (codes "\" minsize=\"" ++ (v ++ (codes "\">" ++ rest)))
-      reach u v rest e = simp (append_assoc, append-nil, e)
+      (simp (append_assoc, append-nil, v.spelled))
 
   slashed_elements : (x : Tree) → AreElements strict 1 (print x) → AreElements strict 1 (slashed_print x (print x))
   slashed_elements (letter c v) g = leaves.slashed_letter strict c v
@@ -117,20 +107,19 @@ module _ (strict : Bool) where
     elements (operator c) h = leaves.operator_is_element strict c
     elements (function name) h = identifier strict name
     elements (applied name x) h =
-        let r = both (identifier strict name) (both (application strict) (elements x (λ e. absurd (h e)))) in
-        let whole = respelled (ap (λ l. codes "<mi>" ++ l) (append_assoc (content name) (codes "</mi>") (codes "<mo>&#x2061;</mo>" ++ print x))) r in
+        let whole = respelled (both (identifier strict name) (both (application strict) (elements x (λ e. absurd (h e))))) (simp append_assoc) in
         record { names = whole.names; counted = λ e. absurd (h e); leads = whole.leads }
     elements (space width) h = leaves.space_is_element strict width
-    elements (subscript a b) h = two (codes "msub") _ _ (refl, λ parent. exactly 2) (elements a (λ e. (h e).0)) (elements b (λ e. (h e).1))
-    elements (superscript a b) h = two (codes "msup") _ _ (refl, λ parent. exactly 2) (elements a (λ e. (h e).0)) (elements b (λ e. (h e).1))
+    elements (subscript a b) h = two (codes "msub") [] _ _ refl (refl, λ parent. exactly 2) (elements a (λ e. (h e).0)) (elements b (λ e. (h e).1))
+    elements (superscript a b) h = two (codes "msup") [] _ _ refl (refl, λ parent. exactly 2) (elements a (λ e. (h e).0)) (elements b (λ e. (h e).1))
     elements (sub_sup a b c) h = three (codes "msubsup") _ _ _ (refl, λ parent. exactly 3) (elements a (λ e. (h e).0)) (elements b (λ e. (h e).1)) (elements c (λ e. (h e).2))
     elements (over_op c k x) h = accented (codes "mover") (refl, λ parent. exactly 2) c k _ (elements x h)
     elements (under_op c k x) h = accented (codes "munder") (refl, λ parent. exactly 2) c k _ (elements x h)
-    elements (overset a b) h = two (codes "mover") _ _ (refl, λ parent. exactly 2) (elements b (λ e. (h e).1)) (elements a (λ e. (h e).0))
-    elements (underset a b) h = two (codes "munder") _ _ (refl, λ parent. exactly 2) (elements b (λ e. (h e).1)) (elements a (λ e. (h e).0))
-    elements (under a b) h = two (codes "munder") _ _ (refl, λ parent. exactly 2) (elements a (λ e. (h e).0)) (elements b (λ e. (h e).1))
+    elements (overset a b) h = two (codes "mover") [] _ _ refl (refl, λ parent. exactly 2) (elements b (λ e. (h e).1)) (elements a (λ e. (h e).0))
+    elements (underset a b) h = two (codes "munder") [] _ _ refl (refl, λ parent. exactly 2) (elements b (λ e. (h e).1)) (elements a (λ e. (h e).0))
+    elements (under a b) h = two (codes "munder") [] _ _ refl (refl, λ parent. exactly 2) (elements a (λ e. (h e).0)) (elements b (λ e. (h e).1))
     elements (under_over a b c) h = three (codes "munderover") _ _ _ (refl, λ parent. exactly 3) (elements a (λ e. (h e).0)) (elements b (λ e. (h e).1)) (elements c (λ e. (h e).2))
-    elements (root d x) h = two (codes "mroot") _ _ (refl, λ parent. exactly 2) (elements x (λ e. (h e).1)) (elements d (λ e. (h e).0))
+    elements (root d x) h = two (codes "mroot") [] _ _ refl (refl, λ parent. exactly 2) (elements x (λ e. (h e).1)) (elements d (λ e. (h e).0))
     elements (sqrt x) h = within (codes "msqrt") [] 1 _ refl refl (λ parent ks. refl) (elements x h)
     elements (frac a b t) h = fraction t _ _ (elements a (λ e. (h e).0)) (elements b (λ e. (h e).1))
     elements (row members) h = let some = all_elements members h in within (codes "mrow") [] some.0 _ refl refl (λ parent ks. refl) some.1

@@ -3,7 +3,7 @@ use Rattle.std.proofs.Common.{◌≡◌, ℕ, ℤ, Bool, true, false, ◌&&◌, 
 use Rattle.std.specs.{Char.encode_utf8, List.list_all}
 use Rattle.std.proofs.lemmas.Grind.{flat_map-append}
 use Rattle.latex2mathml_tokens.specs.{Attributes.bool_text, Attributes.variant_text, declared.attribute.Variant.TheVariants.Italic}
-use Rattle.latex2mathml_tokens.specs.{Escape.content, Escape.content_byte, Escape.content_char, declared.attribute.Variant.Variant}
+use Rattle.latex2mathml_tokens.specs.{Escape.content, Escape.content_char, declared.attribute.Variant.Variant}
 use Rattle.latex2mathml_trees.specs.Markup.{Name, Reference, numbered, plain, Attribute, attribute, open_tag, close_tag, empty_tag, reference, OpenElements, above, add, name_of, any_element, Schema, Runs, is_name, is_attribute, is_reference, is_event, spell_event, spell_reference}
 use Rattle.latex2mathml_trees.specs.{MathSchema.child_table, Print.error_print, Print.letter_print, Print.operator_print, Width.width_text}
 use Rattle.latex2mathml_trees.proofs.Runs.{content_leads, joined, more, obeying, single, spelled_as}
@@ -24,8 +24,8 @@ pub record AreElements (strict : Bool) (count : ℕ) (bytes : List ℕ) : Type 0
   pub counted : IsTrue strict → length names ≡ count
   pub leads : (s : OpenElements) → Runs (schema_of strict) bytes s (more names s)
 
-pub respelled : {strict : Bool} {count : ℕ} {a b : List ℕ} → a ≡ b → AreElements strict count a → AreElements strict count b
-respelled e x = record { names = x.names; counted = x.counted; leads = λ s. spelled_as e (x.leads s) }
+pub respelled : {strict : Bool} {count : ℕ} {a b : List ℕ} → AreElements strict count a → a ≡ b → AreElements strict count b
+respelled x e = record { names = x.names; counted = x.counted; leads = λ s. spelled_as e (x.leads s) }
 
 module _ (strict : Bool) where
   pub closes : (n : Name) (ks : List Name) (d : Bool) (s : OpenElements) → IsTrue (is_name n) → (IsTrue strict → IsTrue (child_table (name_of s) n ks d)) → Runs (schema_of strict) (spell_event (close_tag n)) (above n ks d s) s
@@ -81,9 +81,7 @@ module _ (strict : Bool) where
   stretched_is_element false bs = sign (attribute (codes "stretchy") (map plain (codes "false")) ∷ []) refl bs
 
   pub error_is_element : (bs : List ℕ) → AreElements strict 1 (error_print bs)
-  error_is_element bs =
-      let e : content (codes "[PARSE ERROR: " ++ (bs ++ codes "]")) ≡ codes "[PARSE ERROR: " ++ (content bs ++ codes "]") = ap (λ l. codes "[PARSE ERROR: " ++ l) (flat_map-append content_byte bs (codes "]")) in
-      respelled (ap (λ l. codes "<mtext>" ++ (l ++ codes "</mtext>")) e ∙ ap (λ l. codes "<mtext>[PARSE ERROR: " ++ l) (append_assoc (content bs) (codes "]") (codes "</mtext>"))) (wording (codes "[PARSE ERROR: " ++ (bs ++ codes "]")))
+  error_is_element bs = respelled (wording (codes "[PARSE ERROR: " ++ (bs ++ codes "]"))) (simp (flat_map-append, append_assoc))
 
   pub space_is_element : (n : ℤ) → AreElements strict 1 (codes "<mspace width=\"" ++ (width_text n ++ codes "em\"/>"))
   space_is_element n =
@@ -91,12 +89,9 @@ module _ (strict : Bool) where
       record {
         names = codes "mspace" ∷ [];
         counted = λ h. refl;
-        leads = λ s. spelled_as (ap (λ l. codes "<mspace width=\"" ++ l) (reach _ _ width.spelled))
+        leads = λ s. spelled_as (simp (append_assoc, append-nil, width.spelled))
             (single (schema_of strict) (empty_tag (codes "mspace") (attribute (codes "width") width.parts ∷ [])) s (add (codes "mspace") s) (ap (λ b. b && true) width.are_parts) (ap (λ b. cond b (Some (add (codes "mspace") s)) None) (obeys strict (name_of s) (codes "mspace") [] false (λ h. refl))));
       }
-    where
-      reach : (u w : List ℕ) → u ≡ w ++ codes "em" → ((u ++ codes "\"") ++ []) ++ codes "/>" ≡ w ++ codes "em\"/>"
-      reach u w e = simp (append_assoc, append-nil, e)
 
   -- an element of text after a function's name represents its application
   pub application : AreElements strict 1 (codes "<mo>&#x2061;</mo>")

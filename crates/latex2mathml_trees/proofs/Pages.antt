@@ -1,10 +1,10 @@
 -- Markup on top of other markup: what runs alone runs wherever it is placed, so balanced markup stays balanced.
 use Rattle.std.proofs.Common.{◌≡◌, ℕ, Bool, true, false, not, ◌&&◌, ◌||◌, cond, IsTrue, List, [], ◌∷◌, ◌++◌, Option, Some, None, option_and_then, refl, ap, ◌∙◌, arith, codes}
-use Rattle.std.specs.{Str.bytes_eq, List.list_all}
+use Rattle.std.specs.{Str.bytes_eq, List.list_all, Option.option_or}
 use Rattle.std.proofs.{lemmas.Grind.common_steps, lemmas.Option.option_and_then_some}
 use Rattle.latex2mathml_trees.specs.Markup.{Name, Attribute, Event, open_tag, close_tag, OpenElements, lowest, above, at_start, add, mark, name_of, Schema, any_element, step, run, Runs, IsBalanced, spell_event, is_attribute, is_name}
 use Rattle.latex2mathml_trees.specs.MathSchema.{IsMathElement, child_table, holding, holding_table, holds, is_parent, may_be_in}
-use Rattle.latex2mathml_trees.specs.Pages.{IsPage, JoinsBalanced, JoinsMarkup, JoinsPages, is_in_table, page_schema, takes_math}
+use Rattle.latex2mathml_trees.specs.Pages.{IsPage, JoinsMarkup, is_in_table, page_schema, takes_math}
 use Rattle.latex2mathml_trees.proofs.Runs.{ending_as, joined, more, more-above, more-lowest, obeying, single, staying}
 
 -- levels on top of others: the lowest level becomes part of the highest of the others
@@ -26,14 +26,13 @@ name_with [] met base = grind arith
 name_with (name ∷ names) met base = grind (arith, add_marked, name_with names met base)
 
 -- what obeys one schema obeys the other on top of levels of this name
-record Fits (own other : Schema) (base : Option Name) : Type 0 where
-  pub outer : (name : Name) (children : List Name) (met : Bool) → IsTrue (own None name children met) → IsTrue (other base name children met)
-  pub inner : (parent : Name) (name : Name) (children : List Name) (met : Bool) → IsTrue (own (Some parent) name children met) → IsTrue (other (Some parent) name children met)
+abbrev Fits : Schema → Schema → Option Name → Type 0
+Fits own other base = (parent : Option Name) (name : Name) (children : List Name) (met : Bool) → IsTrue (own parent name children met) → IsTrue (other (option_or parent base) name children met)
 
 module _ (schema other : Schema) (base : OpenElements) (fits : Fits schema other (name_of base)) where
   obeys_onto : (s : OpenElements) (name : Name) (children : List Name) (met : Bool) → IsTrue (schema (name_of s) name children met) → IsTrue (other (name_of (onto base s)) name children met)
-  obeys_onto (lowest names has_text) name children met h = rw name_with (fits.outer name children met h)
-  obeys_onto (above parent names has_text below) name children met h = fits.inner parent name children met h
+  obeys_onto (lowest names has_text) name children met h = rw name_with (fits None name children met h)
+  obeys_onto (above parent names has_text below) name children met h = fits (Some parent) name children met h
 
   step_onto : (p : Event) (s t : OpenElements) → step schema p s ≡ Some t → step other p (onto base s) ≡ Some (onto base t)
   step_onto p s t e = grind (arith, common_steps, added, marked, obeys_onto)
@@ -45,10 +44,6 @@ module _ (schema other : Schema) (base : OpenElements) (fits : Fits schema other
 
   leads_onto : (bytes : List ℕ) (s t : OpenElements) → Runs schema bytes s t → Runs other bytes (onto base s) (onto base t)
   leads_onto bytes s t m = record { events = m.events; are_events = m.are_events; spelled = m.spelled; runs = run_onto m.events s t m.runs }
-
--- every schema fits the one that every element obeys
-any_fits : (schema : Schema) (base : Option Name) → Fits schema any_element base
-any_fits schema base = record { outer = λ name children met h. refl; inner = λ parent name children met h. refl }
 
 unmarked : (s : OpenElements) → mark false s ≡ s
 unmarked s = grind (arith, common_steps)
@@ -69,15 +64,10 @@ one_after_other schema markup other fits (names, (has_text, m)) (children, (met,
 within_element : (schema : Schema) (name : Name) (attributes : List Attribute) (markup : List ℕ) → Fits schema schema (Some name) → ((children : List Name) (met : Bool) → IsTrue (schema None name children met)) → IsTrue (is_name name) → IsTrue (list_all is_attribute attributes) → IsClosed schema markup → IsClosed schema (spell_event (open_tag name attributes) ++ (markup ++ spell_event (close_tag name)))
 within_element schema name attributes markup fits free valid valids (children, (met, m)) =
     let below : OpenElements = lowest (name ∷ []) false in
-    let on = adds_to schema schema (above name [] false below) markup children met fits m in (
-      name ∷ [],
-      (
-        false,
-        joined (single schema (open_tag name attributes) at_start (above name [] false below) (ap (λ b. b && list_all is_attribute attributes) valid ∙ valids) refl)
-            (joined (ending_as (ap (mark met) (more-above children [] name false below)) on)
-            (obeying schema name (children ++ []) met below valid (free (children ++ []) met))),
-      ),
-    )
+    let on = adds_to schema schema (above name [] false below) markup children met fits m in
+    let opens = single schema (open_tag name attributes) at_start (above name [] false below) (ap (λ b. b && list_all is_attribute attributes) valid ∙ valids) refl in
+    let closes = obeying schema name (children ++ []) met below valid (free (children ++ []) met) in
+    (name ∷ [], (false, joined opens (joined (ending_as (ap (mark met) (more-above children [] name false below)) on) closes)))
 
 -- The child table in a page. What the table says of an element that it names, a page says too: of a row, of a cell, of
 -- `math`, and of what it may hold.
@@ -85,12 +75,10 @@ in_page : (named fit row cell math r c m r' c' m' : Bool) → (IsTrue r → IsTr
 in_page named fit row cell math r c m r' c' m' i j k h = grind (arith, common_steps)
 
 table_fits : (base : Option Name) → IsTrue (takes_math base) → Fits child_table page_schema base
-table_fits base takes =
-    let page = λ (name : Name) (children : List Name) (met : Bool). in_page (is_in_table name) (holds (holding holding_table name) children met) (bytes_eq (codes "mtr") name) (bytes_eq (codes "mtd") name) (bytes_eq (codes "math") name) in
-    record {
-      outer = λ name children met h. page name children met false false true (is_parent (codes "mtable") base) (is_parent (codes "mtr") base) (takes_math base) (λ no. cc) (λ no. cc) (λ yes. takes) h;
-      inner = λ parent name children met h. page name children met (bytes_eq (codes "mtable") parent) (bytes_eq (codes "mtr") parent) false _ _ (takes_math (Some parent)) (λ row. row) (λ cell. cell) (λ no. cc) h;
-    }
+table_fits base takes None name children met h =
+    in_page (is_in_table name) (holds (holding holding_table name) children met) (bytes_eq (codes "mtr") name) (bytes_eq (codes "mtd") name) (bytes_eq (codes "math") name) false false true (is_parent (codes "mtable") base) (is_parent (codes "mtr") base) (takes_math base) (λ no. cc) (λ no. cc) (λ yes. takes) h
+table_fits base takes (Some parent) name children met h =
+    in_page (is_in_table name) (holds (holding holding_table name) children met) (bytes_eq (codes "mtr") name) (bytes_eq (codes "mtd") name) (bytes_eq (codes "math") name) (bytes_eq (codes "mtable") parent) (bytes_eq (codes "mtr") parent) false _ _ (takes_math (Some parent)) (λ row. row) (λ cell. cell) (λ no. cc) h
 
 -- a `math` element on top of any levels
 math_onto : (other : Schema) (base : OpenElements) (markup : List ℕ) → Fits child_table other (name_of base) → IsMathElement markup → Runs other markup base (add (codes "math") base)
@@ -99,40 +87,36 @@ math_onto other base markup fits m = ending_as (unmarked (add (codes "math") bas
 
 page_balanced : (markup : List ℕ) → IsPage markup → IsBalanced markup
 page_balanced markup (children, (met, m)) =
-    let on = adds_to page_schema any_element at_start markup children met (any_fits page_schema None) m in
+    let on = adds_to page_schema any_element at_start markup children met (λ parent child names met h. refl) m in
     (children ++ [], (met, ending_as (ap (mark met) (more-lowest children [] false)) on))
 
--- a page fits itself within an element that the table does not name
-page_within : (parent : Name) → IsTrue (not (is_in_table parent)) → Fits page_schema page_schema (Some parent)
-page_within parent free = record { outer = λ name children met h. grind (arith, common_steps); inner = λ above name children met h. h }
+-- a page fits itself where `math` may be
+page_fits : (base : Option Name) → IsTrue (takes_math base) → Fits page_schema page_schema base
+page_fits base takes (Some parent) name children met h = h
+page_fits None takes None name children met h = h
+page_fits (Some outer) takes None name children met h = grind (arith, common_steps)
 
 -- an element that the table does not name may hold anything
 holds_any : (named b : Bool) → IsTrue (not named) → IsTrue (cond named b true)
 holds_any named b free = grind (arith, common_steps)
 
 -- the laws
-joins_balanced : JoinsBalanced
-joins_balanced = record {
-  nothing = ([], (false, staying));
-  joined = λ markup other m n. one_after_other any_element markup other (any_fits any_element None) m n;
-  wrapped = λ name attributes markup valid valids m. within_element any_element name attributes markup (any_fits any_element (Some name)) (λ children met. refl) valid valids m;
-  page = page_balanced;
-  inserted = λ markup levels m. math_onto any_element levels markup (any_fits child_table (name_of levels)) m;
-}
-
-joins_pages : JoinsPages
-joins_pages = record {
-  nothing = ([], (false, staying));
-  joined = λ page other m n. one_after_other page_schema page other (record { outer = λ name children met h. h; inner = λ parent name children met h. h }) m n;
-  wrapped = λ name attributes page valid valids free m. within_element page_schema name attributes page (page_within name free) (λ children met. holds_any (is_in_table name) (may_be_in takes_math None name && holds (holding holding_table name) children met) free) valid valids m;
-  element = λ markup m. (codes "math" ∷ [], (false, math_onto page_schema at_start markup (table_fits None refl) m));
-  inserted = λ markup levels takes m. math_onto page_schema levels markup (table_fits (name_of levels) takes) m;
-}
-
 pub joins_markup : JoinsMarkup
 joins_markup = record {
   nowhere = λ schema levels. staying;
   onwards = λ schema markup other start middle end m n. joined m n;
-  balanced = joins_balanced;
-  pages = joins_pages;
+  balanced = record {
+    nothing = ([], (false, staying));
+    joined = λ markup other m n. one_after_other any_element markup other (λ parent child names met h. refl) m n;
+    wrapped = λ name attributes markup valid valids m. within_element any_element name attributes markup (λ parent child names met h. refl) (λ children met. refl) valid valids m;
+    page = page_balanced;
+    inserted = λ markup levels m. math_onto any_element levels markup (λ parent child names met h. refl) m;
+  };
+  pages = record {
+    nothing = ([], (false, staying));
+    joined = λ page other m n. one_after_other page_schema page other (page_fits None refl) m n;
+    wrapped = λ name attributes page valid valids free m. within_element page_schema name attributes page (page_fits (Some name) free) (λ children met. holds_any (is_in_table name) (may_be_in takes_math None name && holds (holding holding_table name) children met) free) valid valids m;
+    element = λ markup m. (codes "math" ∷ [], (false, math_onto page_schema at_start markup (table_fits None refl) m));
+    inserted = λ markup levels takes m. math_onto page_schema levels markup (table_fits (name_of levels) takes) m;
+  };
 }

@@ -1,12 +1,12 @@
 -- Texts that are values of attributes: any escaped text, and the texts of numbers and of widths as they are.
-use Rattle.std.proofs.Common.{◌≡◌, ℕ, zero, suc, ℤ, pos, negsuc, ◌+◌, ◌/◌, ◌%◌, ◌<◌, Bool, true, false, ◌&&◌, ◌==◌, IsTrue, List, [], ◌∷◌, ◌++◌, refl, ap, ◌∙◌, append-nil, arith, codes, cond, map, nat_eq}
+use Rattle.std.proofs.Common.{◌≡◌, ℕ, zero, suc, ℤ, pos, negsuc, ◌+◌, ◌/◌, ◌%◌, ◌<◌, Bool, true, false, ◌&&◌, ◌==◌, IsTrue, List, [], ◌∷◌, ◌++◌, refl, ap, ◌∙◌, append-nil, arith, codes, cond, map}
 use Rattle.std.specs.Fmt.{decimal, digits, digits_onto, digit_glyph}
 use Rattle.std.specs.List.{flat_map, list_all}
 use Rattle.std.proofs.{lemmas.Bool.Decides.nat_tests, lemmas.Grind.flat_map-append, lemmas.List.Folds.list_all-append, lemmas.List.Folds.list_all-map}
 use Rattle.latex2mathml_tokens.specs.Escape.{value}
 use Rattle.latex2mathml_trees.specs.Markup.{named, Part, refers, plain, is_part, spell_part}
 use Rattle.latex2mathml_trees.proofs.Runs.{plain-spells}
-use Rattle.latex2mathml_trees.specs.Width.{width_text, thousandths_text, after_point, trimmed, keep, three_digits, thousandths}
+use Rattle.latex2mathml_trees.specs.Width.{width_text, thousandths_text, thousandths}
 
 -- the text consists of parts, as a value does
 pub record IsValue (text : List ℕ) : Type 0 where
@@ -45,27 +45,23 @@ escaped (b ∷ bs) = beside (tested (b == 34) (b == 36) (b == 38) (b == 60) (b =
 
 -- Numbers and widths: what holds of each digit, and of a period and a minus sign, holds of each byte of them.
 module _ (passes : ℕ → Bool) (digit_passes : (d : ℕ) → d < 10 → IsTrue (passes (48 + d))) where
-  glyph_passes : (n : ℕ) → IsTrue (passes (digit_glyph false (n % 10)))
-  glyph_passes n = let h : n % 10 < 10 = omega arith in grind (arith, digit_passes (n % 10) h)
-
   onto_passes : (k n : ℕ) (acc : List ℕ) → IsTrue (list_all passes acc) → IsTrue (list_all passes (digits_onto k 10 false n acc))
   onto_passes zero n acc h = h
   onto_passes (suc k) n acc h =
-      let more : IsTrue (list_all passes (digit_glyph false (n % 10) ∷ acc)) = ap (λ b. b && list_all passes acc) (glyph_passes n) ∙ h in
-      grind (arith, more, onto_passes k (n / 10) (digit_glyph false (n % 10) ∷ acc) more)
+      let digit : n % 10 < 10 = omega arith in
+      grind (arith, digit_passes (n % 10) digit, onto_passes k (n / 10) (digit_glyph false (n % 10) ∷ acc))
 
   pub decimal_passes : (n : ℕ) → IsTrue (list_all passes (decimal n))
   unfolding digits
   decimal_passes n = onto_passes 64 n [] refl
 
-  point_passes : (a b c : ℕ) → IsTrue (passes 46) → IsTrue (passes a) → IsTrue (passes b) → IsTrue (passes c) → IsTrue (list_all passes (after_point (trimmed (a ∷ b ∷ c ∷ []))))
-  point_passes a b c point h i j = grind arith
-
   pub thousandths_pass : IsTrue (passes 46) → (t : ℕ) → IsTrue (list_all passes (thousandths_text t))
   thousandths_pass point t =
       let n = t % 1000 in
-      let tail = point_passes _ _ _ point (digit_passes (n / 100 % 10) (omega arith)) (digit_passes (n / 10 % 10) (omega arith)) (digit_passes (n % 10) (omega arith)) in
-      list_all-append passes (decimal (t / 1000)) _ ∙ ap (λ b. b && list_all passes (after_point (trimmed (three_digits n)))) (decimal_passes (t / 1000)) ∙ tail
+      let a = digit_passes (n / 100 % 10) (omega arith) in
+      let b = digit_passes (n / 10 % 10) (omega arith) in
+      let c = digit_passes (n % 10) (omega arith) in
+      grind (arith, list_all-append passes, decimal_passes (t / 1000))
 
   pub width_passes : IsTrue (passes 46) → IsTrue (passes 45) → (n : ℤ) → IsTrue (list_all passes (width_text n))
   width_passes point minus (pos n) = thousandths_pass point (thousandths n)

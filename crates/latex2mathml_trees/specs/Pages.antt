@@ -1,6 +1,6 @@
 -- Markup that is composed: balanced markup one after the other and in elements, and pages with `math` elements in them.
 use Rattle.std.specs.Prelude.{ℕ, Bool, true, not, ◌&&◌, IsTrue, List, [], ◌++◌, Option, Some, None, is_some, if◌then◌else◌, codes}
-use Rattle.std.specs.{Str.bytes_eq, List.list_all}
+use Rattle.std.specs.{List.list_all}
 use Rattle.latex2mathml_trees.specs.Markup.{Name, Attribute, OpenElements, Schema, Runs, IsBalanced, add, any_element, at_start, lowest, name_of, open_tag, close_tag, spell_event, is_attribute, is_name}
 use Rattle.latex2mathml_trees.specs.MathSchema.{IsMathElement, holding, holding_table, holds, may_be_in}
 

@@ -63,7 +63,7 @@ pub fn append_undefined(text: &str, out: &mut String) -> Result<(), AllocError>
 }
 
 /// Appends a character as contents to the text.
-#[tactic(auto, using(crate::proofs::Others::others))]
+#[tactic(auto, using(latex2mathml_tokens::proofs::Escapes::others))]
 pub fn append_content_char(c: char, text: &mut String) -> Result<(), AllocError>
     ensures { Appends text.old text.new (content_char c) result }
 {

@@ -28,7 +28,7 @@ fn write_quoted<W: fmt::Write>(text: &str, f: &mut fmt::Formatter<W>) -> fmt::Re
     Ok(())
 }
 
-#[tactic(auto, using(crate::proofs::Others::others))]
+#[tactic(auto, using(latex2mathml_tokens::proofs::Escapes::others))]
 fn write_quoted_char<W: fmt::Write>(c: char, f: &mut fmt::Formatter<W>) -> fmt::Result
     ensures { WritesOnOk W.write_str_gives f.old result
         (content (flat_map quoted_byte (encode_utf8 c))) f.new }
@@ -67,7 +67,7 @@ pub(crate) fn write_escaped<W: fmt::Write>(text: &str, f: &mut fmt::Formatter<W>
 }
 
 /// Writes a character as contents.
-#[tactic(auto, using(crate::proofs::Others::others))]
+#[tactic(auto, using(latex2mathml_tokens::proofs::Escapes::others))]
 pub fn write_content_char<W: fmt::Write>(c: char, f: &mut fmt::Formatter<W>) -> fmt::Result
     ensures { WritesOnOk W.write_str_gives f.old result (content_char c) f.new }
 {
@@ -90,7 +90,7 @@ pub fn write_value<W: fmt::Write>(text: &str, f: &mut fmt::Formatter<W>) -> fmt:
     Ok(())
 }
 
-#[tactic(auto, using(crate::proofs::Others::others))]
+#[tactic(auto, using(latex2mathml_tokens::proofs::Escapes::others))]
 fn write_value_char<W: fmt::Write>(c: char, f: &mut fmt::Formatter<W>) -> fmt::Result
     ensures { WritesOnOk W.write_str_gives f.old result (value (encode_utf8 c)) f.new }
 {

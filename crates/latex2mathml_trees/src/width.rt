@@ -26,6 +26,7 @@ fn thousandths_of(width: i32) -> u64
 }
 
 /// Writes a number of thousandths as a decimal fraction, without zeros at its end.
+#[tactic(auto, using(crate::proofs::Widths::digits_left))]
 fn write_thousandths<W: fmt::Write>(number: u64, f: &mut fmt::Formatter<W>) -> fmt::Result
     ensures { WritesOnOk W.write_str_gives f.old result (thousandths_text number) f.new }
 {

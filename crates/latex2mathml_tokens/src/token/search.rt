@@ -53,6 +53,7 @@ fn half(key: u64, name: &str, comparisons: &mut u64) -> &'static [Entry]
 /// Compares the name, which has this key, with the entry's name, and counts the comparison. Most names differ in their
 /// keys, and short names with the same key differ only in length. Nothing else in the look-up reads an entry's name or key.
 #[inline(always)]
+#[tactic(auto, using(crate::proofs::Keys::by_keys))]
 fn compare(key: u64, name: &str, entry: &Entry, comparisons: &mut u64) -> Ordering
     requires room { comparisons.old + 1 < 2 ^ 64 }
     requires key { IsTrue (is_key key name.now) }

@@ -16,6 +16,7 @@ struct QuotedPart(char);
 impl fmt::Display for QuotedPart {
     ghost output = { λ part. Some (flat_map quoted_byte (encode_utf8 part.0)) };
 
+    #[tactic(auto, using(crate::proofs::Escapes::others))]
     fn fmt<W: fmt::Write>(&self, f: &mut fmt::Formatter<W>) -> fmt::Result {
         match self.0 {
             '"' => f.write_str("\\\""),

@@ -10,6 +10,7 @@ use crate::names::{FunctionName, LimitName, Size};
 use crate::token::table::Entry;
 
 /// Returns these entries of the table.
+#[tactic(auto, unfolding(crate::specs::Commands::command_entries))]
 pub(crate) fn entries() -> &'static [Entry]
     ensures part { map entry_of result.now ≡ entries_up_to_k }
     ensures keyed { IsTrue (list_all has_key result.now) }

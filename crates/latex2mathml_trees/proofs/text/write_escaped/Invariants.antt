@@ -1,7 +1,8 @@
-use Rattle.std.specs.{Fmt.HasWritten, Fmt.IsPlainFormatter, List.flat_map}
-use Rattle.latex2mathml_tokens.specs.Escape.{content_char}
+use Rattle.std.specs.{Fmt.HasWritten, Fmt.IsPlainFormatter, Str.encode_utf8_all}
+use Rattle.latex2mathml_tokens.specs.Escape.{content}
 use Rattle.latex2mathml_trees.proofs.text.write_escaped.Given as goal
 
 abbrev pub invariant-loop-c : goal.invariant-loop-c
 invariant-loop-c g l =
-    IsPlainFormatter l.initial.f → HasWritten g.W.Write.write_str_gives l.initial.f (flat_map content_char l.yielded) l.f
+    IsPlainFormatter l.initial.f
+    → HasWritten g.W.Write.write_str_gives l.initial.f (content (encode_utf8_all l.yielded)) l.f

@@ -1,7 +1,8 @@
-use Rattle.std.specs.{Char.encode_utf8, Fmt.HasWritten, Fmt.IsPlainFormatter, List.flat_map}
+use Rattle.std.specs.{Fmt.HasWritten, Fmt.IsPlainFormatter, Str.encode_utf8_all}
 use Rattle.latex2mathml_tokens.specs.Escape.{value}
 use Rattle.latex2mathml_trees.proofs.text.write_value.Given as goal
 
 abbrev pub invariant-loop-c : goal.invariant-loop-c
 invariant-loop-c g l =
-    IsPlainFormatter l.initial.f → HasWritten g.W.Write.write_str_gives l.initial.f (flat_map (λ c. value (encode_utf8 c)) l.yielded) l.f
+    IsPlainFormatter l.initial.f
+    → HasWritten g.W.Write.write_str_gives l.initial.f (value (encode_utf8_all l.yielded)) l.f
