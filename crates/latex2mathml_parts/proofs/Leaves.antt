@@ -4,7 +4,7 @@ use Rattle.std.proofs.{lemmas.List.length-take-le, lemmas.List.reverse-append, l
 use Rattle.std.specs.List.{flat_map}
 use Rattle.latex2mathml_trees.specs.Tree.{Tree}
 use Rattle.latex2mathml_parts.specs.Forests.{AreLeaves, Forest, IsLeaf, Stands, forest, trees_at, with_form}
-use Rattle.latex2mathml_parts.specs.{Forms.arity_of, Forms.put_form, Parts.arity, Parts.put, Parts.top}
+use Rattle.latex2mathml_parts.specs.{Forms.arity_of, Forms.put_form, Parts.put, Parts.top}
 use Rattle.latex2mathml_parts.specs.{declared.form.Form.Form, declared.form.Part.Part, declared.kind.Kind.Kind}
 use Rattle.latex2mathml_parts.specs.declared.form.Form.TheVariants as form
 use Rattle.latex2mathml_parts.specs.declared.kind.Kind.TheVariants as kind
@@ -28,31 +28,6 @@ over f end g t e =
 pub leaf_by_size : (f : Forest) (end : ℕ) (p : Part) → Stands f.texts f.list (end - 1) p → trees_at f end ≡ with_form f p.form (end - 1) → p.size ≡ 1 → IsLeaf f end
 leaf_by_size f end p s t e =
     over f end p.form t (sym s.below ∙ ap (λ m. forest f.texts (take m f.list)) (omega (arith, e)))
-
--- and a part without operands
-pub leaf_by_arity : (f : Forest) (end : ℕ) (g : Form) → trees_at f end ≡ with_form f g (end - 1) → arity_of g ≡ 0 → IsLeaf f end
-leaf_by_arity f end g t e = over f end g t (ap (λ n. drop n (trees_at f (end - 1))) e)
-
--- a leaf has no operands
-pub no_operands : (f : Forest) (end : ℕ) (g : Form) → arity_of g ≤ length (trees_at f (end - 1)) → trees_at f end ≡ with_form f g (end - 1) → IsLeaf f end → arity_of g ≡ 0
-no_operands f end g h t l =
-    let ts = trees_at f (end - 1) in
-    let below : length (drop (arity_of g) ts) ≡ length ts = ap length (sym (below_form f.texts g ts) ∙ ap (drop 1) (sym t ∙ l)) in
-    omega (arith, h, below, length-drop (arity_of g) ts)
-
--- it is the same tree whatever is before it
-pub leaf_alone : (k : Kind) (ts : List Tree) → arity k ≡ 0 → top (put k ts) ≡ top (put k [])
-leaf_alone (kind.Number digits) ts h = refl
-leaf_alone (kind.Letter c variant) ts h = refl
-leaf_alone (kind.Operator c) ts h = refl
-leaf_alone (kind.Paren paren) ts h = refl
-leaf_alone kind.Ampersand ts h = refl
-leaf_alone kind.NewLine ts h = refl
-leaf_alone (kind.Space width) ts h = refl
-leaf_alone (kind.Function name) ts h = refl
-leaf_alone (kind.Limit name) ts h = refl
-leaf_alone (kind.SizedParen size paren) ts h = refl
-leaf_alone k ts h = absurd (omega (arith, h))
 
 drop_none : (n : ℕ) (ts : List Tree) → length ts ≤ length (drop n ts) → drop n ts ≡ ts
 drop_none zero ts h = refl

@@ -1,8 +1,8 @@
 -- The markup of trees, as it is written: its fixed parts are joined.
 use Rattle.std.proofs.Common.{◌≡◌, ℕ, List, ◌++◌, append_assoc, codes, Some, Result, Ok, Err, OnOk, is_ok, if◌then◌else◌}
 use Rattle.std.specs.Fmt.{digits}
-use Rattle.latex2mathml_trees.specs.{Print.print, Print.style_open, Tree.Tree, Tree.operator}
-use Rattle.latex2mathml_trees.specs.Productions.{binomial_tree, coefficient, labelled_overbrace_tree, labelled_underbrace_tree}
+use Rattle.latex2mathml_trees.specs.{Print.print, Print.style_open, Tree.Tree}
+use Rattle.latex2mathml_trees.specs.Productions.{binomial_tree, coefficient}
 use Rattle.latex2mathml_tokens.specs.declared.DisplayStyle.{DisplayStyle}
 
 pub three : (a x b rest : List ℕ) → (a ++ (x ++ b)) ++ rest ≡ a ++ (x ++ (b ++ rest))
@@ -15,12 +15,6 @@ coefficient_print x y = simp append_assoc
 pub display_print : (d : DisplayStyle) (x y : Tree) → (style_open (Some d) ++ codes "<mrow><mrow><mo stretchy=\"true\" form=\"prefix\">(</mo><mfrac linethickness=\"0\">") ++ (print x ++ (print y ++ codes "</mfrac><mo stretchy=\"true\" form=\"postfix\">)</mo></mrow></mrow></mstyle>")) ≡ print (binomial_tree (Some d) x y)
 unfolding digits
 display_print d x y = simp append_assoc
-
-pub overbraced_print : (c : ℕ) (label x : Tree) → codes "<mover>" ++ (print x ++ (codes "<mover>" ++ (print (operator c) ++ (print label ++ codes "</mover></mover>")))) ≡ print (labelled_overbrace_tree c label x)
-overbraced_print c label x = simp append_assoc
-
-pub underbraced_print : (c : ℕ) (label x : Tree) → codes "<munder>" ++ (print x ++ (codes "<munder>" ++ (print (operator c) ++ (print label ++ codes "</munder></munder>")))) ≡ print (labelled_underbrace_tree c label x)
-underbraced_print c label x = simp append_assoc
 
 -- what `push_str` says of a text, where it returns `Ok`
 pub appended : {T E : Type 0} (r : Result T E) (new a b : List ℕ) → new ≡ (if is_ok r then a else b) → OnOk r (new ≡ a)

@@ -45,14 +45,6 @@ HasText texts (form.Words place) = place < length texts
 HasText texts (form.Undefined place) = place < length texts
 HasText texts f = Unit {0}
 
--- a part of this form has no operands and is of no kind
-abbrev pub IsOwn : Form → Type 0
-IsOwn (form.Of kind) = ⊥
-IsOwn form.Slashed = ⊥
-IsOwn (form.Row count style) = ⊥
-IsOwn (form.Matrix count style align) = ⊥
-IsOwn f = Unit {0}
-
 -- a part of this form is not an operator that grows
 abbrev pub IsNoOperator : Form → Type 0
 IsNoOperator f = (texts : List (List ℕ)) (ts : List Tree) → stretched_operator (top (put_form texts f ts)) ≡ None
