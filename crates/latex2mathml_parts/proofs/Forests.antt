@@ -141,9 +141,9 @@ pub all_taken : (texts : List (List ℕ)) (ps : List Part) → forest texts (tak
 all_taken texts ps = ap (forest texts) (take-length ps)
 
 -- a part of another form can be where a part is, if it has as many operands
-pub stands_as : (texts : List (List ℕ)) (ps : List Part) (n : ℕ) (p : Part) (f : Form) → arity_of f ≡ arity_of p.form → HasText texts f → Stands texts ps n p → Stands texts ps n (record { form = f; size = p.size })
+pub stands_as : (texts : List (List ℕ)) (ps : List Part) (n : ℕ) (p : Part) (f : Form) → arity_of f ≡ arity_of p.form → ((us : List (List ℕ)) → HasText us p.form → HasText us f) → Stands texts ps n p → Stands texts ps n (record { form = f; size = p.size })
 stands_as texts ps n p f a x s = record {
-  text = x;
+  text = x texts s.text;
   fits = subst (λ k. k ≤ length (forest texts (take n ps))) (sym a) s.fits;
   some = s.some;
   within = s.within;

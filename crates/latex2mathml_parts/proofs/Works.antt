@@ -4,7 +4,7 @@ use Rattle.std.proofs.{lemmas.List.reverse-append, lemmas.Grind.flat_map-append,
 use Rattle.std.specs.List.{flat_map}
 use Rattle.latex2mathml_trees.specs.{Tree.Tree, Tree.trees_of, Weight.weights}
 use Rattle.latex2mathml_tokens.specs.declared.attribute.Variant.{Variant}
-use Rattle.latex2mathml_parts.specs.{Forms.all_in, Parts.top, Shapes.print_weight}
+use Rattle.latex2mathml_parts.specs.{Forms.members_of, Parts.top, Shapes.print_weight}
 use Rattle.latex2mathml_parts.proofs.Styles.{weights_in}
 
 -- Members.
@@ -28,5 +28,5 @@ weights_of [] = refl
 weights_of (x ∷ xs) = omega (arith, weights_of xs, sum_by-cons print_weight x xs)
 
 -- what is pushed for members is what there is to write of them
-pub members_weight : (s : Option Variant) (xs : List Tree) → sum_by print_weight xs ≡ weights (all_in s (trees_of (reverse xs))) * 8
-members_weight s xs = omega (arith, weights_in s (trees_of (reverse xs)), weights_of (reverse xs), sum_reversed xs)
+pub members_weight : (s : Option Variant) (count : ℕ) (ts : List Tree) → sum_by print_weight (take count ts) ≡ weights (members_of s count ts) * 8
+members_weight s count ts = let xs = take count ts in omega (arith, weights_in s (reverse xs), weights_of (reverse xs), sum_reversed xs)

@@ -64,6 +64,7 @@ impl<'a> Parts<'a> {
 
     /// Gives the last tree a style.
     #[inline(always)]
+    #[tactic(auto, using(crate::proofs::Forests::stands_as))]
     pub fn give_style(&mut self, variant: Variant)
         requires { 0 < length (trees_in self.old) }
         ensures { Makes (styled variant (last_in self.old)) 1 self.old self.new }
@@ -98,7 +99,7 @@ impl<'a> Parts<'a> {
 
     /// Makes one tree of the last `count` trees: a single tree stays as it is, and no tree or several become a row.
     #[inline(always)]
-    #[tactic(auto, using(crate::proofs::Styles::plain, crate::proofs::Styles::all_plain, crate::proofs::Changes::last_trees))]
+    #[tactic(auto, using(crate::proofs::Styles::plain, crate::proofs::Changes::last_trees))]
     pub fn group(&mut self, count: usize) -> Result<(), AllocError>
         requires { count ≤ length (trees_in self.old) }
         ensures { OnOk result (Makes (group_of self.old count) count self.old self.new) }
@@ -144,7 +145,7 @@ impl<'a> Parts<'a> {
     }
 
     /// Makes a matrix of the last `count` trees and of the name below them.
-    #[tactic(auto, using(crate::proofs::Styles::all_plain, crate::proofs::Changes::last_trees))]
+    #[tactic(auto, using(crate::proofs::Styles::plain, crate::proofs::Changes::last_trees))]
     fn matrix(&mut self, align: ColumnAlign, count: usize) -> Result<(), AllocError>
         requires { count < length (trees_in self.old) }
         ensures { OnOk result (Makes (matrix_of align (group_of self.old count)) (suc count)

@@ -86,7 +86,7 @@ impl Parts<'_> {
 
     /// Writes the beginning of the last tree of the first `end` parts, in a style, as `write_at` does.
     #[inline(never)]
-    #[tactic(auto, using(crate::proofs::Styles::all_twice, crate::proofs::Styles::weights_in, std::proofs::lemmas::Grind::common_steps))]
+    #[tactic(auto, using(crate::proofs::Styles::styled_members, crate::proofs::Styles::weights_in, std::proofs::lemmas::Grind::common_steps))]
     fn write_styled(
         &self,
         variant: Variant,

@@ -163,7 +163,6 @@ impl Parts<'_> {
 
     /// Returns a member of a group: a tree, or in a matrix the end of a cell or of a row of the matrix.
     #[inline(always)]
-    #[tactic(auto, using(crate::proofs::Styles::plain))]
     fn member(&self, group: Group, end: usize, style: Option<Variant>) -> Work
         requires place { IsPlace self.now end }
         ensures inside { IsIn self.now result }

@@ -1,4 +1,4 @@
-use Rattle.std.proofs.Common.{◌≡◌, ◌+◌, ◌-◌, ◌∙◌, None, Option, Some, ap, append_assoc, arith, drop, false, refl, reverse, sym, take}
+use Rattle.std.proofs.Common.{◌≡◌, ◌+◌, ◌-◌, ◌∙◌, None, Option, Some, ap, append_assoc, arith, drop, false, refl, sym}
 use Rattle.std.specs.Option.{is_some}
 use Rattle.latex2mathml_tokens.specs.declared.attribute.Variant.{Variant}
 use Rattle.latex2mathml_parts.specs.{Forests.trees_at, Groups.names_of, declared.form.Form.TheVariants.Slashed}
@@ -23,10 +23,10 @@ write_leaves-requires-clause-leaves c = λ k h i.
 pub returns-then-end-start-clause-print : goal.returns-then-end-start-clause-print
 returns-then-end-start-clause-print c =
     let none = no_style c.args.style c.if-is_none.ensures in
-    let members = group_print c.args.group None (reverse (take c.args.count (trees_at c.args.self.now c.args.end))) in
+    let members = group_print c.args.group None c.args.count (trees_at c.args.self.now c.args.end) in
     rw (c.in_ok-append-2.ensures, c.in_ok-write_leaves.ensures, c.in_ok-append.ensures, c.opening.ensures, c.ending.ensures, none, ← members) (simp append_assoc)
 
 pub returns-clause-print : goal.returns-clause-print
 returns-clause-print c =
-    let members = group_print c.args.group c.args.style (reverse (take c.args.count (trees_at c.args.self.now c.args.end))) in
+    let members = group_print c.args.group c.args.style c.args.count (trees_at c.args.self.now c.args.end) in
     rw (c.in_ok-append.ensures, c.opening.ensures, c.in_ok-push_members.ensures.print, c.in_ok-push_work.ensures.print, c.ending-2.ensures, ← members) (simp append_assoc)
