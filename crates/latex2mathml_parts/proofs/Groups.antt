@@ -1,12 +1,12 @@
 -- The markup of groups.
-use Rattle.std.proofs.Common.{◌≡◌, ◌+◌, List, [], ◌∷◌, ◌++◌, Option, None, Some, ℕ, map, take, ap, codes, refl, reverse, sum_by, sym, ◌∙◌, arith}
+use Rattle.std.proofs.Common.{◌≡◌, ◌+◌, List, [], ◌∷◌, ◌++◌, Option, None, Some, ℕ, map, take, ap, append_assoc, refl, reverse, sum_by, arith}
 use Rattle.latex2mathml_trees.specs.Print.{member_print, members_print, print, prints}
 use Rattle.latex2mathml_trees.specs.Tree.{Tree, letter, row, trees_of}
-use Rattle.latex2mathml_tokens.specs.{Attributes.align_text, declared.attribute.ColumnAlign.ColumnAlign, declared.attribute.Variant.Variant}
+use Rattle.latex2mathml_tokens.specs.{declared.attribute.ColumnAlign.ColumnAlign, declared.attribute.Variant.Variant}
 use Rattle.latex2mathml_parts.specs.{Forms.members_of, Forms.in_style, Shapes.print_weight, declared.write.groups.Group.Group}
 use Rattle.latex2mathml_parts.specs.Groups.{group_close, group_open, members_in, tree_of_group}
 use Rattle.latex2mathml_parts.specs.declared.write.groups.Group.TheVariants as group
-use Rattle.latex2mathml_parts.proofs.{Markups.three, Works.members_weight}
+use Rattle.latex2mathml_parts.proofs.Works.{members_weight}
 
 prints-in : (s : Option Variant) (xs : List Tree) → prints (trees_of (map (in_style s) xs)) ≡ members_in group.Row s xs
 prints-in s [] = refl
@@ -24,11 +24,8 @@ cells-in align s [] = refl
 cells-in align s (x ∷ xs) = cc (same_mark s x (print (in_style s x)), cells-in align s xs)
 
 pub group_print : (g : Group) (s : Option Variant) (count : ℕ) (ts : List Tree) → group_open g ++ (members_in g s (reverse (take count ts)) ++ group_close g) ≡ print (tree_of_group g (members_of s count ts))
-group_print group.Row s count ts = ap (λ l. codes "<mrow>" ++ (l ++ codes "</mrow>")) (sym (prints-in s (reverse (take count ts))))
-group_print (group.Matrix align) s count ts =
-    let close = codes "</mtd></mtr></mtable>" in
-    three (codes "<mtable") (align_text align) (codes "><mtr><mtd>") (members_in (group.Matrix align) s (reverse (take count ts)) ++ close)
-    ∙ ap (λ l. codes "<mtable" ++ (align_text align ++ (codes "><mtr><mtd>" ++ (l ++ close)))) (sym (cells-in align s (reverse (take count ts))))
+group_print group.Row s count ts = rw (prints-in s (reverse (take count ts)))
+group_print (group.Matrix align) s count ts = rw (cells-in align s (reverse (take count ts))) (simp append_assoc)
 
 -- what is pushed for members is less than what there is to write of the group
 pub group_weight : (g : Group) (s : Option Variant) (count : ℕ) (ts : List Tree) → print_weight (tree_of_group g (members_of s count ts)) ≡ sum_by print_weight (take count ts) + 16

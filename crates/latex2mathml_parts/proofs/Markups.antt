@@ -11,9 +11,6 @@ use Rattle.latex2mathml_parts.specs.declared.write.shapes.Operands.TheVariants a
 use Rattle.latex2mathml_parts.specs.declared.write.tags.Ending.TheVariants as ending
 use Rattle.latex2mathml_parts.specs.declared.write.tags.Opening.TheVariants as opening
 
-pub three : (a x b rest : List ℕ) → (a ++ (x ++ b)) ++ rest ≡ a ++ (x ++ (b ++ rest))
-three a x b rest = simp append_assoc
-
 pub coefficient_print : (x y : Tree) → codes "<mrow><mo stretchy=\"true\" form=\"prefix\">(</mo><mfrac linethickness=\"0\">" ++ (print x ++ (print y ++ codes "</mfrac><mo stretchy=\"true\" form=\"postfix\">)</mo></mrow>")) ≡ print (coefficient x y)
 unfolding digits
 coefficient_print x y = simp append_assoc

@@ -161,6 +161,7 @@ impl<'a> Parts<'a> {
     }
 
     /// Makes a matrix of the last tree and of the name below it. The members of a row are those of the matrix.
+    #[tactic(auto, using(crate::proofs::Changes::matrix_one))]
     fn matrix_of_one(&mut self, align: ColumnAlign) -> Result<(), AllocError>
         requires { 1 < length (trees_in self.old) }
         ensures { OnOk result (Makes (matrix_of align (last_in self.old)) 2 self.old self.new) }
@@ -178,6 +179,7 @@ impl<'a> Parts<'a> {
     }
 
     /// Makes a matrix of the row that is the last tree, and of the name below it.
+    #[tactic(auto, using(crate::proofs::Changes::drop_one_more))]
     fn spread_row(&mut self, align: ColumnAlign, count: usize, style: Option<Variant>)
         requires all { 1 < length (trees_in self.old) }
         requires fits { count ≤ length (trees_at self.old (length self.old.list - 1)) }
