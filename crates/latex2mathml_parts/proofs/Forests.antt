@@ -113,19 +113,15 @@ forest_kept texts t ps d (suc n) h w =
     ∙ sym (forest_more texts ps n d (omega arith))
 
 pub forest_aside : (texts : List (List ℕ)) (t : List ℕ) (ps : List Part) → AreWhole texts ps → forest (texts ++ t ∷ []) ps ≡ forest texts ps
-forest_aside texts t [] w = refl
-forest_aside texts t (p ∷ ps) w =
-    let all = take-length (p ∷ ps) in
-    ap (forest (texts ++ t ∷ [])) (sym all) ∙ forest_kept texts t (p ∷ ps) p (length (p ∷ ps)) (omega arith) w ∙ ap (forest texts) all
+forest_aside texts t ps w =
+    let all = take-length ps in
+    ap (forest (texts ++ t ∷ [])) (sym all) ∙ forest_kept texts t ps (record { form = form.Slashed; size = 0 }) (length ps) (omega arith) w ∙ ap (forest texts) all
 
 pub whole_aside : (texts : List (List ℕ)) (t : List ℕ) (ps : List Part) → AreWhole texts ps → AreWhole (texts ++ t ∷ []) ps
 unfolding AreWhole
 whole_aside texts t ps w n d h =
     let s = w n d h in
     stands_among texts (texts ++ t ∷ []) ps ps n _ (text_kept texts t _ s.text) (λ m i. forest_kept texts t ps d m (omega arith) w) s
-
-pub all_taken : (texts : List (List ℕ)) (ps : List Part) → forest texts (take (length ps) ps) ≡ forest texts ps
-all_taken texts ps = ap (forest texts) (take-length ps)
 
 -- a part of another form can be where a part is, if it has as many operands
 pub stands_as : (texts : List (List ℕ)) (ps : List Part) (n : ℕ) (p : Part) (f : Form) → arity_of f ≡ arity_of p.form → ((us : List (List ℕ)) → HasText us p.form → HasText us f) → Stands texts ps n p → Stands texts ps n (record { form = f; size = p.size })

@@ -1,6 +1,6 @@
 -- Parts without operands.
 use Rattle.std.proofs.Common.{◌≡◌, ℕ, ◌+◌, ◌-◌, ◌≤◌, List, [], ◌∷◌, ◌++◌, length, length-drop, take, drop, reverse, slice_index_or, suc, zero, refl, sym, ap, ◌∙◌, arith, append-nil}
-use Rattle.std.proofs.{lemmas.List.length-take-le, lemmas.List.take-append-drop, lemmas.List.take-take, lemmas.List.reverse-append, lemmas.Grind.flat_map-append}
+use Rattle.std.proofs.{lemmas.List.length-take-le, lemmas.List.take-append-drop, lemmas.List.take-take, lemmas.List.reverse-append, lemmas.Grind.common_steps, lemmas.Grind.flat_map-append}
 use Rattle.std.specs.List.{flat_map}
 use Rattle.latex2mathml_trees.specs.Tree.{Tree}
 use Rattle.latex2mathml_parts.specs.Forests.{AreLeaves, Forest, IsLeaf, Stands, forest, forest_on, tree_at, trees_at, with_form}
@@ -55,3 +55,5 @@ leaves_step f g start p h e =
 -- there are no more trees than parts
 pub no_more : (f : Forest) (end : ℕ) → end ≤ length f.list → length (trees_at f end) ≤ end
 no_more f end h = omega (arith, forest_length f.texts (take end f.list), length-take-le end f.list h)
+
+pub ruleset leaf_steps = (leaves_step, no_more, common_steps)

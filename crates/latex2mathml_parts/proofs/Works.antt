@@ -13,10 +13,10 @@ sum_reversed [] = refl
 sum_reversed (x ∷ xs) = rw (reverse-append (x ∷ []) xs) (omega (arith, sum_by_push print_weight (reverse xs) x, sum_reversed xs, sum_by-cons print_weight x xs))
 
 -- the last of the members that are left
-pub take_step : (n : ℕ) (ts : List Tree) → 0 < n → n ≤ length ts → take n ts ≡ top ts ∷ take (n - 1) (drop 1 ts)
-take_step n [] h i = absurd (omega arith)
-take_step zero (t ∷ ts) h i = absurd (omega arith)
-take_step (suc j) (t ∷ ts) h i = ap (λ m. t ∷ take m ts) (omega arith)
+pub taken : (n : ℕ) (ts : List Tree) → 0 < n → n ≤ length ts → take n ts ≡ top ts ∷ take (n - 1) (drop 1 ts)
+taken n [] h i = absurd (omega arith)
+taken zero (t ∷ ts) h i = absurd (omega arith)
+taken (suc j) (t ∷ ts) h i = ap (λ m. t ∷ take m ts) (omega arith)
 
 weights_of : (xs : List Tree) → sum_by print_weight xs ≡ weights (trees_of xs) * 8
 weights_of [] = refl

@@ -64,7 +64,7 @@ impl Parts<'_> {
     /// Writes what precedes the members of a group whose operands are from `start` to `end`, and pushes the `count`
     /// members and what follows them onto the list. If they are leaves, it writes them at once.
     #[inline(never)]
-    #[tactic(auto, using(crate::proofs::Groups::group_print, crate::proofs::Groups::group_weight, crate::proofs::Leaves::no_more, std::proofs::lemmas::Grind::common_steps))]
+    #[tactic(auto, using(crate::proofs::Groups::group_steps))]
     pub(crate) fn write_group(
         &self,
         group: Group,
@@ -99,7 +99,7 @@ impl Parts<'_> {
 
     /// Writes `count` members of a group, which are leaves.
     #[inline(always)]
-    #[tactic(auto, using(crate::proofs::Leaves::leaves_step, crate::proofs::Leaves::no_more, std::proofs::lemmas::Grind::common_steps))]
+    #[tactic(auto, using(crate::proofs::Leaves::leaf_steps))]
     fn write_leaves(
         &self,
         group: Group,
@@ -135,7 +135,7 @@ impl Parts<'_> {
     }
 
     /// Pushes `count` members of a group onto the list, with the first on top.
-    #[tactic(auto, using(crate::proofs::Works::take_step, std::proofs::lemmas::Grind::common_steps))]
+    #[tactic(auto, using(crate::proofs::Works::taken, std::proofs::lemmas::Grind::common_steps))]
     fn push_members(
         &self,
         group: Group,

@@ -44,7 +44,7 @@ pub(crate) struct Surroundings {
 
 /// Returns the shape of a part that has operands, if it has one.
 #[inline(always)]
-#[tactic(auto, using(crate::proofs::Markups::binom_shape, crate::proofs::Markups::block_shape, crate::proofs::Markups::inline_shape))]
+#[tactic(auto, using(crate::proofs::Markups::binom_shapes))]
 pub(crate) fn shape_of(kind: Kind) -> Option<Shape>
     requires { 0 < arity kind }
     ensures { MatchOption result (HasSurroundings kind.entry) (IsShapeOf kind.entry) }
