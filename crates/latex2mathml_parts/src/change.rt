@@ -78,6 +78,7 @@ impl<'a> Parts<'a> {
 
     /// Lets the last tree grow with what surrounds it, and returns whether it is an operator that does.
     #[inline(always)]
+    #[tactic(auto, using(crate::proofs::Puts::below_form))]
     pub fn stretch(&mut self) -> bool
         requires { 0 < length (trees_in self.old) }
         ensures { MatchBool result
