@@ -13,11 +13,6 @@ pub forest_on-append : (texts : List (List ℕ)) (ts : List Tree) (ps qs : List 
 forest_on-append texts ts [] qs = refl
 forest_on-append texts ts (p ∷ ps) qs = forest_on-append texts (put_form texts p.form ts) ps qs
 
--- a part of a whole list is at its place
-pub part_stands : (texts : List (List ℕ)) (ps : List Part) (n : ℕ) (p : Part) → AreWhole texts ps → n < length ps → p ≡ slice_index_or ps n p → Stands texts ps n p
-unfolding AreWhole
-part_stands texts ps n p w h e = subst (Stands texts ps n) (sym e) (w n p h)
-
 -- the forest of one more part
 pub forest_more : (texts : List (List ℕ)) (ps : List Part) (n : ℕ) (d : Part) → n < length ps → forest texts (take (suc n) ps) ≡ put_form texts (slice_index_or ps n d).form (forest texts (take n ps))
 forest_more texts ps n d h = ap (forest texts) (take-suc ps n d h) ∙ forest_on-append texts [] (take n ps) (slice_index_or ps n d ∷ [])
@@ -70,17 +65,12 @@ whole_taken texts ps n h w m d i =
     (stands_among texts texts ps (take n ps) m _ s.text (λ a b. ap (forest texts) (take-take a n ps (omega arith))) s)
 
 -- there are no more trees than parts
-forest_length_on : (texts : List (List ℕ)) (ps : List Part) (ts : List Tree) → length (forest_on texts ts ps) ≤ length ts + length ps
+pub forest_length_on : (texts : List (List ℕ)) (ps : List Part) (ts : List Tree) → length (forest_on texts ts ps) ≤ length ts + length ps
 forest_length_on texts [] ts = omega arith
 forest_length_on texts (p ∷ ps) ts = omega (arith, forest_length_on texts ps (put_form texts p.form ts), form_length texts p.form ts)
 
 pub forest_length : (texts : List (List ℕ)) (ps : List Part) → length (forest texts ps) ≤ length ps
 forest_length texts ps = omega (arith, forest_length_on texts ps [])
-
--- no parts
-pub whole_empty : (texts : List (List ℕ)) → AreWhole texts []
-unfolding AreWhole
-whole_empty texts n d h = absurd (omega arith)
 
 -- another part in place of the last
 pub whole_replaced : (texts : List (List ℕ)) (ps qs : List Part) (q : Part) → 0 < length ps → AreWhole texts ps → Stands texts ps (length ps - 1) q → qs ≡ take (length ps - 1) ps ++ q ∷ [] → AreWhole texts qs
@@ -93,9 +83,6 @@ whole_replaced texts ps qs q h w s e =
     subst (AreWhole texts) (sym e)
     (whole_pushed texts (take n ps) q (n + 1 - q.size) (whole_taken texts ps n (omega arith) w) s.text s.fits
     (omega arith) (omega arith) (below (n + 1 - q.size) (omega arith) ∙ s.below))
-
-pub forest_replaced : (texts : List (List ℕ)) (ps qs : List Part) (q : Part) → qs ≡ take (length ps - 1) ps ++ q ∷ [] → forest texts qs ≡ put_form texts q.form (forest texts (take (length ps - 1) ps))
-forest_replaced texts ps qs q e = ap (forest texts) e ∙ forest_pushed texts (take (length ps - 1) ps) q
 
 pub last_set : (ps : List Part) (q : Part) → 0 < length ps → slice_set ps (length ps - 1) q ≡ take (length ps - 1) ps ++ q ∷ []
 last_set ps q h =
@@ -126,10 +113,9 @@ forest_kept texts t ps d (suc n) h w =
     ∙ sym (forest_more texts ps n d (omega arith))
 
 pub forest_aside : (texts : List (List ℕ)) (t : List ℕ) (ps : List Part) → AreWhole texts ps → forest (texts ++ t ∷ []) ps ≡ forest texts ps
-forest_aside texts t [] w = refl
-forest_aside texts t (p ∷ ps) w =
-    let all = take-length (p ∷ ps) in
-    ap (forest (texts ++ t ∷ [])) (sym all) ∙ forest_kept texts t (p ∷ ps) p (length (p ∷ ps)) (omega arith) w ∙ ap (forest texts) all
+forest_aside texts t ps w =
+    let all = take-length ps in
+    ap (forest (texts ++ t ∷ [])) (sym all) ∙ forest_kept texts t ps (record { form = form.Slashed; size = 0 }) (length ps) (omega arith) w ∙ ap (forest texts) all
 
 pub whole_aside : (texts : List (List ℕ)) (t : List ℕ) (ps : List Part) → AreWhole texts ps → AreWhole (texts ++ t ∷ []) ps
 unfolding AreWhole
@@ -137,13 +123,10 @@ whole_aside texts t ps w n d h =
     let s = w n d h in
     stands_among texts (texts ++ t ∷ []) ps ps n _ (text_kept texts t _ s.text) (λ m i. forest_kept texts t ps d m (omega arith) w) s
 
-pub all_taken : (texts : List (List ℕ)) (ps : List Part) → forest texts (take (length ps) ps) ≡ forest texts ps
-all_taken texts ps = ap (forest texts) (take-length ps)
-
 -- a part of another form can be where a part is, if it has as many operands
-pub stands_as : (texts : List (List ℕ)) (ps : List Part) (n : ℕ) (p : Part) (f : Form) → arity_of f ≡ arity_of p.form → HasText texts f → Stands texts ps n p → Stands texts ps n (record { form = f; size = p.size })
+pub stands_as : (texts : List (List ℕ)) (ps : List Part) (n : ℕ) (p : Part) (f : Form) → arity_of f ≡ arity_of p.form → ((us : List (List ℕ)) → HasText us p.form → HasText us f) → Stands texts ps n p → Stands texts ps n (record { form = f; size = p.size })
 stands_as texts ps n p f a x s = record {
-  text = x;
+  text = x texts s.text;
   fits = subst (λ k. k ≤ length (forest texts (take n ps))) (sym a) s.fits;
   some = s.some;
   within = s.within;

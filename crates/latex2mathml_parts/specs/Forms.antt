@@ -1,22 +1,20 @@
 -- What the entries of the list of parts make of the trees before them.
-use Rattle.std.specs.Prelude.{◌≡◌, ℕ, ◌<◌, List, [], ◌∷◌, Option, Some, None, true, drop, length, reverse, slice_index_or, suc, take, unwrap_or}
+use Rattle.std.specs.Prelude.{◌≡◌, ℕ, ◌<◌, List, [], ◌∷◌, Option, Some, None, true, drop, length, map, reverse, slice_index_or, suc, take}
 use Rattle.std.specs.Char.{encode_utf8}
 use Rattle.latex2mathml_trees.specs.{Productions.matrix_members, Productions.stretched_operator, Style.styled}
-use Rattle.latex2mathml_trees.specs.Tree.{Tree, Trees, function, letter, matrix, row, slashed, stretched, undefined, words, no_trees, more_trees, trees_of}
+use Rattle.latex2mathml_trees.specs.Tree.{Tree, Trees, function, matrix, row, slashed, stretched, undefined, words, no_trees, more_trees, trees_of}
 use Rattle.latex2mathml_tokens.specs.{Names.paren_text, declared.attribute.Variant.Variant}
 use Rattle.latex2mathml_parts.specs.{Parts.arity, Parts.put, Parts.top, declared.form.Form.Form}
 use Rattle.latex2mathml_parts.specs.declared.form.Form.TheVariants as form
 
-abbrev mutual
-  -- a tree in a style, where there is one
-  pub in_style : Option Variant → Tree → Tree
-  in_style style (letter c own) = letter c (unwrap_or style own)
-  in_style style (row members) = row (all_in style members)
-  in_style style x = x
+-- a tree in a style, where there is one
+abbrev pub in_style : Option Variant → Tree → Tree
+in_style None x = x
+in_style (Some variant) x = styled variant x
 
-  pub all_in : Option Variant → Trees → Trees
-  all_in style no_trees = no_trees
-  all_in style (more_trees x rest) = more_trees (in_style style x) (all_in style rest)
+-- the last `count` trees, in a style and in the order in which they were read
+abbrev pub members_of : Option Variant → ℕ → List Tree → Trees
+members_of style count ts = trees_of (map (in_style style) (reverse (take count ts)))
 
 -- how many operands a part of the list has
 abbrev pub arity_of : Form → ℕ
@@ -35,8 +33,8 @@ put_form texts (form.Undefined place) ts = undefined (slice_index_or texts place
 put_form texts (form.Stretched c) ts = stretched true (encode_utf8 c) ∷ ts
 put_form texts (form.StretchedParen paren) ts = stretched true (paren_text paren) ∷ ts
 put_form texts form.Slashed ts = slashed (top ts) ∷ drop 1 ts
-put_form texts (form.Row count style) ts = in_style style (row (trees_of (reverse (take count ts)))) ∷ drop count ts
-put_form texts (form.Matrix count style align) ts = matrix (all_in style (trees_of (reverse (take count ts)))) align ∷ drop (suc count) ts
+put_form texts (form.Row count style) ts = row (members_of style count ts) ∷ drop count ts
+put_form texts (form.Matrix count style align) ts = matrix (members_of style count ts) align ∷ drop (suc count) ts
 
 -- the text of a part, if it has one, is set aside
 abbrev pub HasText : List (List ℕ) → Form → Type 0
@@ -44,14 +42,6 @@ HasText texts (form.Name place) = place < length texts
 HasText texts (form.Words place) = place < length texts
 HasText texts (form.Undefined place) = place < length texts
 HasText texts f = Unit {0}
-
--- a part of this form has no operands and is of no kind
-abbrev pub IsOwn : Form → Type 0
-IsOwn (form.Of kind) = ⊥
-IsOwn form.Slashed = ⊥
-IsOwn (form.Row count style) = ⊥
-IsOwn (form.Matrix count style align) = ⊥
-IsOwn f = Unit {0}
 
 -- a part of this form is not an operator that grows
 abbrev pub IsNoOperator : Form → Type 0

@@ -2,9 +2,9 @@
 use Rattle.std.specs.Prelude.{◌≡◌, ℕ, List, ◌++◌, Option, codes}
 use Rattle.std.specs.List.{flat_map}
 use Rattle.latex2mathml_trees.specs.Print.{member_print, print}
-use Rattle.latex2mathml_trees.specs.Tree.{Tree, Trees, matrix, row, trees_of}
+use Rattle.latex2mathml_trees.specs.Tree.{Tree, Trees, matrix, row}
 use Rattle.latex2mathml_tokens.specs.{Attributes.align_text, declared.attribute.Variant.Variant}
-use Rattle.latex2mathml_parts.specs.{Forests.Forest, Forests.members_at, Forms.all_in, Forms.in_style, declared.write.groups.Group.Group}
+use Rattle.latex2mathml_parts.specs.{Forests.Forest, Forests.trees_at, Forms.in_style, Forms.members_of, declared.write.groups.Group.Group}
 use Rattle.latex2mathml_parts.specs.{Tags.ending_text, declared.write.tags.Ending.Ending}
 use Rattle.latex2mathml_parts.specs.declared.write.groups.Group.TheVariants as group
 
@@ -24,14 +24,14 @@ group_close (group.Matrix align) = codes "</mtd></mtr></mtable>"
 -- the print of a member in a style, and of several
 abbrev pub member_in : Group → Option Variant → Tree → List ℕ
 member_in group.Row style x = print (in_style style x)
-member_in (group.Matrix align) style x = member_print (in_style style x) (print (in_style style x))
+member_in (group.Matrix align) style x = member_print x (print (in_style style x))
 
 abbrev pub members_in : Group → Option Variant → List Tree → List ℕ
 members_in g style = flat_map (member_in g style)
 
 -- the group of the last `count` trees of the first `end` parts, in a style
 abbrev pub group_at : Forest → Group → ℕ → Option Variant → ℕ → Tree
-group_at f g count style end = tree_of_group g (all_in style (trees_of (members_at f count end)))
+group_at f g count style end = tree_of_group g (members_of style count (trees_at f end))
 
 -- how many operands precede the members: the environment's name
 abbrev pub names_of : Group → ℕ

@@ -10,7 +10,7 @@ use Rattle.latex2mathml_parts.specs.declared.kind.Kind.TheVariants as kind
 use Rattle.latex2mathml_parts.specs.declared.write.shapes.Operands.TheVariants as operands
 
 -- the sign over or under a tree, and what follows it
-unfoldable pub sign_print : ℕ → Accent → List ℕ → List ℕ
+abbrev pub sign_print : ℕ → Accent → List ℕ → List ℕ
 sign_print c accent after = codes "<mo accent=\"" ++ (accent_text accent ++ (codes "\">" ++ (content_char c ++ after)))
 
 -- how much there is to write of a tree: no more than eight works for it, and for each node and list in it

@@ -64,6 +64,7 @@ impl<'a> Parts<'a> {
 
     /// Gives the last tree a style.
     #[inline(always)]
+    #[tactic(auto, using(crate::proofs::Forests::stands_as))]
     pub fn give_style(&mut self, variant: Variant)
         requires { 0 < length (trees_in self.old) }
         ensures { Makes (styled variant (last_in self.old)) 1 self.old self.new }
@@ -77,6 +78,7 @@ impl<'a> Parts<'a> {
 
     /// Lets the last tree grow with what surrounds it, and returns whether it is an operator that does.
     #[inline(always)]
+    #[tactic(auto, using(crate::proofs::Puts::below_form))]
     pub fn stretch(&mut self) -> bool
         requires { 0 < length (trees_in self.old) }
         ensures { MatchBool result
@@ -98,7 +100,7 @@ impl<'a> Parts<'a> {
 
     /// Makes one tree of the last `count` trees: a single tree stays as it is, and no tree or several become a row.
     #[inline(always)]
-    #[tactic(auto, using(crate::proofs::Styles::plain, crate::proofs::Styles::all_plain, crate::proofs::Changes::last_trees))]
+    #[tactic(auto, using(crate::proofs::Styles::plain, crate::proofs::Changes::last_trees))]
     pub fn group(&mut self, count: usize) -> Result<(), AllocError>
         requires { count ≤ length (trees_in self.old) }
         ensures { OnOk result (Makes (group_of self.old count) count self.old self.new) }
@@ -144,7 +146,7 @@ impl<'a> Parts<'a> {
     }
 
     /// Makes a matrix of the last `count` trees and of the name below them.
-    #[tactic(auto, using(crate::proofs::Styles::all_plain, crate::proofs::Changes::last_trees))]
+    #[tactic(auto, using(crate::proofs::Styles::plain, crate::proofs::Changes::last_trees))]
     fn matrix(&mut self, align: ColumnAlign, count: usize) -> Result<(), AllocError>
         requires { count < length (trees_in self.old) }
         ensures { OnOk result (Makes (matrix_of align (group_of self.old count)) (suc count)
@@ -160,6 +162,7 @@ impl<'a> Parts<'a> {
     }
 
     /// Makes a matrix of the last tree and of the name below it. The members of a row are those of the matrix.
+    #[tactic(auto, using(crate::proofs::Changes::matrix_one))]
     fn matrix_of_one(&mut self, align: ColumnAlign) -> Result<(), AllocError>
         requires { 1 < length (trees_in self.old) }
         ensures { OnOk result (Makes (matrix_of align (last_in self.old)) 2 self.old self.new) }
@@ -177,6 +180,7 @@ impl<'a> Parts<'a> {
     }
 
     /// Makes a matrix of the row that is the last tree, and of the name below it.
+    #[tactic(auto, using(crate::proofs::Changes::drop_one_more))]
     fn spread_row(&mut self, align: ColumnAlign, count: usize, style: Option<Variant>)
         requires all { 1 < length (trees_in self.old) }
         requires fits { count ≤ length (trees_at self.old (length self.old.list - 1)) }

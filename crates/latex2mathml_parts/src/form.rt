@@ -43,7 +43,7 @@ pub(crate) struct Part<'a> {
 impl<'a> Form<'a> {
     /// Returns the form of a part whose tree is given a style.
     #[inline(always)]
-    #[tactic(auto, using(crate::proofs::Styles::all_restyled))]
+    #[tactic(auto, using(crate::proofs::Styles::styled_members))]
     pub(crate) fn with_style(self, variant: Variant) -> Form<'a>
         ensures arity { arity_of result ≡ arity_of self.entry }
         ensures text { (texts : List (List ℕ)) → HasText texts self.entry → HasText texts result }

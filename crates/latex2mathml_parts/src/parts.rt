@@ -33,7 +33,7 @@ impl<'a> Model for Parts<'a> {
 
 impl<'a> Parts<'a> {
     /// Returns a list without parts.
-    #[tactic(auto, using(crate::proofs::Forests::whole_empty))]
+    #[tactic(auto, unfolding(crate::specs::Forests::AreWhole))]
     pub fn new(alloc: Global) -> Parts<'a>
         ensures { trees_in result ≡ [] }
     {
@@ -55,7 +55,7 @@ impl<'a> Parts<'a> {
     }
 
     /// Drops all parts and texts, and keeps the room of the lists.
-    #[tactic(auto, using(crate::proofs::Forests::whole_empty))]
+    #[tactic(auto, unfolding(crate::specs::Forests::AreWhole))]
     pub fn clear(&mut self)
         ensures list { self.new.list ≡ [] }
         ensures texts { self.new.texts ≡ [] }
@@ -83,7 +83,7 @@ impl<'a> Parts<'a> {
     }
 
     /// Returns the last of the first `end` parts.
-    #[tactic(auto, using(crate::proofs::Forests::forest_more))]
+    #[tactic(auto, unfolding(crate::specs::Forests::AreWhole))]
     pub(crate) fn part_at(&self, end: usize) -> Part<'a>
         requires { IsPlace self.now end }
         ensures stands { Stands self.now.texts self.now.list (end - 1) result }
@@ -142,7 +142,7 @@ impl<'a> Parts<'a> {
     }
 
     /// Puts another part in place of the last.
-    #[tactic(auto, using(crate::proofs::Forests::whole_replaced, crate::proofs::Forests::forest_replaced, crate::proofs::Forests::last_set, crate::proofs::Forests::forest_length))]
+    #[tactic(auto, using(crate::proofs::Forests::whole_replaced, crate::proofs::Forests::forest_pushed, crate::proofs::Forests::last_set, crate::proofs::Forests::forest_length))]
     pub(crate) fn replace_last(&mut self, part: Part<'a>)
         requires some { 0 < length (trees_in self.old) }
         requires stands { Stands self.old.texts self.old.list (length self.old.list - 1) part }

@@ -33,7 +33,7 @@ use std::alloc::AllocError;
 impl Parts<'_> {
     /// Writes the markup of the last tree after the text. It does not recurse: what is still to be written is kept in
     /// `works`. The only `Err` is out of memory, for that list or for the text.
-    #[tactic(auto, using(crate::proofs::Forests::all_taken, std::proofs::lemmas::Grind::common_steps), unfolding(crate::specs::Works::AreIn))]
+    #[tactic(auto, using(std::proofs::lemmas::Grind::common_steps), unfolding(crate::specs::Works::AreIn))]
     pub fn write(&self, works: &mut Works, out: &mut String) -> Result<(), AllocError>
         requires { 0 < length (trees_in self.now) }
         ensures { Appends out.old out.new (print (last_in self.now)) result }
@@ -86,7 +86,7 @@ impl Parts<'_> {
 
     /// Writes the beginning of the last tree of the first `end` parts, in a style, as `write_at` does.
     #[inline(never)]
-    #[tactic(auto, using(crate::proofs::Styles::all_twice, crate::proofs::Styles::weights_in, std::proofs::lemmas::Grind::common_steps))]
+    #[tactic(auto, using(crate::proofs::Styles::styled_members, crate::proofs::Styles::weights_in, std::proofs::lemmas::Grind::common_steps))]
     fn write_styled(
         &self,
         variant: Variant,
@@ -160,6 +160,7 @@ impl Parts<'_> {
 
     /// Returns whether the last of the first `end` parts has no operands.
     #[inline(always)]
+    #[tactic(auto, using(crate::proofs::Leaves::leaf_by_size))]
     pub(crate) fn is_leaf(&self, end: usize) -> bool
         requires { IsPlace self.now end }
         ensures { result ≡ true → IsLeaf self.now end }

@@ -64,7 +64,7 @@ impl Parts<'_> {
     /// Writes what precedes the members of a group whose operands are from `start` to `end`, and pushes the `count`
     /// members and what follows them onto the list. If they are leaves, it writes them at once.
     #[inline(never)]
-    #[tactic(auto, using(crate::proofs::Groups::group_weight, std::proofs::lemmas::Grind::common_steps))]
+    #[tactic(auto, using(crate::proofs::Groups::group_steps))]
     pub(crate) fn write_group(
         &self,
         group: Group,
@@ -99,6 +99,7 @@ impl Parts<'_> {
 
     /// Writes `count` members of a group, which are leaves.
     #[inline(always)]
+    #[tactic(auto, using(crate::proofs::Leaves::leaf_steps))]
     fn write_leaves(
         &self,
         group: Group,
@@ -134,6 +135,7 @@ impl Parts<'_> {
     }
 
     /// Pushes `count` members of a group onto the list, with the first on top.
+    #[tactic(auto, using(crate::proofs::Works::taken, std::proofs::lemmas::Grind::common_steps))]
     fn push_members(
         &self,
         group: Group,
@@ -163,7 +165,6 @@ impl Parts<'_> {
 
     /// Returns a member of a group: a tree, or in a matrix the end of a cell or of a row of the matrix.
     #[inline(always)]
-    #[tactic(auto, using(crate::proofs::Styles::plain))]
     fn member(&self, group: Group, end: usize, style: Option<Variant>) -> Work
         requires place { IsPlace self.now end }
         ensures inside { IsIn self.now result }

@@ -44,6 +44,7 @@ pub(crate) struct Surroundings {
 
 /// Returns the shape of a part that has operands, if it has one.
 #[inline(always)]
+#[tactic(auto, using(crate::proofs::Markups::binom_shapes))]
 pub(crate) fn shape_of(kind: Kind) -> Option<Shape>
     requires { 0 < arity kind }
     ensures { MatchOption result (HasSurroundings kind.entry) (IsShapeOf kind.entry) }
@@ -86,7 +87,6 @@ pub(crate) fn shape_of(kind: Kind) -> Option<Shape>
 
 /// Returns what surrounds the only operand of a part that has no shape.
 #[inline(always)]
-#[tactic(auto, unfolding(crate::specs::Shapes::sign_print))]
 pub(crate) fn surroundings_of(kind: Kind) -> Surroundings
     requires { HasSurroundings kind }
     ensures after { (f : Forest) → IsIn f result.after × (work_weight f result.after ≡ 1) }

@@ -88,6 +88,7 @@ impl Opening {
 impl Ending {
     /// Appends the text.
     #[inline(never)]
+    #[tactic(auto, using(crate::proofs::Markups::appended), unfolding(crate::proofs::Encoding::encode_utf8))]
     pub(crate) fn append(self, out: &mut String) -> Result<(), AllocError>
         ensures { Appends out.old out.new (ending_text self) result }
     {

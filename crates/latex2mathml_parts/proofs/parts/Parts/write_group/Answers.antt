@@ -1,16 +1,7 @@
-use Rattle.std.proofs.Common.{◌≡◌, ◌+◌, ◌-◌, ◌∙◌, None, Option, Some, ap, append_assoc, arith, drop, false, refl, reverse, sym, take}
-use Rattle.std.specs.Option.{is_some}
-use Rattle.latex2mathml_tokens.specs.declared.attribute.Variant.{Variant}
+use Rattle.std.proofs.Common.{◌≡◌, ◌+◌, ◌-◌, ◌∙◌, ap, append_assoc, arith, drop, sym}
 use Rattle.latex2mathml_parts.specs.{Forests.trees_at, Groups.names_of, declared.form.Form.TheVariants.Slashed}
-use Rattle.latex2mathml_parts.proofs.{Groups.group_print, Leaves.all_leaves, Leaves.no_more}
+use Rattle.latex2mathml_parts.proofs.{Groups.group_print, Leaves.all_leaves}
 use Rattle.latex2mathml_parts.proofs.parts.Parts.write_group.Goals as goal
-
-no_style : (s : Option Variant) → is_some s ≡ false → s ≡ None
-no_style None h = refl
-no_style (Some v) h = search
-
-pub overflow_add-count : goal.overflow_add-count
-overflow_add-count c = omega (arith, c.requires.all, c.names.ensures, no_more c.args.self.now c.args.end c.requires.within, c.ranges.end.fits)
 
 pub write_leaves-requires-clause-leaves : goal.write_leaves-requires-clause-leaves
 write_leaves-requires-clause-leaves c = λ k h i.
@@ -20,13 +11,7 @@ write_leaves-requires-clause-leaves c = λ k h i.
     let below = c.requires.start ∙ ap (λ m. drop m ts) (sym n) in
     all_leaves f (record { form = Slashed; size = 0 }) c.args.start c.args.end c.requires.order c.requires.within (omega (arith, n, c.requires.all)) below k (omega (arith, n, h, c.requires.order)) i
 
-pub returns-then-end-start-clause-print : goal.returns-then-end-start-clause-print
-returns-then-end-start-clause-print c =
-    let none = no_style c.args.style c.if-is_none.ensures in
-    let members = group_print c.args.group None (reverse (take c.args.count (trees_at c.args.self.now c.args.end))) in
-    rw (c.in_ok-append-2.ensures, c.in_ok-write_leaves.ensures, c.in_ok-append.ensures, c.opening.ensures, c.ending.ensures, none, ← members) (simp append_assoc)
-
 pub returns-clause-print : goal.returns-clause-print
 returns-clause-print c =
-    let members = group_print c.args.group c.args.style (reverse (take c.args.count (trees_at c.args.self.now c.args.end))) in
+    let members = group_print c.args.group c.args.style c.args.count (trees_at c.args.self.now c.args.end) in
     rw (c.in_ok-append.ensures, c.opening.ensures, c.in_ok-push_members.ensures.print, c.in_ok-push_work.ensures.print, c.ending-2.ensures, ← members) (simp append_assoc)
