@@ -1,12 +1,12 @@
 -- What the lexer takes from the slices that are left of a text, and what it leaves where it only looks.
 use Rattle.std.proofs.Common.{◌≡◌, ◌≢◌, ℕ, ◌+◌, ◌-◌, ◌*◌, ◌^◌, ◌<◌, ◌≤◌, Bool, true, false, not, ◌||◌, List, [], ◌∷◌, ◌++◌, drop, drop-drop, eqb, length, refl, sym, ap, subst, ◌∙◌, Some, if◌then◌else◌, arith, rules}
 use Rattle.std.proofs.lemmas.Bool.{and_right, cond_both, not-true, or_parts}
-use Rattle.std.proofs.{lemmas.Bool.Decides.nat_tests, lemmas.List.Elements.All-cons, lemmas.List.Elements.All-nil}
+use Rattle.std.proofs.{lemmas.Bool.Decides.nat_tests, lemmas.List.Elements.All-cons, lemmas.List.Elements.All-nil, lemmas.List.Sums.sum_by-cons}
 use Rattle.std.proofs.lemmas.Str.{encodes-chars, length-le-encodes}
 use Rattle.std.specs.Char.{is_ascii_alphabetic, is_ascii_digit}
 use Rattle.std.specs.Str.{byte, chars, encode_utf8_all, IsUtf8}
 use Rattle.latex2mathml_grammar.specs.Characters.{head, is_space}
-use Rattle.latex2mathml_grammar.specs.{Counts.backslashes, Counts.begins_with_backslash, Cutting.slice, Cutting.slices_of, Grammar.first_or_end}
+use Rattle.latex2mathml_grammar.specs.{Counts.backslashes, Counts.begins_with_backslash, Cutting.slice, Cutting.slices_of, Grammar.first_or_end, Openers.openers, Openers.opens}
 use Rattle.latex2mathml_grammar.specs.Beginnings.{BeginsWith, IsLongestRun}
 use Rattle.latex2mathml_parser.specs.{Lexing.IsStart, Lexing.is_lone, Marks.rest_of}
 use Rattle.latex2mathml_grammar.specs.Spelling.{Slice, SpellsAt, IsFirstSlice, begins_longer, character_token, takes_digit}
@@ -141,6 +141,7 @@ token_taken takes text t n takes' rest tokens tokens' comparisons comparisons' h
       counts = record {
         tokens = omega arith;
         more = omega arith;
+        openers = omega (arith, ap (λ ss. openers (token_list ss)) h.1, sum_by-cons opens t (token_list (slices_of takes' rest)));
         rest = λ slices stands. sym (ap (λ k. drop k slices) e ∙ sym (drop-drop 1 tokens slices) ∙ ap (drop 1) (sym stands) ∙ ap (drop 1) h.1);
         at_least = omega arith;
         at_most = omega arith;

@@ -1,13 +1,13 @@
 -- The steps of the parser: what they answer, and what they count.
 use Rattle.std.proofs.Common.{◌≡◌, ℕ, ◌+◌, ◌≤◌, ◌∷◌, Result, Ok, Err, ap, arith}
-use Rattle.std.specs.Prelude.{IfOk}
+use Rattle.std.specs.Prelude.{IfOk, sum_by}
 use Rattle.std.specs.declared.alloc.AllocError.{AllocError}
-use Rattle.latex2mathml_grammar.specs.Openers.{openers, opens}
-use Rattle.latex2mathml_parser.specs.{Marks.rest_of, Marks.sign_token, Steps.Counted, Steps.Follows, Steps.IsStep, Steps.StacksWithin, Unread.GoesOn}
+use Rattle.latex2mathml_grammar.specs.Openers.{opens}
+use Rattle.latex2mathml_parser.specs.{Marks.sign_token, Steps.Counted, Steps.Follows, Steps.IsStep, Steps.StacksWithin, Steps.frame_weight, Unread.GoesOn}
 use Rattle.latex2mathml_tokens.specs.Tok.{Tok}
 use Rattle.latex2mathml_parser.specs.{declared.lexer.mark.Sign.Sign, declared.parse.Parser.Parser, declared.parse.State.State}
 use Rattle.latex2mathml_parser.specs.declared.lexer.mark.Sign.TheVariants.{Sub, Sup}
-use Rattle.latex2mathml_parser.proofs.Progress.{GoesOn-trans, OpensFor-one, OpensFor-rest, OpensFor-trans}
+use Rattle.latex2mathml_parser.proofs.Progress.{GoesOn-trans, OpensFor-one, OpensFor-trans}
 
 -- what is counted from step to step
 pub counted_on : (m n : ℕ) (p q r : Parser) → Counted m p q → Counted n q r → Counted (m + n) p r
@@ -21,6 +21,7 @@ counted_none p = record {
   counts = record {
     tokens = omega arith;
     more = omega arith;
+    openers = omega arith;
     rest = λ slices stands. stands;
     at_least = omega arith;
     at_most = omega arith;
@@ -43,24 +44,12 @@ pub counted_signed : (sign : Sign) (p q r : Parser) → p.lexer.list ≡ sign_to
 counted_signed Sub p q r stood counts same h = counted_taken _ p q r stood counts same h
 counted_signed Sup p q r stood counts same h = counted_taken _ p q r stood counts same h
 
--- a token is passed over
-pub counted_skipped : (p q r : Parser) (n : ℕ) → q.lexer.list ≡ rest_of p.lexer.list → GoesOn p.lexer q.lexer → q.frames.greatest ≡ p.frames.greatest → Counted 0 q r → Counted n p r
-counted_skipped p q r n passed counts same h =
-    let over = OpensFor-rest p.lexer q.lexer passed counts in
-    record {
-      counts = GoesOn-trans _ _ _ counts h.counts;
-      frames = record { taken = omega arith; openers = omega arith };
-    }
-
--- a token is passed over, and nothing else
-pub counted_passed : (p q : Parser) → q.lexer.list ≡ rest_of p.lexer.list → GoesOn p.lexer q.lexer → q.frames.greatest ≡ p.frames.greatest → Counted 0 p q
-counted_passed p q passed counts same = counted_skipped p q q 0 passed counts same (counted_none q)
-
--- no token is taken
-pub counted_kept : (p q : Parser) → q.lexer.list ≡ p.lexer.list → GoesOn p.lexer q.lexer → q.frames.greatest ≡ p.frames.greatest → Counted 0 p q
-counted_kept p q kept counts same =
-    let still : openers q.lexer.list ≡ openers p.lexer.list = ap openers kept in
-    record { counts = counts; frames = record { taken = omega (arith, counts.more); openers = omega arith } }
+-- tokens are passed over
+pub counted_after : (p q r : Parser) (n : ℕ) → GoesOn p.lexer q.lexer → q.frames.greatest ≡ p.frames.greatest → Counted n q r → Counted n p r
+counted_after p q r n counts same h = record {
+  counts = GoesOn-trans _ _ _ counts h.counts;
+  frames = record { taken = omega arith; openers = omega arith };
+}
 
 -- less is left to do than a greater bound
 pub follows_within : {a b : ℕ} (p : Parser) (r : Result State AllocError) → IfOk r (Follows a p) → a ≤ b → IfOk r (Follows b p)
@@ -72,4 +61,11 @@ pub step_within : {m n a b : ℕ} (p q : Parser) (r : Result State AllocError) �
 step_within p q r h fewer within = record {
   counted = record { counts = h.counted.counts; frames = record { taken = omega arith; openers = omega arith } };
   follows = follows_within _ r h.follows (omega arith);
+}
+
+-- a step after tokens that are passed over
+pub step_after : {n a b : ℕ} (p q r : Parser) (answer : Result State AllocError) → IsStep n a q r answer → GoesOn p.lexer q.lexer → q.frames ≡ p.frames → a ≤ b → IsStep n b p r answer
+step_after p q r answer h counts same within = record {
+  counted = counted_after p q r _ counts (ap (λ f. f.greatest) same) h.counted;
+  follows = follows_within _ answer h.follows (omega (arith, ap (λ f. sum_by frame_weight f.stack.items) same));
 }
