@@ -1,19 +1,8 @@
-use Rattle.std.proofs.Common.{rules, length, refl, sym, ap, subst, ◌∷◌, ◌∙◌}
-use Rattle.latex2mathml_parser.specs.{Levels.Leads, Marks.rest_of, Steps.level}
+use Rattle.std.proofs.Common.{rules, length, refl, ap, subst, ◌∷◌, ◌∙◌}
+use Rattle.latex2mathml_parser.specs.{Levels.Leads, Steps.level}
 use Rattle.latex2mathml_parts.specs.Forests.{trees_in}
-use Rattle.latex2mathml_tokens.specs.Lexemes.{lexeme_tok}
 use Rattle.latex2mathml_parser.proofs.{Beginning.stood, Stacks.token_begun, Stepping.counted_after, Stepping.counted_taken}
 use Rattle.latex2mathml_parser.proofs.parse.Parser.next_lexeme.Goals as goal
-
-pub returns-in-EOF : goal.returns-in-EOF
-returns-in-EOF c =
-    let p = c.args.self.now in
-    let none = c.take_other.ensures.ended (ap lexeme_tok c.in-EOF.is) in
-    let left = c.take_other.ensures.list ∙ ap rest_of none in
-    record {
-      holds = λ input k. c.at_end.ensures.holds left input (subst (Leads (level 0 input p)) (none ∙ sym left) k);
-      step = record { counted = counted_after p _ _ 0 c.take_other.ensures.counts refl c.at_end.ensures.step.counted; follows = search rules };
-    }
 
 pub returns-then-end_at : goal.returns-then-end_at
 returns-then-end_at c =
