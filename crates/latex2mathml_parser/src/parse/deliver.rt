@@ -55,7 +55,7 @@ impl<'a> Parser<'a> {
     }
 
     /// Gives a frame, which was taken off the stack and is no group, the part that it waits for.
-    #[tactic(auto, using(crate::proofs::Combining::first_read, crate::proofs::Combining::last_read))]
+    #[tactic(auto, using(crate::proofs::Combining::operand_read))]
     fn deliver(&mut self, frame: Frame<'a>) -> Result<State, AllocError>
         requires fit { unfit frame ≡ 0 }
         requires other { IsNoGroup frame }
