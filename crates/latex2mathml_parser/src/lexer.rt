@@ -45,6 +45,7 @@ impl<'a> Model for Lexer<'a> {
 
 impl<'a> Lexer<'a> {
     /// Returns a lexer of a whole text.
+    #[tactic(auto, using(crate::proofs::Starts::fits))]
     pub(crate) fn new(text: &'a str) -> Lexer<'a>
         ensures slices { result.slices ≡ slices_in text.now }
         ensures list { result.list ≡ token_list (slices_in text.now) }
