@@ -19,9 +19,6 @@ GoesOn-trans a b c h i = record {
   at_most = omega arith;
 }
 
-pub OpensFor-trans : (a b c : Unread) (l m n : ℕ) → OpensFor a b l m → OpensFor b c m n → OpensFor a c l n
-OpensFor-trans a b c l m n h i = record { taken = omega arith; openers = omega arith }
-
 -- a token is taken, and a frame is opened for the one before it
 pub OpensFor-one : (t : Tok) (a b : Unread) (m n : ℕ) → a.list ≡ t ∷ b.list → GoesOn a b → n ≤ m → OpensFor a b m (n + opens t)
 OpensFor-one t a b m n stood counts h =

@@ -6,7 +6,7 @@ use Rattle.latex2mathml_grammar.specs.Openers.{opens}
 use Rattle.latex2mathml_parser.specs.{Steps.Counted, Steps.Follows, Steps.IsStep, Steps.StacksWithin, Steps.frame_weight, Unread.GoesOn}
 use Rattle.latex2mathml_tokens.specs.Tok.{Tok}
 use Rattle.latex2mathml_parser.specs.{declared.parse.Parser.Parser, declared.parse.State.State}
-use Rattle.latex2mathml_parser.proofs.{Levels.unprimed, Levels.unscripted, Progress.GoesOn-trans, Progress.OpensFor-one, Progress.OpensFor-trans}
+use Rattle.latex2mathml_parser.proofs.{Levels.unprimed, Levels.unscripted, Progress.GoesOn-trans, Progress.OpensFor-one}
 
 -- what is counted from step to step
 pub counted_on : (m n : ℕ) (p q r : Parser) → Counted m p q → Counted n q r → Counted (m + n) p r
@@ -36,26 +36,24 @@ stacks_within p q h = omega (arith, h.frames.taken, q.frames.covered)
 pub counted_taken : (t : Tok) (p q r : Parser) → p.lexer.list ≡ t ∷ q.lexer.list → GoesOn p.lexer q.lexer → q.frames.greatest ≡ p.frames.greatest → Counted (opens t) q r → Counted 0 p r
 counted_taken t p q r stood counts same h =
     let opened = OpensFor-one t p.lexer q.lexer (p.frames.greatest + 0) q.frames.greatest stood counts (omega arith) in
-    record { counts = GoesOn-trans _ _ _ counts h.counts; frames = OpensFor-trans _ _ _ _ _ _ opened h.frames }
-
--- tokens are passed over
-pub counted_after : (p q r : Parser) (n : ℕ) → GoesOn p.lexer q.lexer → q.frames.greatest ≡ p.frames.greatest → Counted n q r → Counted n p r
-counted_after p q r n counts same h = record {
-  counts = GoesOn-trans _ _ _ counts h.counts;
-  frames = record { taken = omega arith; openers = omega arith };
-}
+    record { counts = GoesOn-trans _ _ _ counts h.counts; frames = record { taken = omega arith; openers = omega arith } }
 
 -- less is left to do than a greater bound
-pub follows_within : {a b : ℕ} (p : Parser) (r : Result State AllocError) → IfOk r (Follows a p) → a ≤ b → IfOk r (Follows b p)
+follows_within : {a b : ℕ} (p : Parser) (r : Result State AllocError) → IfOk r (Follows a p) → a ≤ b → IfOk r (Follows b p)
 follows_within p (Ok s) h within = record { trees = h.trees; falls = omega arith }
 follows_within p (Err e) h within = tt
 
 -- a step after tokens that are passed over
 pub step_after : {n a b : ℕ} (p q r : Parser) (answer : Result State AllocError) → IsStep n a q r answer → GoesOn p.lexer q.lexer → q.frames ≡ p.frames → a ≤ b → IsStep n b p r answer
-step_after p q r answer h counts same within = record {
-  counted = counted_after p q r _ counts (ap (λ f. f.greatest) same) h.counted;
-  follows = follows_within _ answer h.follows (omega (arith, ap (λ f. sum_by frame_weight f.stack.items) same));
-}
+step_after p q r answer h counts same within =
+    let greatest = ap (λ f. f.greatest) same in
+    record {
+      counted = record {
+        counts = GoesOn-trans _ _ _ counts h.counted.counts;
+        frames = record { taken = omega arith; openers = omega arith };
+      };
+      follows = follows_within _ answer h.follows (omega (arith, ap (λ f. sum_by frame_weight f.stack.items) same));
+    }
 
 -- what the step after a core needs
 pub ruleset steps_after_core = (unprimed, unscripted, step_after)
