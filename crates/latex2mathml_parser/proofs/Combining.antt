@@ -43,6 +43,9 @@ first_read input p k fits m =
     let two : arity k ≡ 2 = omega arith in
     rw two (simp (← first_operand) at m)
 
+-- an operand is read
+pub ruleset operand_read = (first_read, last_read)
+
 -- One single, or two.
 
 pub arity_of_one : (p : Pair) → arity (one_of_pair p) ≡ 1

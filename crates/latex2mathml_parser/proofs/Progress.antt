@@ -1,8 +1,8 @@
 -- Counts that go on from step to step.
-use Rattle.std.proofs.Common.{◌≡◌, ℕ, ◌+◌, ◌≤◌, List, [], ◌∷◌, length, ap, ◌∙◌, arith}
+use Rattle.std.proofs.Common.{◌≡◌, ℕ, ◌+◌, ◌≤◌, ◌∷◌, length, ap, ◌∙◌, arith}
 use Rattle.std.proofs.lemmas.List.Sums.{sum_by-cons}
 use Rattle.latex2mathml_grammar.specs.Openers.{openers, opens}
-use Rattle.latex2mathml_parser.specs.{Marks.rest_of, Unread.GoesOn, Unread.OpensFor, Unread.Unread}
+use Rattle.latex2mathml_parser.specs.{Unread.GoesOn, Unread.OpensFor, Unread.Unread}
 use Rattle.latex2mathml_tokens.specs.Tok.{Tok}
 
 -- a token opens at most one frame
@@ -13,13 +13,11 @@ pub GoesOn-trans : (a b c : Unread) → GoesOn a b → GoesOn b c → GoesOn a c
 GoesOn-trans a b c h i = record {
   tokens = omega arith;
   more = omega arith;
+  openers = omega arith;
   rest = λ slices stands. i.rest slices (h.rest slices stands);
   at_least = omega arith;
   at_most = omega arith;
 }
-
-pub OpensFor-trans : (a b c : Unread) (l m n : ℕ) → OpensFor a b l m → OpensFor b c m n → OpensFor a c l n
-OpensFor-trans a b c l m n h i = record { taken = omega arith; openers = omega arith }
 
 -- a token is taken, and a frame is opened for the one before it
 pub OpensFor-one : (t : Tok) (a b : Unread) (m n : ℕ) → a.list ≡ t ∷ b.list → GoesOn a b → n ≤ m → OpensFor a b m (n + opens t)
@@ -28,16 +26,3 @@ OpensFor-one t a b m n stood counts h =
     let fewer : openers a.list ≡ opens t + openers b.list = ap openers stood ∙ sum_by-cons opens t b.list in
     let one = opens-≤ t in
     record { taken = omega arith; openers = omega arith }
-
-rest-openers : (l : List Tok) → openers (rest_of l) ≤ openers l
-rest-openers [] = omega arith
-rest-openers (t ∷ ts) = omega (arith, sum_by-cons opens t ts)
-
--- a token is passed over, where one is left
-pub rest-shorter : (a b : Unread) → b.list ≡ rest_of a.list → length b.list ≤ length a.list
-rest-shorter a b passed = grind (arith)
-
-pub OpensFor-rest : (a b : Unread) → b.list ≡ rest_of a.list → GoesOn a b → OpensFor a b 0 0
-OpensFor-rest a b passed counts =
-    let shorter = rest-shorter a b passed in
-    record { taken = omega arith; openers = omega (arith, ap openers passed, rest-openers a.list) }

@@ -41,12 +41,12 @@ last_place : (fs : List Frame) (f : Frame) → length (fs ++ f ∷ []) - 1 ≡ l
 last_place fs f = omega (arith, length-append fs (f ∷ []))
 
 -- another frame is put in place of the innermost one
-pub replaced : (fs gs : List Frame) (f g : Frame) → gs ≡ fs ++ f ∷ [] → slice_set gs (length gs - 1) g ≡ fs ++ g ∷ []
-replaced fs gs f g e = rw e (ap (λ n. slice_set (fs ++ f ∷ []) n g) (last_place fs f) ∙ set-append_seam fs f [] g)
+pub replaced : (fs gs : List Frame) (f g : Frame) (n : ℕ) → n ≡ length gs - 1 → gs ≡ fs ++ f ∷ [] → slice_set gs n g ≡ fs ++ g ∷ []
+replaced fs gs f g n last e = rw (last, e, last_place fs f) (set-append_seam fs f [] g)
 
 -- the innermost frame is taken off
-pub left_below : (fs gs : List Frame) (f : Frame) → gs ≡ fs ++ f ∷ [] → take (length gs - 1) gs ≡ fs
-left_below fs gs f e = rw e (ap (λ n. take n (fs ++ f ∷ [])) (last_place fs f) ∙ take-append_seam fs (f ∷ []))
+pub left_below : (fs gs : List Frame) (f : Frame) (n : ℕ) → n ≡ length gs - 1 → gs ≡ fs ++ f ∷ [] → take n gs ≡ fs
+left_below fs gs f n last e = rw (last, e, last_place fs f) (take-append_seam fs (f ∷ []))
 
 -- a frame is put on
 pub put_on : (input : List Tok) (fs gs : List Frame) (f : Frame) (ts : List Tree) (place : List Tok) → gs ≡ fs ++ f ∷ [] → RuleLeads (remaining (standing_of f ts)) (Made (sort_made f) (inside input fs (drop (tree_count f) ts))) place → Leads (inside input gs ts) place

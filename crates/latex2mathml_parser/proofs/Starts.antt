@@ -1,12 +1,12 @@
 -- What the lexer takes from the slices that are left of a text, and what it leaves where it only looks.
 use Rattle.std.proofs.Common.{◌≡◌, ◌≢◌, ℕ, ◌+◌, ◌-◌, ◌*◌, ◌^◌, ◌<◌, ◌≤◌, Bool, true, false, not, ◌||◌, List, [], ◌∷◌, ◌++◌, drop, drop-drop, eqb, length, refl, sym, ap, subst, ◌∙◌, Some, if◌then◌else◌, arith, rules}
 use Rattle.std.proofs.lemmas.Bool.{and_right, cond_both, not-true, or_parts}
-use Rattle.std.proofs.{lemmas.Bool.Decides.nat_tests, lemmas.List.Elements.All-cons, lemmas.List.Elements.All-nil}
+use Rattle.std.proofs.{lemmas.Bool.Decides.nat_tests, lemmas.List.Elements.All-cons, lemmas.List.Elements.All-nil, lemmas.List.Sums.sum_by-cons}
 use Rattle.std.proofs.lemmas.Str.{encodes-chars, length-le-encodes}
 use Rattle.std.specs.Char.{is_ascii_alphabetic, is_ascii_digit}
 use Rattle.std.specs.Str.{byte, chars, encode_utf8_all, IsUtf8}
 use Rattle.latex2mathml_grammar.specs.Characters.{head, is_space}
-use Rattle.latex2mathml_grammar.specs.{Counts.backslashes, Counts.begins_with_backslash, Cutting.slice, Cutting.slices_of, Grammar.first_or_end}
+use Rattle.latex2mathml_grammar.specs.{Counts.backslashes, Counts.begins_with_backslash, Cutting.slice, Cutting.slices_of, Grammar.first_or_end, Openers.openers, Openers.opens}
 use Rattle.latex2mathml_grammar.specs.Beginnings.{BeginsWith, IsLongestRun}
 use Rattle.latex2mathml_parser.specs.{Lexing.IsStart, Lexing.is_lone, Marks.rest_of}
 use Rattle.latex2mathml_grammar.specs.Spelling.{Slice, SpellsAt, IsFirstSlice, begins_longer, character_token, takes_digit}
@@ -103,13 +103,6 @@ taken_character takes text c after t e alone f no_digit =
     let parts = or_parts (begins_longer c) (is_space c) (not-true _ alone) in
     taken_uncounted takes takes text text c after t after (starts_here takes text c after e parts.1) e (λ b. cc (ap begins_longer b, parts.0)) (one_character takes text c after t e parts.0 parts.1 f) no_digit
 
--- a slice that is a command is taken
-pub taken_command : (takes alone takes' : Bool) (text start : List ℕ) (c : ℕ) (after : List ℕ) (t : Tok) (n : ℕ) (rest : List ℕ) → IsStart takes text start alone → start ≡ c ∷ after → c ≡ byte "\\" → BeginsWith alone (byte "\\" ∷ after) t rest → takes' ≡ takes_digit (Some t) → 1 ≤ n → n ≤ 9 → IsTaken takes text t n takes' rest
-taken_command takes alone takes' text start c after t n rest starts e backslash begins f least most =
-    let whole : start ≡ byte "\\" ∷ after = e ∙ ap (λ x. x ∷ after) backslash in
-    let one : backslash_count start ≡ 1 = ap backslash_count whole in
-    taken takes alone takes' text start t n rest starts (subst (λ s. BeginsWith alone s t rest) (sym whole) begins) f (omega arith) (omega arith)
-
 -- a letter is taken
 pub taken_letter : (takes : Bool) (text : List ℕ) (c : ℕ) (after : List ℕ) → text ≡ c ∷ after → is_ascii_alphabetic c ≡ true → IsTaken takes text (Letter c Italic) 0 false after
 taken_letter takes text c after e letter =
@@ -124,7 +117,10 @@ taken_digit takes text c after bs e d lone bytes =
 -- a command is taken, for which 1 to 9 names were compared
 pub command_taken : (takes alone takes' : Bool) (text start : List ℕ) (c : ℕ) (after : List ℕ) (t : Tok) (rest : List ℕ) (comparisons comparisons' : ℕ) → IsStart takes text start alone → start ≡ c ∷ after → c ≡ byte "\\" → ((alone : Bool) → BeginsWith alone (byte "\\" ∷ after) t rest) → takes' ≡ takes_digit (Some t) → comparisons + 1 ≤ comparisons' → comparisons' ≤ comparisons + 9 → (n : ℕ) × IsTaken takes text t n takes' rest × (comparisons' ≡ comparisons + n)
 command_taken takes alone takes' text start c after t rest comparisons comparisons' starts e backslash begins f least most =
-    (comparisons' - comparisons, taken_command takes alone takes' text start c after t (comparisons' - comparisons) rest starts e backslash (begins alone) f (omega arith) (omega arith), omega arith)
+    let whole : start ≡ byte "\\" ∷ after = e ∙ ap (λ x. x ∷ after) backslash in
+    let one : backslash_count start ≡ 1 = ap backslash_count whole in
+    let n = comparisons' - comparisons in
+    (n, taken takes alone takes' text start t n rest starts (subst (λ s. BeginsWith alone s t rest) (sym whole) (begins alone)) f (omega arith) (omega arith), omega arith)
 
 -- the token of the slice is taken
 pub token_taken : (takes : Bool) (text : List ℕ) (t : Tok) (n : ℕ) (takes' : Bool) (rest : List ℕ) (tokens tokens' comparisons comparisons' : ℕ) → IsTaken takes text t n takes' rest → t ≢ EOF → tokens' ≡ tokens + 1 → comparisons' ≡ comparisons + n → Takes t (unread_in (slices_of takes text) tokens comparisons) (unread_in (slices_of takes' rest) tokens' comparisons')
@@ -141,6 +137,7 @@ token_taken takes text t n takes' rest tokens tokens' comparisons comparisons' h
       counts = record {
         tokens = omega arith;
         more = omega arith;
+        openers = omega (arith, ap (λ ss. openers (token_list ss)) h.1, sum_by-cons opens t (token_list (slices_of takes' rest)));
         rest = λ slices stands. sym (ap (λ k. drop k slices) e ∙ sym (drop-drop 1 tokens slices) ∙ ap (drop 1) (sym stands) ∙ ap (drop 1) h.1);
         at_least = omega arith;
         at_most = omega arith;

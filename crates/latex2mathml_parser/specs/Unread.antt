@@ -39,11 +39,12 @@ TakesName bytes old new = NameStands bytes old.list new.list
 abbrev pub IsLeftOf : List Slice → Unread → Type 0
 IsLeftOf slices unread = unread.slices ≡ drop unread.tokens slices
 
--- the counts went on with the tokens: a token that is no longer left was taken, and k slices read that begin with a
--- backslash took k to 9 * k comparisons
+-- the counts went on with the tokens: a token that is no longer left was taken, no token that opens a frame was added, and
+-- k slices read that begin with a backslash took k to 9 * k comparisons
 pub record GoesOn (old new : Unread) : Type 0 where
   pub tokens : new.tokens + length new.list ≡ old.tokens + length old.list
   pub more : old.tokens ≤ new.tokens
+  pub openers : openers new.list ≤ openers old.list
   pub rest : (slices : List Slice) → IsLeftOf slices old → IsLeftOf slices new
   pub at_least : old.comparisons + old.backslashes ≤ new.comparisons + new.backslashes
   pub at_most : new.comparisons + 9 * new.backslashes ≤ old.comparisons + 9 * old.backslashes

@@ -3,7 +3,7 @@
 ghost use Rattle.std.specs.Prelude.{◌≡◌, ◌≢◌, ◌∷◌, ℕ, List, IfOk, MatchBool, MatchOption, Some, codes, string_bytes};
 ghost use Rattle.latex2mathml_grammar.specs.{Counts.backslashes, Grammar.first};
 ghost use Rattle.latex2mathml_parser.specs.Marks.{IsSeen, MarkStands, rest_of, sign_token};
-ghost use Rattle.latex2mathml_parser.specs.Unread.{GoesOn, OpensFor, Takes, TakesName, slices_in, token_list};
+ghost use Rattle.latex2mathml_parser.specs.Unread.{GoesOn, Takes, TakesName, slices_in, token_list};
 ghost use Rattle.latex2mathml_tokens.specs.{Lexemes.lexeme_tok, Tok.Letter, Tok.Paren};
 ghost use Rattle.latex2mathml_tokens.specs.declared.attribute.Variant.TheVariants.{Italic};
 
@@ -45,6 +45,7 @@ impl<'a> Model for Lexer<'a> {
 
 impl<'a> Lexer<'a> {
     /// Returns a lexer of a whole text.
+    #[tactic(auto, using(crate::proofs::Starts::fits))]
     pub(crate) fn new(text: &'a str) -> Lexer<'a>
         ensures slices { result.slices ≡ slices_in text.now }
         ensures list { result.list ≡ token_list (slices_in text.now) }
@@ -218,7 +219,6 @@ impl<'a> Lexer<'a> {
     pub(crate) fn name(&mut self, alloc: Global) -> Result<String, AllocError>
         ensures name { IfOk result (λ name. TakesName (string_bytes name) self.old self.new) }
         ensures counts { GoesOn self.old self.new }
-        ensures fewer { OpensFor self.old self.new 0 0 }
     {
         self.skip();
         let mut name = String::new(alloc);
@@ -232,7 +232,6 @@ impl<'a> Lexer<'a> {
     pub(crate) fn skip_name(&mut self)
         ensures name { (bytes : List ℕ) × TakesName bytes self.old self.new }
         ensures counts { GoesOn self.old self.new }
-        ensures fewer { OpensFor self.old self.new 0 0 }
     {
         self.skip();
         while let Lexeme::Letter(_, _) = self.take() {}

@@ -163,6 +163,7 @@ impl<'a> Parser<'a> {
     }
 
     /// Does the same, whatever comes next.
+    #[tactic(auto, using(crate::proofs::Beginning::stood))]
     fn next_lexeme(&mut self) -> Result<State, AllocError>
         requires { HasTrees 0 self.old }
         ensures holds { Keeps State.Next self.old self.new result }

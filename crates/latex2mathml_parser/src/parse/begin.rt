@@ -161,6 +161,7 @@ impl<'a> Parser<'a> {
     }
 
     /// Begins an operator with the limits whose signs come next.
+    #[tactic(auto, using(crate::proofs::Stepping::step_after))]
     fn limits(&mut self, c: char, below: Pair, above: Pair) -> Result<State, AllocError>
         requires { HasTrees 0 self.old }
         ensures holds { Proceeds (limited c below above self.old) 0 self.old self.new result }
@@ -188,6 +189,7 @@ impl<'a> Parser<'a> {
     }
 
     /// Puts a parenthesis of this size. The parenthesis must come next.
+    #[tactic(auto, using(crate::proofs::Stepping::step_after))]
     fn size_paren(&mut self, size: Size) -> Result<State, AllocError>
         requires { HasTrees 0 self.old }
         ensures holds { Proceeds (takes_token (sized (size_text size))) 0 self.old self.new result }
@@ -238,6 +240,7 @@ impl<'a> Parser<'a> {
     }
 
     /// Begins a fence, which must come next, and the members after it.
+    #[tactic(auto, using(crate::proofs::Stepping::step_after))]
     fn open_fence(&mut self) -> Result<State, AllocError>
         requires { HasTrees 0 self.old }
         ensures holds { Proceeds (rule Left) 0 self.old self.new result }
@@ -299,8 +302,12 @@ impl<'a> Beginning<'a> {
             Lexeme::Ampersand => Some(Beginning::Leaf(Kind::Ampersand)),
             Lexeme::NewLine => Some(Beginning::Leaf(Kind::NewLine)),
             Lexeme::LBrace => Some(Beginning::Frame(Frame::Members(Group::Brace, 0))),
-            Lexeme::Over(c, accent) => Some(Beginning::Frame(Frame::Operand(Kind::Over(c, accent)))),
-            Lexeme::Under(c, accent) => Some(Beginning::Frame(Frame::Operand(Kind::Under(c, accent)))),
+            Lexeme::Over(c, accent) => Some(Beginning::Frame(Frame::Operand(Kind::Over(
+                c, accent,
+            )))),
+            Lexeme::Under(c, accent) => Some(Beginning::Frame(Frame::Operand(Kind::Under(
+                c, accent,
+            )))),
             Lexeme::Style(variant) => Some(Beginning::Frame(Frame::Style(variant))),
             Lexeme::Frac => Some(Beginning::Frame(Frame::First(Kind::Frac))),
             Lexeme::Binom(display) => Some(Beginning::Frame(Frame::First(Kind::Binom(display)))),

@@ -55,7 +55,7 @@ impl<'a> Parser<'a> {
     }
 
     /// Gives a frame, which was taken off the stack and is no group, the part that it waits for.
-    #[tactic(auto, using(crate::proofs::Combining::first_read))]
+    #[tactic(auto, using(crate::proofs::Combining::operand_read))]
     fn deliver(&mut self, frame: Frame<'a>) -> Result<State, AllocError>
         requires fit { unfit frame ≡ 0 }
         requires other { IsNoGroup frame }
@@ -113,6 +113,7 @@ impl<'a> Parser<'a> {
     }
 
     /// Goes on after the single of a rule that takes a second one if its sign is next.
+    #[tactic(auto, using(crate::proofs::Stepping::step_after))]
     fn after_first(&mut self, pair: Pair) -> Result<State, AllocError>
         requires trees { HasTrees 1 self.old }
         requires room { vec_len self.old.frames.stack < self.old.frames.greatest }
@@ -163,6 +164,7 @@ impl<'a> Parser<'a> {
 
     /// Ends a group whose members were read.
     #[inline(always)]
+    #[tactic(auto, using(crate::proofs::Stepping::step_after))]
     fn end_group(&mut self, group: Group, count: usize) -> Result<State, AllocError>
         requires trees { HasTrees (tree_count (Frame.Members group count)) self.old }
         requires room { vec_len self.old.frames.stack < self.old.frames.greatest }
@@ -184,6 +186,7 @@ impl<'a> Parser<'a> {
     }
 
     /// Ends a fence whose members were read.
+    #[tactic(auto, using(crate::proofs::Stepping::step_after))]
     fn close_fence(&mut self, opening: Option<Paren>, count: usize) -> Result<State, AllocError>
         requires { HasTrees count self.old }
         ensures holds { EndsGroup (Group.Fence opening) count self.old self.new result }

@@ -270,6 +270,7 @@ impl<'a> Frames<'a> {
 
     /// Puts a frame in place of the innermost one. This opens no frame.
     #[inline(always)]
+    #[tactic(auto, using(crate::proofs::Stacks::replaced))]
     pub(crate) fn replace(&mut self, frame: Frame<'a>)
         requires some { 0 < vec_len self.old.stack }
         requires fit { unfit frame ≡ 0 }
@@ -283,6 +284,7 @@ impl<'a> Frames<'a> {
 
     /// Takes off the innermost frame, which was looked at.
     #[inline(always)]
+    #[tactic(auto, using(crate::proofs::Stacks::left_below))]
     pub(crate) fn drop_last(&mut self)
         ensures stack { (fs : List Frame) (f : Frame) → IsOn f fs self.old.stack.items
             → self.new.stack.items ≡ fs }

@@ -13,7 +13,7 @@ use std::alloc::AllocError;
 
 impl<'a> Parser<'a> {
     /// Goes on after a core, with a prime or a script if one follows.
-    #[tactic(auto, using(crate::proofs::Levels::unprimed, crate::proofs::Levels::unscripted))]
+    #[tactic(auto, using(crate::proofs::Stepping::steps_after_core))]
     pub(crate) fn after_core(&mut self) -> Result<State, AllocError>
         requires { HasTrees 1 self.old }
         ensures holds { Keeps State.Core self.old self.new result }
@@ -44,7 +44,7 @@ impl<'a> Parser<'a> {
     }
 
     /// Goes on after a single, with a script if one follows.
-    #[tactic(auto, using(crate::proofs::Levels::unscripted))]
+    #[tactic(auto, using(crate::proofs::Levels::unscripted, crate::proofs::Stepping::step_after))]
     fn after_single(&mut self) -> Result<State, AllocError>
         requires { HasTrees 1 self.old }
         ensures holds { FollowsSingle self.old self.new result }

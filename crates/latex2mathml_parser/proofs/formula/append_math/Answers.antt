@@ -23,18 +23,10 @@ nodes-preserved c =
       counted = counted_on 0 0 _ _ _ c.nodes.invariant.counted (counted_taken _ c.nodes.parser _ _ found c.take_into.ensures.counts refl c.in_ok-is_read.ensures.counted);
     }
 
-pub nodes-smaller : goal.nodes-smaller
-nodes-smaller c = grind (arith, stood)
-
 pub returns-in_err-is_read-clause-counted : goal.returns-in_err-is_read-clause-counted
 returns-in_err-is_read-clause-counted c =
     let found = stood _ _ _ c.in_default.not-EOF c.take_into.ensures.token c.take_into.ensures.list in
     counted_on 0 0 _ _ _ c.nodes.invariant.counted (counted_taken _ _ _ _ found c.take_into.ensures.counts refl c.in_err-is_read.ensures.counted)
-
-pub returns-in_err-is_read-clause-stack : goal.returns-in_err-is_read-clause-stack
-returns-in_err-is_read-clause-stack c =
-    let found = stood _ _ _ c.in_default.not-EOF c.take_into.ensures.token c.take_into.ensures.list in
-    stacks_within _ _ (counted_on 0 0 _ _ _ c.nodes.invariant.counted (counted_taken _ _ _ _ found c.take_into.ensures.counts refl c.in_err-is_read.ensures.counted))
 
 pub returns-then-not-is_read : goal.returns-then-not-is_read
 returns-then-not-is_read c =

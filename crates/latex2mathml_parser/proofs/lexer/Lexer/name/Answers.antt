@@ -7,4 +7,4 @@ loop-c-preserved c = letter_taken _ _ c.in-Letter.c _ _ _ _ c.in-Letter.ensures 
 pub returns : goal.returns
 returns c =
     let all = name_taken _ _ c.args.self.now _ _ c.take.ensures c.in_default.not-Letter c.loop-c.invariant in
-    record { name = all.0; counts = all.1; fewer = all.2 }
+    record { name = all.0; counts = all.1 }

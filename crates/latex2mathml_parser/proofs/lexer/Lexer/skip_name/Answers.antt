@@ -13,4 +13,4 @@ pub returns : goal.returns
 returns c =
     let so_far = c.loop.invariant in
     let all = name_taken _ _ c.args.self.now _ _ c.take.ensures c.in_default.not-Letter so_far.1 in
-    record { name = (so_far.0, all.0); counts = all.1; fewer = all.2 }
+    record { name = (so_far.0, all.0); counts = all.1 }

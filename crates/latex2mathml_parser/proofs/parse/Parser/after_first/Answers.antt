@@ -1,9 +1,6 @@
-use Rattle.std.proofs.Common.{rules, ap, refl, sym}
-use Rattle.latex2mathml_parser.specs.Marks.{rest_of}
 use Rattle.latex2mathml_parts.specs.Forests.{trees_in}
 use Rattle.latex2mathml_parser.proofs.Combining.{arity_of_one, arity_of_two, first_operand, last_operand}
 use Rattle.latex2mathml_parser.proofs.Levels.{signed, unsigned}
-use Rattle.latex2mathml_parser.proofs.Stepping.{counted_skipped}
 use Rattle.latex2mathml_parser.proofs.parse.Parser.after_first.Goals as goal
 
 pub returns-then-take_if-clause-holds : goal.returns-then-take_if-clause-holds
@@ -16,11 +13,3 @@ returns-clause-holds c = λ input k.
     let absent = rw (c.if-take_if.false, c.sign.ensures) at c.take_if.ensures.list in
     c.put.ensures.holds input
     (rw (c.one.ensures, arity_of_one c.args.pair, last_operand _ (trees_in c.args.self.now.parts)) (unsigned absent k))
-
-pub returns-then-take_if-clause-step : goal.returns-then-take_if-clause-step
-returns-then-take_if-clause-step c =
-    let stands = rw (c.if-take_if.true, c.sign.ensures) at c.take_if.ensures.list in
-    record {
-      counted = counted_skipped c.args.self.now _ _ 0 (sym (ap rest_of stands)) c.take_if.ensures.counts refl c.put_back.ensures.step.counted;
-      follows = search rules;
-    }

@@ -1,5 +1,4 @@
-use Rattle.std.proofs.Common.{refl, rules}
-use Rattle.latex2mathml_parser.proofs.{Levels.taken, Stacks.core_refused, Stepping.counted_skipped}
+use Rattle.latex2mathml_parser.proofs.{Levels.taken, Stacks.core_refused}
 use Rattle.latex2mathml_parser.proofs.parse.Parser.close_fence.Goals as goal
 
 pub returns-in_default-clause-holds : goal.returns-in_default-clause-holds
@@ -10,15 +9,3 @@ pub returns-clause-holds : goal.returns-clause-holds
 returns-clause-holds c = λ input k.
     c.put.ensures.holds input
     (rw c.in_ok-group.ensures (rw c.in-Some.ensures at (taken c.take-got.ensures.token c.take-got.ensures.list k)))
-
-pub returns-in_default-clause-step : goal.returns-in_default-clause-step
-returns-in_default-clause-step c = record {
-  counted = counted_skipped c.args.self.now _ _ 0 c.take-got.ensures.list c.take-got.ensures.counts refl c.refuse_fence.ensures.step.counted;
-  follows = search rules;
-}
-
-pub returns-clause-step : goal.returns-clause-step
-returns-clause-step c = record {
-  counted = counted_skipped c.args.self.now _ _ 0 c.take-got.ensures.list c.take-got.ensures.counts refl c.put.ensures.step.counted;
-  follows = search rules;
-}

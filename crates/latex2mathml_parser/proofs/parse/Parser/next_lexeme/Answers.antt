@@ -1,30 +1,15 @@
-use Rattle.std.proofs.Common.{rules, length, refl, sym, ap, subst, ◌∷◌, ◌∙◌}
-use Rattle.latex2mathml_parser.specs.{Levels.Leads, Marks.rest_of, Steps.level}
+use Rattle.std.proofs.Common.{rules, length, refl, ap, subst, ◌∷◌, ◌∙◌}
+use Rattle.latex2mathml_parser.specs.{Levels.Leads, Steps.level}
 use Rattle.latex2mathml_parts.specs.Forests.{trees_in}
-use Rattle.latex2mathml_tokens.specs.Lexemes.{lexeme_tok}
-use Rattle.latex2mathml_parser.proofs.{Beginning.stood, Stacks.token_begun, Stepping.counted_skipped, Stepping.counted_taken}
+use Rattle.latex2mathml_parser.proofs.{Beginning.stood, Stacks.token_begun, Stepping.counted_taken}
 use Rattle.latex2mathml_parser.proofs.parse.Parser.next_lexeme.Goals as goal
 
-pub returns-in-EOF : goal.returns-in-EOF
-returns-in-EOF c =
-    let p = c.args.self.now in
-    let none = c.take_other.ensures.ended (ap lexeme_tok c.in-EOF.is) in
-    let left = c.take_other.ensures.list ∙ ap rest_of none in
-    record {
-      holds = λ input k. c.at_end.ensures.holds left input (subst (Leads (level 0 input p)) (none ∙ sym left) k);
-      step = record { counted = counted_skipped p _ _ 0 c.take_other.ensures.list c.take_other.ensures.counts refl c.at_end.ensures.step.counted; follows = search rules };
-    }
-
-pub returns-then-end_at : goal.returns-then-end_at
-returns-then-end_at c =
+pub returns-then-end_at-clause-holds : goal.returns-then-end_at-clause-holds
+returns-then-end_at-clause-holds c = λ input k.
     let p = c.args.self.now in
     let found = stood c.take_other.new.lexeme p.lexer.list c.take_other.new.self.list c.in_default.not-EOF c.take_other.ensures.token c.take_other.ensures.list in
-    let shorter = ap length found in
     let (end, is_due, is_end) = c.if-end_at.ensures in
-    record {
-      holds = λ input k. c.close.ensures.holds input end is_due (subst (Leads (level 0 input p)) (found ∙ ap (λ t. t ∷ c.take_other.new.self.list) is_end) k);
-      step = record { counted = counted_skipped p _ _ 0 c.take_other.ensures.list c.take_other.ensures.counts refl c.close.ensures.step.counted; follows = search rules };
-    }
+    c.close.ensures.holds input end is_due (subst (Leads (level 0 input p)) (found ∙ ap (λ t. t ∷ c.take_other.new.self.list) is_end) k)
 
 pub returns : goal.returns
 returns c =

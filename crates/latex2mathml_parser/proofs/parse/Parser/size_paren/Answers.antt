@@ -1,6 +1,4 @@
-use Rattle.std.proofs.Common.{rules, refl}
 use Rattle.latex2mathml_parser.proofs.{Beginning.not_sized, Levels.taken, Stacks.core_refused}
-use Rattle.latex2mathml_parser.proofs.Stepping.{counted_none, counted_skipped}
 use Rattle.latex2mathml_parser.proofs.parse.Parser.size_paren.Goals as goal
 
 pub returns-in-Paren-clause-holds : goal.returns-in-Paren-clause-holds
@@ -12,15 +10,3 @@ returns-in_ok-got-in_default-clause-holds c = λ input k.
     c.refuse.ensures.holds input
     (rw c.in_ok-got-in_default.ensures
     (core_refused 0 input c.args.self.now (rw (not_sized _ c.take.result c.in_default.not-Paren) at (taken c.take.ensures.token c.take.ensures.list k))))
-
-pub returns-in_ok-got-in_default-clause-step : goal.returns-in_ok-got-in_default-clause-step
-returns-in_ok-got-in_default-clause-step c = record {
-  counted = rw c.refuse.ensures.refusal (counted_skipped c.args.self.now _ _ 0 c.take.ensures.list c.take.ensures.counts refl (counted_none _));
-  follows = search rules;
-}
-
-pub returns-in-Paren-clause-step : goal.returns-in-Paren-clause-step
-returns-in-Paren-clause-step c = record {
-  counted = counted_skipped c.args.self.now _ _ 0 c.take.ensures.list c.take.ensures.counts refl c.put.ensures.step.counted;
-  follows = search rules;
-}

@@ -2,7 +2,7 @@ use Rattle.std.proofs.Common.{◌≡◌, ◌∷◌, ◌+◌, length, ap, ◌∙�
 use Rattle.std.proofs.lemmas.Grind.{common_steps}
 use Rattle.latex2mathml_parts.specs.Forests.{trees_in}
 use Rattle.latex2mathml_tokens.specs.Lexemes.{lexeme_tok}
-use Rattle.latex2mathml_parser.proofs.{Beginning.stood, Beginning.stretch_begun, Progress.OpensFor-one, Progress.rest-shorter}
+use Rattle.latex2mathml_parser.proofs.{Beginning.stood, Beginning.stretch_begun, Progress.OpensFor-one}
 use Rattle.latex2mathml_parser.proofs.parse.Parser.stretch.Goals as goal
 
 pub returns-clause-holds : goal.returns-clause-holds
@@ -15,7 +15,6 @@ returns-clause-taken c =
     let p = c.args.self.now in
     let got = c.take-got.result in
     let to = c.take-got.new.self in
-    let shorter = rest-shorter p.lexer to c.take-got.ensures.list in
     record {
       trees = grind (arith, common_steps);
       more = λ h.
