@@ -104,7 +104,8 @@ class Read(Case):
                    for it in listed_in("Environments")})
 
     def test_macros(self):
-        names = [it.name for it in listed_in("Usual macros")]
+        """With an operand after each: the body of one ends with a command that takes it."""
+        names = [f"{it.name}{{a}}" for it in listed_in("Usual macros")]
         self.are_read([re.sub("#[2-9]", "a", it.replace("#1", FIRST_ARGUMENTS.get(it.partition("{")[0], "a"))) for it in names])
 
     def test_environments_of_the_other_call(self):
