@@ -2,27 +2,21 @@
 -- are read where they are, and where the grammar over slices refuses, the table does.
 use Rattle.std.proofs.Common.{◌≡◌, ◌≢◌, ◌∙◌, ℕ, List, [], ◌∷◌, ◌++◌, length, map, Option, Some, None, refl, sym, ap, subst, append_assoc, arith}
 use Rattle.std.proofs.lemmas.List.{append_cancel_right}
-use Rattle.latex2mathml_grammar.specs.Grammar.{Sort, node, Rule, takes_token, prime, Outcome, Read, Refused, first, first_or_end, first_letter, letter_of, AreLetters, Reads, core_at_end, core_begun, single_read, node_read, ReadsRule, rule_gives, rule_refuses, part_read, part_refused, members_read, members_refused, sign_stands, sign_missing, token_taken, token_at_end, token_seen, letters_taken, ReadsAll, formula_ends, group_ends, never_closed, member_read, later_refused, member_refused}
+use Rattle.latex2mathml_grammar.specs.Grammar.{Sort, node, Rule, takes_token, prime, Outcome, Read, Refused, first, first_letter, letter_of, AreLetters, Reads, core_at_end, core_begun, single_read, node_read, ReadsRule, rule_gives, rule_refuses, part_read, part_refused, members_read, members_refused, sign_stands, sign_missing, token_taken, token_at_end, token_seen, letters_taken, ReadsAll, formula_ends, group_ends, never_closed, member_read, later_refused, member_refused}
 use Rattle.latex2mathml_grammar.specs.SliceRefusals.{PartRefuses, core_refuses, single_refuses, node_refuses, subscript_refuses, superscript_refuses, RuleRefuses, rule_itself, part_itself, behind_part, members_themselves, behind_members, behind_sign, behind_no_sign, behind_token, behind_no_token, at_next_token, behind_letters, MembersRefuse, end_missing, member_itself, behind_member, FormulaRefuses, node_itself, behind_node}
 use Rattle.latex2mathml_grammar.specs.Slices.{IsPart, no_core, core_by_rule, without_prime, with_prime, without_script, with_subscript, with_superscript, AreParts, no_part, part, members, with_sign, without_sign, with_token, without_token, by_next_token, letters, AreMembers, no_member, member, AreNodes, no_node, one_node}
 use Rattle.latex2mathml_tokens.specs.{Refusal.Refusal, Tok.Tok, Tok.EOF, Tok.Underscore, Tok.Circumflex}
 use Rattle.latex2mathml_trees.specs.Tree.{Tree}
 use Rattle.latex2mathml_grammar.proofs.Total.{some_taken}
 
--- what is read of a part is a slice, and what is refused is refused after slices
-abbrev pub PartBySlices : Sort → List Tok → Outcome Tree → Type 0
-PartBySlices s l (Read x f) = (w : List Tok) × (l ≡ w ++ f) × IsPart s w f x
-PartBySlices s l (Refused r) = PartRefuses s l r
-
--- the same for the parts of a rule
-abbrev pub RuleBySlices : Rule → List Tok → Outcome Tree → Type 0
-RuleBySlices r l (Read x f) = (w : List Tok) × (l ≡ w ++ f) × AreParts r w f x
-RuleBySlices r l (Refused q) = RuleRefuses r l q
+-- what is read is a slice, and what is refused is refused after slices
+abbrev pub BySlices : {A : Type 0} → (List Tok → List Tok → A → Type 0) → (List Tok → Refusal → Type 0) → List Tok → Outcome A → Type 0
+BySlices P Q l (Read x f) = (w : List Tok) × (l ≡ w ++ f) × P w f x
+BySlices P Q l (Refused r) = Q l r
 
 -- the same for consecutive nodes, up to an end token or to the end of the formula
 abbrev pub AllBySlices : Option Tok → List Tok → Outcome (List Tree) → Type 0
-AllBySlices (Some end) l (Read xs f) = (w : List Tok) × (l ≡ w ++ f) × AreMembers end w f xs
-AllBySlices (Some end) l (Refused r) = MembersRefuse end l r
+AllBySlices (Some end) l o = BySlices (AreMembers end) (MembersRefuse end) l o
 AllBySlices None l (Read xs f) = AreNodes l xs
 AllBySlices None l (Refused r) = FormulaRefuses l r
 
@@ -30,9 +24,10 @@ AllBySlices None l (Refused r) = FormulaRefuses l r
 joined : (u v f : List Tok) {l m : List Tok} → l ≡ u ++ m → m ≡ v ++ f → l ≡ (u ++ v) ++ f
 joined u v f e p = e ∙ ap (λ k. u ++ k) p ∙ sym (append_assoc u v f)
 
--- two slices, one after the other, are one slice
-one_slice : (P : List Tok → List Tok → Type 0) (Q R : List Tok → Type 0) (l m f : List Tok) → (u : List Tok) × (l ≡ u ++ m) × P u m → (v : List Tok) × (m ≡ v ++ f) × Q v → ((u v : List Tok) → P u (v ++ f) → Q v → R (u ++ v)) → (w : List Tok) × (l ≡ w ++ f) × R w
-one_slice P Q R l m f (u, e, a) (v, p, b) make = (u ++ v, joined u v f e p, make u v (subst (P u) p a) b)
+-- a slice, and the parts of a rule after it
+behind : {q r : Rule} (o : Outcome Tree) (u : List Tok) {l m : List Tok} → l ≡ u ++ m → BySlices (AreParts q) (RuleRefuses q) m o → ((v f : List Tok) (x : Tree) → m ≡ v ++ f → AreParts q v f x → AreParts r (u ++ v) f x) → ((p : Refusal) → RuleRefuses q m p → RuleRefuses r l p) → BySlices (AreParts r) (RuleRefuses r) l o
+behind (Read x f) u e (v, p, d) make refuse = (u ++ v, joined u v f e p, make v f x p d)
+behind (Refused q) u e d make refuse = refuse q d
 
 -- a part before the same tokens
 part_before : {s : Sort} {w f g : List Tok} {x : Tree} → f ≡ g → IsPart s w f x → IsPart s w g x
@@ -45,21 +40,19 @@ letter_slice (c ∷ cs) l m d =
     let later = letter_slice cs d.1.0 m d.1.3 in
     (d.0 ∷ later.0, d.1.1 ∙ ap (λ k. d.0 ∷ k) later.1, (cc (d.1.2, later.2.0), later.2.1))
 
--- no token, and what follows
-no_token_then : (then : Tok → Rule) (o : Outcome Tree) → RuleBySlices (then EOF) [] o → RuleBySlices (takes_token then) [] o
-no_token_then then (Read x []) ([], e, d) = ([], e, without_token d)
-no_token_then then (Read x (t ∷ f)) ([], e, d) = absurd cc
-no_token_then then (Read x f) (t ∷ w, e, d) = absurd cc
-no_token_then then (Refused r) d = behind_no_token d
+-- no token, where none is left
+no_token : {then : Tok → Rule} (v f : List Tok) {x : Tree} → [] ≡ v ++ f → AreParts (then EOF) v f x → AreParts (takes_token then) v f x
+no_token [] [] e d = without_token d
+no_token v f e d = absurd cc
 
 -- nodes that are read take a token where one is left
-begun : (t : Tok) (l m : List Tok) (x : Tree) → Reads node (t ∷ l) (Read x m) → PartBySlices node (t ∷ l) (Read x m) → (u : List Tok) × (t ∷ l ≡ u ++ m) × ((first u ≡ Some t) × IsPart node u m x)
+begun : (t : Tok) (l m : List Tok) (x : Tree) → Reads node (t ∷ l) (Read x m) → BySlices (IsPart node) (PartRefuses node) (t ∷ l) (Read x m) → (u : List Tok) × (t ∷ l ≡ u ++ m) × ((first u ≡ Some t) × IsPart node u m x)
 begun t l m x d ([], e, p) = absurd (let fewer = some_taken node t l m x d in omega (arith, fewer, ap length e))
 begun t l m x d (s ∷ u, e, p) = (s ∷ u, e, (cc, p))
 
 mutual
   -- a core, a single or a node is read or refused by slices
-  pub part_by_slices : {s : Sort} {l : List Tok} {o : Outcome Tree} → Reads s l o → PartBySlices s l o
+  pub part_by_slices : {s : Sort} {l : List Tok} {o : Outcome Tree} → Reads s l o → BySlices (IsPart s) (PartRefuses s) l o
   part_by_slices core_at_end = ([], refl, no_core)
   part_by_slices (core_begun {t = t} {o = Read x f} d) = (let c = rule_by_slices d in (t ∷ c.0, ap (λ k. t ∷ k) c.1, core_by_rule c.2))
   part_by_slices (core_begun {o = Refused r} d) = core_refuses (rule_by_slices d)
@@ -85,40 +78,33 @@ mutual
   part_by_slices (node_read (part_refused d)) = node_refuses (part_by_slices d)
 
   -- the parts of a rule are read or refused by slices
-  pub rule_by_slices : {r : Rule} {l : List Tok} {o : Outcome Tree} → ReadsRule r l o → RuleBySlices r l o
+  pub rule_by_slices : {r : Rule} {l : List Tok} {o : Outcome Tree} → ReadsRule r l o → BySlices (AreParts r) (RuleRefuses r) l o
   rule_by_slices rule_gives = ([], refl, no_part)
   rule_by_slices rule_refuses = rule_itself
-  rule_by_slices (part_read {s = s} {x = y} {o = Read x f} d ds) =
-      one_slice (λ u g. IsPart s u g y) _ _ _ _ f (part_by_slices d) (rule_by_slices ds) (λ u v. part refl)
-  rule_by_slices (part_read {o = Refused r} d ds) = (let u = part_by_slices d in behind_part u.1 u.2 (rule_by_slices ds))
+  rule_by_slices (part_read {o = o} d ds) =
+      let u = part_by_slices d in behind o u.0 u.1 (rule_by_slices ds) (λ v f x e. part refl (part_before e u.2)) (λ r. behind_part u.1 u.2)
   rule_by_slices (part_refused d) = part_itself (part_by_slices d)
-  rule_by_slices (members_read {end = end} {xs = ys} {o = Read x f} d ds) =
-      one_slice (λ u g. AreMembers end u g ys) _ _ _ _ f (all_by_slices d) (rule_by_slices ds) (λ u v. members refl)
-  rule_by_slices (members_read {o = Refused r} d ds) = (let u = all_by_slices d in behind_members u.1 u.2 (rule_by_slices ds))
+  rule_by_slices (members_read {end = end} {xs = ys} {o = o} d ds) =
+      let u = all_by_slices d in behind o u.0 u.1 (rule_by_slices ds) (λ v f x e. members refl (subst (λ g. AreMembers end u.0 g ys) e u.2)) (λ r. behind_members u.1 u.2)
   rule_by_slices (members_refused d) = members_themselves (all_by_slices d)
-  rule_by_slices (sign_stands {t = t} {o = Read x f} p d) = (let c = rule_by_slices d in (_, p ∙ ap (λ k. t ∷ k) c.1, with_sign refl c.2))
-  rule_by_slices (sign_stands {o = Refused r} p d) = behind_sign p (rule_by_slices d)
-  rule_by_slices (sign_missing {t = t} {o = Read x f} h d) =
-      let c = rule_by_slices d in (c.0, c.1, without_sign (subst (λ k. first k ≢ Some t) c.1 h) c.2)
-  rule_by_slices (sign_missing {o = Refused r} h d) = behind_no_sign h (rule_by_slices d)
-  rule_by_slices (token_taken {t = t} {o = Read x f} d) = (let c = rule_by_slices d in (t ∷ c.0, ap (λ k. t ∷ k) c.1, with_token c.2))
-  rule_by_slices (token_taken {o = Refused r} d) = behind_token (rule_by_slices d)
-  rule_by_slices (token_at_end {o = o} d) = no_token_then _ o (rule_by_slices d)
-  rule_by_slices (token_seen {then = then} {o = Read x f} d) =
-      let c = rule_by_slices d in (c.0, c.1, by_next_token (subst (λ k. AreParts (then (first_or_end k)) c.0 f x) c.1 c.2))
-  rule_by_slices (token_seen {o = Refused r} d) = at_next_token (rule_by_slices d)
-  rule_by_slices (letters_taken cs {l = l} {m = m} {o = Read x f} p d) =
-      one_slice (λ u g. (map letter_of u ≡ map Some cs) × (first_letter g ≡ None)) _ _ _ _ f (letter_slice cs l m p) (rule_by_slices d) (λ u v a. letters cs u refl a.0 a.1)
-  rule_by_slices (letters_taken cs {l = l} {m = m} {o = Refused r} p d) =
-      let u = letter_slice cs l m p in behind_letters cs u.0 u.1 u.2.0 u.2.1 (rule_by_slices d)
+  rule_by_slices (sign_stands {t = t} {o = o} p d) = behind o (t ∷ []) p (rule_by_slices d) (λ v f x e. with_sign refl) (λ r. behind_sign p)
+  rule_by_slices (sign_missing {o = o} h d) = behind o [] refl (rule_by_slices d) (λ v f x e. without_sign (rw e at h)) (λ r. behind_no_sign h)
+  rule_by_slices (token_taken {t = t} {o = o} d) = behind o (t ∷ []) refl (rule_by_slices d) (λ v f x e. with_token) (λ r. behind_token)
+  rule_by_slices (token_at_end {o = o} d) = behind o [] refl (rule_by_slices d) (λ v f x. no_token v f) (λ r. behind_no_token)
+  rule_by_slices (token_seen {o = o} d) = behind o [] refl (rule_by_slices d) (λ v f x e c. by_next_token (rw e at c)) (λ r. at_next_token)
+  rule_by_slices (letters_taken cs {l = l} {m = m} {o = o} p d) =
+      let u = letter_slice cs l m p in
+      behind o u.0 u.1 (rule_by_slices d) (λ v f x e. letters cs u.0 refl u.2.0 (rw e at u.2.1)) (λ r. behind_letters cs u.0 u.1 u.2.0 u.2.1)
 
   -- consecutive nodes are read or refused by slices
   pub all_by_slices : {end : Option Tok} {l : List Tok} {o : Outcome (List Tree)} → ReadsAll end l o → AllBySlices end l o
   all_by_slices formula_ends = no_node
   all_by_slices never_closed = end_missing
   all_by_slices (group_ends {end = end} p) = (_, p, no_member refl)
-  all_by_slices (member_read {end = Some end} {t = t} {rest = f} {x = x} h d ds) =
-      one_slice (λ u g. (first u ≡ Some t) × IsPart node u g x) _ _ _ _ f (begun _ _ _ _ d (part_by_slices d)) (all_by_slices ds) (λ u v a. member refl (λ q. h (sym q ∙ a.0)) a.1)
+  all_by_slices (member_read {end = Some end} {rest = f} h d ds) =
+      let u = begun _ _ _ _ d (part_by_slices d) in
+      let v = all_by_slices ds in
+      (_, joined u.0 v.0 f u.1 v.1, member refl (λ q. h (sym q ∙ u.2.0)) (part_before v.1 u.2.1) v.2)
   all_by_slices (member_read {end = None} h d ds) =
       let u = begun _ _ _ _ d (part_by_slices d) in one_node u.1 (λ q. cc (q, u.2.0)) u.2.1 (all_by_slices ds)
   all_by_slices (later_refused {end = Some end} h d ds) =
@@ -127,10 +113,6 @@ mutual
       let u = begun _ _ _ _ d (part_by_slices d) in behind_node u.1 (λ q. cc (q, u.2.0)) u.2.1 (all_by_slices ds)
   all_by_slices (member_refused {end = Some end} h d) = member_itself (λ e. h (ap Some (sym e))) (part_by_slices d)
   all_by_slices (member_refused {end = None} h d) = node_itself (part_by_slices d)
-
--- what is read is the slice before the rest
-pub slice_at : (P : List Tok → Type 0) (w f : List Tok) → (v : List Tok) × (w ++ f ≡ v ++ f) × P v → P w
-slice_at P w f (v, e, d) = subst P (sym (append_cancel_right w v f e)) d
 
 -- letters with no letter after them
 letters_are_read : (cs : List ℕ) (u g : List Tok) → map letter_of u ≡ map Some cs → first_letter g ≡ None → AreLetters cs (u ++ g) g
@@ -228,3 +210,6 @@ pub formula_is_refused : {l : List Tok} {r : Refusal} → FormulaRefuses l r →
 formula_is_refused (node_itself d) = member_refused (λ e. cc) (part_is_refused d)
 formula_is_refused (behind_node {w = []} e h d ds) = absurd (h refl)
 formula_is_refused (behind_node {w = t ∷ w} e h d ds) = rw e (later_refused {end = None} {t = t} (λ q. cc) (part_is_read d) (formula_is_refused ds))
+
+-- the laws of slices
+pub ruleset laws_of_slices = (part_by_slices, rule_by_slices, all_by_slices, append_cancel_right, part_takes, members_take, part_is_read, parts_are_read, members_are_read, nodes_are_read, part_is_refused, parts_are_refused, members_are_refused, formula_is_refused)

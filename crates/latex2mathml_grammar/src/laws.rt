@@ -37,17 +37,20 @@ pub fn one_reading_of(tokens: &[Token])
 }
 
 /// What is read is a slice of the tokens, and the rest follows it. The slice is empty only where nothing is left.
+#[tactic(auto, using(crate::proofs::Sliced::laws_of_slices))]
 pub fn sliced()
     ensures { IsSliced }
 {}
 
 /// A slice is a core, a single, a node, the parts of a rule or the members of a group exactly where the rules read it and
 /// leave what follows it. Tokens are consecutive nodes exactly where these are a reading of the formula.
+#[tactic(auto, using(crate::proofs::Sliced::laws_of_slices), unfolding(crate::specs::Grammar::ReadsFormula))]
 pub fn read_by_slices()
     ensures { IsReadBySlices }
 {}
 
 /// Tokens are refused exactly where the grammar over slices refuses them: after parts that are slices.
+#[tactic(auto, using(crate::proofs::Sliced::laws_of_slices), unfolding(crate::specs::Grammar::Refuses))]
 pub fn refused_by_slices()
     ensures { IsRefusedBySlices }
 {}
