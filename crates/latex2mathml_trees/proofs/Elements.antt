@@ -1,21 +1,20 @@
 -- The print of a tree is elements one after another. Where no function in it has an argument, it is one element that obeys
 -- the child table.
-use Rattle.std.proofs.Common.{◌≡◌, ℕ, ◌+◌, ◌==◌, Bool, true, false, ◌&&◌, IsTrue, List, [], ◌∷◌, ◌++◌, length, Option, Some, None, refl, sym, ap, append_assoc, append-nil, length-append, arith, codes, map}
+use Rattle.std.proofs.Common.{◌≡◌, ℕ, ◌+◌, ◌==◌, Bool, true, false, ◌&&◌, IsTrue, List, [], ◌∷◌, ◌++◌, length, Option, Some, None, refl, sym, ap, ◌∙◌, append_assoc, append-nil, length-append, arith, codes, map}
 use Rattle.std.specs.{Char.encode_utf8, List.list_all}
 use Rattle.latex2mathml_trees.specs.{Arguments.HasNoArgument, Arguments.HaveNoArgument, MathSchema.IsOneElement, MathSchema.child_table}
 use Rattle.latex2mathml_tokens.specs.{Attributes.accent_text, Attributes.thickness_text, declared.DisplayStyle.DisplayStyle}
 use Rattle.latex2mathml_tokens.specs.Escape.{content, content_char, quoted, value}
-use Rattle.latex2mathml_trees.specs.Markup.{Name, plain, Attribute, attribute, open_tag, close_tag, OpenElements, above, at_start, name_of, Runs, IsBalanced, is_name, is_attribute, is_event, spell_event}
+use Rattle.latex2mathml_trees.specs.Markup.{Name, plain, Attribute, attribute, open_tag, close_tag, OpenElements, above, at_start, name_of, Runs, IsBalanced, is_name, is_attribute, spell_event}
 use Rattle.latex2mathml_trees.specs.Print.{print, prints, members_print, slashed_print, style_open}
 use Rattle.latex2mathml_trees.specs.Tree.{Tree, Trees, number, letter, operator, function, applied, space, subscript, superscript, sub_sup, over_op, under_op, overset, underset, under, under_over, root, sqrt, frac, row, fenced, stretched, other_operator, sized_paren, words, matrix, ampersand, new_line, slashed, style, undefined, no_trees, more_trees}
 use Rattle.latex2mathml_tokens.specs.declared.DisplayStyle.TheVariants.{Block, Inline}
 use Rattle.latex2mathml_tokens.specs.{declared.attribute.Accent.Accent, declared.attribute.LineThickness.LineThickness}
-use Rattle.latex2mathml_tokens.specs.declared.attribute.Accent.TheVariants as accent
 use Rattle.latex2mathml_tokens.specs.declared.attribute.LineThickness.TheVariants.{Thin, Medium, Thick, Length}
 use Rattle.latex2mathml_trees.proofs.Cells.{AreMembers, more_members, no_members, one_member, table_is_element}
 use Rattle.latex2mathml_trees.proofs.Leaves as leaves
 use Rattle.latex2mathml_trees.proofs.Leaves.{AreElements, application, closes, identifier, respelled, schema_of, sign, tagged}
-use Rattle.latex2mathml_trees.proofs.Runs.{ending_as, joined, more, more-above, more-append, more-lowest, spelled_as, staying}
+use Rattle.latex2mathml_trees.proofs.Runs.{ending_as, joined, more, more-above, more-append, more-lowest, plain-spells, staying}
 use Rattle.latex2mathml_trees.proofs.ValueTexts.{escaped, plain_decimal}
 
 both : {strict : Bool} {j k : ℕ} {a b : List ℕ} → AreElements strict j a → AreElements strict k b → AreElements strict (j + k) (a ++ b)
@@ -26,68 +25,47 @@ both x y = record {
 }
 
 module _ (strict : Bool) where
-  -- the bytes end an element that holds `count` elements and no text
-  abbrev End : Name → ℕ → List ℕ → Type 0
-  End n count bytes = (ks : List Name) (s : OpenElements) → (IsTrue strict → length ks ≡ count) → Runs (schema_of strict) bytes (above n ks false s) s
-
-  closed_after : (n : Name) (count : ℕ) → IsTrue (is_name n) → ((parent : Option Name) (ks : List Name) → length ks ≡ count → IsTrue (child_table parent n ks false)) → End n count (spell_event (close_tag n))
-  closed_after n count valid fit ks s h = closes strict n ks false s valid (λ e. fit (name_of s) ks (h e))
-
-  before : (n : Name) (j k : ℕ) (a rest : List ℕ) → AreElements strict k a → End n (j + k) rest → End n j (a ++ rest)
-  before n j k a rest x end ks s h =
-      joined (ending_as (more-above x.names ks n false s) (x.leads (above n ks false s)))
-      (end (x.names ++ ks) s (λ e. omega (arith, length-append x.names ks, x.counted e, h e)))
-
-  -- a sign prints its close tag together with what follows
-  sign_before : (n : Name) (j : ℕ) (attributes : List Attribute) (bs rest : List ℕ) → IsTrue (list_all is_attribute attributes) → End n (j + 1) rest → End n j (spell_event (open_tag (codes "mo") attributes) ++ (content bs ++ (codes "</mo>" ++ rest)))
-  sign_before n j attributes bs rest valid end ks s h =
-      spelled_as (simp append_assoc) (before n j 1 _ rest (sign strict attributes valid bs) end ks s h)
-
-  -- an element that may hold any elements
-  within : (n : Name) (attributes : List Attribute) (k : ℕ) (a : List ℕ) → IsTrue (is_event (open_tag n attributes)) → IsTrue (is_name n) → ((parent : Option Name) (ks : List Name) → IsTrue (child_table parent n ks false)) → AreElements strict k a → AreElements strict 1 (spell_event (open_tag n attributes) ++ (a ++ spell_event (close_tag n)))
-  within n attributes k a valid named fit x = tagged strict n attributes valid (λ s. before n 0 k a _ x (closed_after n (0 + k) named (λ parent ks e. fit parent ks)) [] s (λ e. refl))
-
-  -- an element that holds `count` elements
+  -- an element of this name holds `count` elements
   abbrev Holds : Name → ℕ → Type 0
   Holds n count = IsTrue (is_name n) × ((parent : Option Name) (ks : List Name) → length ks ≡ count → IsTrue (child_table parent n ks false))
+
+  within : (n : Name) (attributes : List Attribute) {count : ℕ} {a : List ℕ} → IsTrue (list_all is_attribute attributes) → Holds n count → AreElements strict count a → AreElements strict 1 (spell_event (open_tag n attributes) ++ (a ++ spell_event (close_tag n)))
+  within n attributes valid holds x = tagged strict n attributes (ap (λ b. b && list_all is_attribute attributes) holds.0 ∙ valid)
+      (λ s. joined (ending_as (more-above x.names [] n false s) (x.leads (above n [] false s)))
+      (closes strict n (x.names ++ []) false s holds.0 (λ e. holds.1 (name_of s) (x.names ++ []) (omega (arith, length-append x.names [], x.counted e)))))
 
   exactly : (count : ℕ) (ks : List Name) → length ks ≡ count → (length ks == count && true) ≡ (count == count && true)
   exactly count ks e = ap (λ l. l == count && true) e
 
-  two : (n : Name) (attributes : List Attribute) (a b : List ℕ) → IsTrue (is_event (open_tag n attributes)) → Holds n 2 → AreElements strict 1 a → AreElements strict 1 b → AreElements strict 1 (spell_event (open_tag n attributes) ++ (a ++ (b ++ spell_event (close_tag n))))
-  two n attributes a b valid holds x y = tagged strict n attributes valid (λ s. before n 0 1 a _ x (before n 1 1 b _ y (closed_after n 2 holds.0 holds.1)) [] s (λ e. refl))
+  two : (n : Name) (attributes : List Attribute) {a b : List ℕ} → IsTrue (list_all is_attribute attributes) → Holds n 2 → AreElements strict 1 a → AreElements strict 1 b → AreElements strict 1 (spell_event (open_tag n attributes) ++ (a ++ (b ++ spell_event (close_tag n))))
+  two n attributes valid holds x y = respelled (within n attributes valid holds (both x y)) (simp append_assoc)
 
-  three : (n : Name) (a b c : List ℕ) → Holds n 3 → AreElements strict 1 a → AreElements strict 1 b → AreElements strict 1 c → AreElements strict 1 (spell_event (open_tag n []) ++ (a ++ (b ++ (c ++ spell_event (close_tag n)))))
-  three n a b c holds x y z = tagged strict n [] (ap (λ b. b && true) holds.0) (λ s. before n 0 1 a _ x (before n 1 1 b _ y (before n 2 1 c _ z (closed_after n 3 holds.0 holds.1))) [] s (λ e. refl))
+  three : (n : Name) {a b c : List ℕ} → Holds n 3 → AreElements strict 1 a → AreElements strict 1 b → AreElements strict 1 c → AreElements strict 1 (spell_event (open_tag n []) ++ (a ++ (b ++ (c ++ spell_event (close_tag n)))))
+  three n holds x y z = respelled (within n [] refl holds (both x (both y z))) (simp append_assoc)
 
-  accented : (n : Name) → Holds n 2 → (c : ℕ) (k : Accent) (a : List ℕ) → AreElements strict 1 a → AreElements strict 1 (spell_event (open_tag n []) ++ (a ++ (codes "<mo accent=\"" ++ (accent_text k ++ (codes "\">" ++ (content_char c ++ (codes "</mo>" ++ spell_event (close_tag n))))))))
-  accented n holds c accent.True a x = tagged strict n [] (ap (λ b. b && true) holds.0) (λ s. before n 0 1 a _ x (sign_before n 1 (attribute (codes "accent") (map plain (codes "true")) ∷ []) (encode_utf8 c) _ refl (closed_after n 2 holds.0 holds.1)) [] s (λ e. refl))
-  accented n holds c accent.False a x = tagged strict n [] (ap (λ b. b && true) holds.0) (λ s. before n 0 1 a _ x (sign_before n 1 (attribute (codes "accent") (map plain (codes "false")) ∷ []) (encode_utf8 c) _ refl (closed_after n 2 holds.0 holds.1)) [] s (λ e. refl))
+  accented : (n : Name) → Holds n 2 → (c : ℕ) (k : Accent) {a : List ℕ} → AreElements strict 1 a → AreElements strict 1 (spell_event (open_tag n []) ++ (a ++ (codes "<mo accent=\"" ++ (accent_text k ++ (codes "\">" ++ (content_char c ++ (codes "</mo>" ++ spell_event (close_tag n))))))))
+  accented n holds c k x = respelled (two n [] refl holds x (sign strict (attribute (codes "accent") (map plain (accent_text k)) ∷ []) (grind arith) (encode_utf8 c))) (simp (append_assoc, append-nil, plain-spells))
 
-  fraction : (t : LineThickness) (a b : List ℕ) → AreElements strict 1 a → AreElements strict 1 b → AreElements strict 1 (codes "<mfrac" ++ (thickness_text t ++ (codes ">" ++ (a ++ (b ++ codes "</mfrac>")))))
-  fraction Thin a b x y = two (codes "mfrac") (attribute (codes "linethickness") (map plain (codes "thin")) ∷ []) a b refl (refl, λ parent. exactly 2) x y
-  fraction Medium a b x y = two (codes "mfrac") [] a b refl (refl, λ parent. exactly 2) x y
-  fraction Thick a b x y = two (codes "mfrac") (attribute (codes "linethickness") (map plain (codes "thick")) ∷ []) a b refl (refl, λ parent. exactly 2) x y
-  fraction (Length l) a b x y =
+  fraction : (t : LineThickness) {a b : List ℕ} → AreElements strict 1 a → AreElements strict 1 b → AreElements strict 1 (codes "<mfrac" ++ (thickness_text t ++ (codes ">" ++ (a ++ (b ++ codes "</mfrac>")))))
+  fraction Thin x y = two (codes "mfrac") (attribute (codes "linethickness") (map plain (codes "thin")) ∷ []) refl (refl, λ parent. exactly 2) x y
+  fraction Medium x y = two (codes "mfrac") [] refl (refl, λ parent. exactly 2) x y
+  fraction Thick x y = two (codes "mfrac") (attribute (codes "linethickness") (map plain (codes "thick")) ∷ []) refl (refl, λ parent. exactly 2) x y
+  fraction (Length l) x y =
       let v = plain_decimal l in
-      respelled (two (codes "mfrac") (attribute (codes "linethickness") v.parts ∷ []) a b (ap (λ b. b && true) v.are_parts) (refl, λ parent. exactly 2) x y)
+      respelled (two (codes "mfrac") (attribute (codes "linethickness") v.parts ∷ []) (ap (λ b. b && true) v.are_parts) (refl, λ parent. exactly 2) x y)
       (simp (append_assoc, append-nil, v.spelled))
 
   abbrev fence : List ℕ → List Attribute
   fence form = attribute (codes "stretchy") (map plain (codes "true")) ∷ attribute (codes "form") (map plain form) ∷ []
 
-  between_fences : (o c a : List ℕ) → AreElements strict 1 a → AreElements strict 1 (codes "<mrow><mo stretchy=\"true\" form=\"prefix\">" ++ (content o ++ (codes "</mo>" ++ (a ++ (codes "<mo stretchy=\"true\" form=\"postfix\">" ++ (content c ++ codes "</mo></mrow>"))))))
-  between_fences o c a x =
-      tagged strict (codes "mrow") [] refl
-      (λ s. sign_before (codes "mrow") 0 (fence (codes "prefix")) o _ refl
-      (before (codes "mrow") 1 1 a _ x (sign_before (codes "mrow") 2 (fence (codes "postfix")) c _ refl (closed_after (codes "mrow") 3 refl (λ parent ks e. refl)))) [] s (λ e. refl))
+  between_fences : (o c : List ℕ) {a : List ℕ} → AreElements strict 1 a → AreElements strict 1 (codes "<mrow><mo stretchy=\"true\" form=\"prefix\">" ++ (content o ++ (codes "</mo>" ++ (a ++ (codes "<mo stretchy=\"true\" form=\"postfix\">" ++ (content c ++ codes "</mo></mrow>"))))))
+  between_fences o c x = respelled (within (codes "mrow") [] refl (refl, λ parent ks e. refl) (both (sign strict (fence (codes "prefix")) refl o) (both x (sign strict (fence (codes "postfix")) refl c)))) (simp append_assoc)
 
   -- a parenthesis with a size, which is any text
   sized : (z p : List ℕ) → AreElements strict 1 (codes "<mrow><mo maxsize=\"" ++ (value z ++ (codes "\" minsize=\"" ++ (value z ++ (codes "\">" ++ (content p ++ codes "</mo></mrow>"))))))
   sized z p =
       let v = escaped z in
-      respelled (tagged strict (codes "mrow") [] refl
-      (λ s. sign_before (codes "mrow") 0 (attribute (codes "maxsize") v.parts ∷ attribute (codes "minsize") v.parts ∷ []) p (codes "</mrow>") (ap (λ b. b && (b && true)) v.are_parts) (closed_after (codes "mrow") 1 refl (λ parent ks e. refl)) [] s (λ e. refl)))
+      respelled (within (codes "mrow") [] refl (refl, λ parent ks e. refl) (sign strict (attribute (codes "maxsize") v.parts ∷ attribute (codes "minsize") v.parts ∷ []) (ap (λ b. b && (b && true)) v.are_parts) p))
       (simp (append_assoc, append-nil, v.spelled))
 
   slashed_elements : (x : Tree) → AreElements strict 1 (print x) → AreElements strict 1 (slashed_print x (print x))
@@ -95,14 +73,14 @@ module _ (strict : Bool) where
   slashed_elements (operator c) g = leaves.slashed_sign strict c
   slashed_elements x g = g
 
-  styled : (d : Option DisplayStyle) (a : List ℕ) → AreElements strict 1 a → AreElements strict 1 (style_open d ++ (a ++ codes "</mstyle>"))
-  styled None a x = within (codes "mstyle") [] 1 a refl refl (λ parent ks. refl) x
-  styled (Some Block) a x = within (codes "mstyle") (attribute (codes "displaystyle") (map plain (codes "true")) ∷ []) 1 a refl refl (λ parent ks. refl) x
-  styled (Some Inline) a x = within (codes "mstyle") (attribute (codes "displaystyle") (map plain (codes "false")) ∷ []) 1 a refl refl (λ parent ks. refl) x
+  styled : (d : Option DisplayStyle) {a : List ℕ} → AreElements strict 1 a → AreElements strict 1 (style_open d ++ (a ++ codes "</mstyle>"))
+  styled None x = within (codes "mstyle") [] refl (refl, λ parent ks e. refl) x
+  styled (Some Block) x = within (codes "mstyle") (attribute (codes "displaystyle") (map plain (codes "true")) ∷ []) refl (refl, λ parent ks e. refl) x
+  styled (Some Inline) x = within (codes "mstyle") (attribute (codes "displaystyle") (map plain (codes "false")) ∷ []) refl (refl, λ parent ks e. refl) x
 
   mutual
     elements : (t : Tree) → (IsTrue strict → HasNoArgument t) → AreElements strict 1 (print t)
-    elements (number digits) h = leaves.leaf strict (codes "mn") [] refl refl (λ parent d. refl) digits
+    elements (number digits) h = leaves.leaf strict (codes "mn") [] refl refl (λ parent d. refl) (leaves.contents strict digits)
     elements (letter c v) h = leaves.letter_is_element strict c v
     elements (operator c) h = leaves.operator_is_element strict c
     elements (function name) h = identifier strict name
@@ -110,20 +88,20 @@ module _ (strict : Bool) where
         let whole = respelled (both (identifier strict name) (both (application strict) (elements x (λ e. absurd (h e))))) (simp append_assoc) in
         record { names = whole.names; counted = λ e. absurd (h e); leads = whole.leads }
     elements (space width) h = leaves.space_is_element strict width
-    elements (subscript a b) h = two (codes "msub") [] _ _ refl (refl, λ parent. exactly 2) (elements a (λ e. (h e).0)) (elements b (λ e. (h e).1))
-    elements (superscript a b) h = two (codes "msup") [] _ _ refl (refl, λ parent. exactly 2) (elements a (λ e. (h e).0)) (elements b (λ e. (h e).1))
-    elements (sub_sup a b c) h = three (codes "msubsup") _ _ _ (refl, λ parent. exactly 3) (elements a (λ e. (h e).0)) (elements b (λ e. (h e).1)) (elements c (λ e. (h e).2))
-    elements (over_op c k x) h = accented (codes "mover") (refl, λ parent. exactly 2) c k _ (elements x h)
-    elements (under_op c k x) h = accented (codes "munder") (refl, λ parent. exactly 2) c k _ (elements x h)
-    elements (overset a b) h = two (codes "mover") [] _ _ refl (refl, λ parent. exactly 2) (elements b (λ e. (h e).1)) (elements a (λ e. (h e).0))
-    elements (underset a b) h = two (codes "munder") [] _ _ refl (refl, λ parent. exactly 2) (elements b (λ e. (h e).1)) (elements a (λ e. (h e).0))
-    elements (under a b) h = two (codes "munder") [] _ _ refl (refl, λ parent. exactly 2) (elements a (λ e. (h e).0)) (elements b (λ e. (h e).1))
-    elements (under_over a b c) h = three (codes "munderover") _ _ _ (refl, λ parent. exactly 3) (elements a (λ e. (h e).0)) (elements b (λ e. (h e).1)) (elements c (λ e. (h e).2))
-    elements (root d x) h = two (codes "mroot") [] _ _ refl (refl, λ parent. exactly 2) (elements x (λ e. (h e).1)) (elements d (λ e. (h e).0))
-    elements (sqrt x) h = within (codes "msqrt") [] 1 _ refl refl (λ parent ks. refl) (elements x h)
-    elements (frac a b t) h = fraction t _ _ (elements a (λ e. (h e).0)) (elements b (λ e. (h e).1))
-    elements (row members) h = let some = all_elements members h in within (codes "mrow") [] some.0 _ refl refl (λ parent ks. refl) some.1
-    elements (fenced o c x) h = between_fences o c _ (elements x h)
+    elements (subscript a b) h = two (codes "msub") [] refl (refl, λ parent. exactly 2) (elements a (λ e. (h e).0)) (elements b (λ e. (h e).1))
+    elements (superscript a b) h = two (codes "msup") [] refl (refl, λ parent. exactly 2) (elements a (λ e. (h e).0)) (elements b (λ e. (h e).1))
+    elements (sub_sup a b c) h = three (codes "msubsup") (refl, λ parent. exactly 3) (elements a (λ e. (h e).0)) (elements b (λ e. (h e).1)) (elements c (λ e. (h e).2))
+    elements (over_op c k x) h = accented (codes "mover") (refl, λ parent. exactly 2) c k (elements x h)
+    elements (under_op c k x) h = accented (codes "munder") (refl, λ parent. exactly 2) c k (elements x h)
+    elements (overset a b) h = two (codes "mover") [] refl (refl, λ parent. exactly 2) (elements b (λ e. (h e).1)) (elements a (λ e. (h e).0))
+    elements (underset a b) h = two (codes "munder") [] refl (refl, λ parent. exactly 2) (elements b (λ e. (h e).1)) (elements a (λ e. (h e).0))
+    elements (under a b) h = two (codes "munder") [] refl (refl, λ parent. exactly 2) (elements a (λ e. (h e).0)) (elements b (λ e. (h e).1))
+    elements (under_over a b c) h = three (codes "munderover") (refl, λ parent. exactly 3) (elements a (λ e. (h e).0)) (elements b (λ e. (h e).1)) (elements c (λ e. (h e).2))
+    elements (root d x) h = two (codes "mroot") [] refl (refl, λ parent. exactly 2) (elements x (λ e. (h e).1)) (elements d (λ e. (h e).0))
+    elements (sqrt x) h = within (codes "msqrt") [] refl (refl, λ parent ks e. refl) (elements x h)
+    elements (frac a b t) h = fraction t (elements a (λ e. (h e).0)) (elements b (λ e. (h e).1))
+    elements (row members) h = let some = all_elements members h in within (codes "mrow") [] refl (refl, λ parent ks e. refl) some.1
+    elements (fenced o c x) h = between_fences o c (elements x h)
     elements (stretched b text) h = leaves.stretched_is_element strict b text
     elements (other_operator text) h = sign strict [] refl text
     elements (sized_paren size paren) h = sized size paren
@@ -132,7 +110,7 @@ module _ (strict : Bool) where
     elements ampersand h = leaves.error_is_element strict (codes "Ampersand")
     elements new_line h = leaves.error_is_element strict (codes "NewLine")
     elements (slashed x) h = slashed_elements x (elements x h)
-    elements (style d x) h = styled d _ (elements x h)
+    elements (style d x) h = styled d (elements x h)
     elements (undefined text) h = leaves.error_is_element strict (codes "Undefined(" ++ (quoted text ++ codes ")"))
 
     all_elements : (ts : Trees) → (IsTrue strict → HaveNoArgument ts) → (count : ℕ) × AreElements strict count (prints ts)

@@ -1,12 +1,12 @@
 -- Markup that consists of elements, wherever it is, and the elements without a tree in them.
-use Rattle.std.proofs.Common.{◌≡◌, ℕ, ℤ, Bool, true, false, ◌&&◌, ◌||◌, ◌==◌, IsTrue, List, [], ◌∷◌, ◌++◌, length, Option, Some, None, refl, ap, ◌∙◌, append_assoc, append-nil, codes, map, cond}
+use Rattle.std.proofs.Common.{◌≡◌, ℕ, ℤ, Bool, true, false, ◌&&◌, ◌||◌, ◌==◌, IsTrue, List, [], ◌∷◌, ◌++◌, length, Option, Some, None, refl, ap, ◌∙◌, append_assoc, append-nil, arith, codes, map, cond}
 use Rattle.std.specs.{Char.encode_utf8, List.list_all}
 use Rattle.std.proofs.lemmas.Grind.{flat_map-append}
 use Rattle.latex2mathml_tokens.specs.{Attributes.bool_text, Attributes.variant_text, declared.attribute.Variant.TheVariants.Italic}
 use Rattle.latex2mathml_tokens.specs.{Escape.content, Escape.content_char, declared.attribute.Variant.Variant}
 use Rattle.latex2mathml_trees.specs.Markup.{Name, Reference, numbered, plain, Attribute, attribute, open_tag, close_tag, empty_tag, reference, OpenElements, above, add, name_of, any_element, Schema, Runs, is_name, is_attribute, is_reference, is_event, spell_event, spell_reference}
 use Rattle.latex2mathml_trees.specs.{MathSchema.child_table, Print.error_print, Print.letter_print, Print.operator_print, Width.width_text}
-use Rattle.latex2mathml_trees.proofs.Runs.{content_leads, joined, more, obeying, single, spelled_as}
+use Rattle.latex2mathml_trees.proofs.Runs.{content_leads, joined, more, obeying, plain-spells, single, spelled_as}
 use Rattle.latex2mathml_trees.proofs.ValueTexts.{beside, no_text, plain_before, plain_width}
 
 -- If strict, elements obey the child table. Otherwise every element is allowed.
@@ -39,35 +39,34 @@ module _ (strict : Bool) where
     leads = λ s. joined (single (schema_of strict) (open_tag n attributes) s (above n [] false (add n s)) valid refl) (end (add n s));
   }
 
-  -- the bytes end an element that holds no element
-  abbrev EndText : Name → List ℕ → Type 0
-  EndText n bytes = (d : Bool) (s : OpenElements) → Runs (schema_of strict) bytes (above n [] d s) s
+  -- the bytes are text of an element that holds no element
+  abbrev pub IsText : List ℕ → Type 0
+  IsText bytes = (n : Name) (s : OpenElements) → (d : Bool) × Runs (schema_of strict) bytes (above n [] false s) (above n [] d s)
 
-  text_ends : (n : Name) → IsTrue (is_name n) → ((parent : Option Name) (d : Bool) → IsTrue (child_table parent n [] d)) → EndText n (spell_event (close_tag n))
-  text_ends n valid fit d s = closes n [] d s valid (λ h. fit (name_of s) d)
+  pub contents : (bs : List ℕ) → IsText (content bs)
+  contents bs n s = content_leads (schema_of strict) n [] false s bs
 
-  content_then : (n : Name) (bs rest : List ℕ) → EndText n rest → EndText n (content bs ++ rest)
-  content_then n bs rest end d s = let text = content_leads (schema_of strict) n [] d s bs in joined text.1 (end text.0 s)
-
-  reference_then : (n : Name) (r : Reference) (rest : List ℕ) → IsTrue (is_reference r) → EndText n rest → EndText n (spell_reference r ++ rest)
-  reference_then n r rest valid end d s = joined (single (schema_of strict) (reference r) (above n [] d s) (above n [] (d || true) s) valid refl) (end (d || true) s)
+  referring : (bs : List ℕ) (r : Reference) → IsTrue (is_reference r) → IsText (content bs ++ spell_reference r)
+  referring bs r valid n s =
+      let text = contents bs n s in (text.0 || true, joined text.1 (single (schema_of strict) (reference r) (above n [] text.0 s) (above n [] (text.0 || true) s) valid refl))
 
   -- an element of text
-  pub leaf : (n : Name) (attributes : List Attribute) → IsTrue (is_name n) → IsTrue (list_all is_attribute attributes) → ((parent : Option Name) (d : Bool) → IsTrue (child_table parent n [] d)) → (bs : List ℕ) → AreElements strict 1 (spell_event (open_tag n attributes) ++ (content bs ++ spell_event (close_tag n)))
-  leaf n attributes valid valids fit bs = tagged n attributes (ap (λ b. b && list_all is_attribute attributes) valid ∙ valids) (content_then n bs _ (text_ends n valid fit) false)
+  pub leaf : (n : Name) (attributes : List Attribute) → IsTrue (is_name n) → IsTrue (list_all is_attribute attributes) → ((parent : Option Name) (d : Bool) → IsTrue (child_table parent n [] d)) → {bytes : List ℕ} → IsText bytes → AreElements strict 1 (spell_event (open_tag n attributes) ++ (bytes ++ spell_event (close_tag n)))
+  leaf n attributes valid valids fit text = tagged n attributes (ap (λ b. b && list_all is_attribute attributes) valid ∙ valids)
+      (λ s. (let held = text n s in joined held.1 (closes n [] held.0 s valid (λ h. fit (name_of s) held.0))))
 
   pub identifier : (bs : List ℕ) → AreElements strict 1 (codes "<mi>" ++ (content bs ++ codes "</mi>"))
-  identifier = leaf (codes "mi") [] refl refl (λ parent d. refl)
+  identifier bs = leaf (codes "mi") [] refl refl (λ parent d. refl) (contents bs)
 
   pub wording : (bs : List ℕ) → AreElements strict 1 (codes "<mtext>" ++ (content bs ++ codes "</mtext>"))
-  wording = leaf (codes "mtext") [] refl refl (λ parent d. refl)
+  wording bs = leaf (codes "mtext") [] refl refl (λ parent d. refl) (contents bs)
 
   pub sign : (attributes : List Attribute) → IsTrue (list_all is_attribute attributes) → (bs : List ℕ) → AreElements strict 1 (spell_event (open_tag (codes "mo") attributes) ++ (content bs ++ codes "</mo>"))
-  sign attributes valid = leaf (codes "mo") attributes refl valid (λ parent d. refl)
+  sign attributes valid bs = leaf (codes "mo") attributes refl valid (λ parent d. refl) (contents bs)
 
   pub letter_is_element : (c : ℕ) (v : Variant) → AreElements strict 1 (letter_print c v)
   letter_is_element c Italic = identifier (encode_utf8 c)
-  letter_is_element c v = leaf (codes "mi") (attribute (codes "mathvariant") (map plain (variant_text v)) ∷ []) refl refl (λ parent d. refl) (encode_utf8 c)
+  letter_is_element c v = leaf (codes "mi") (attribute (codes "mathvariant") (map plain (variant_text v)) ∷ []) refl refl (λ parent d. refl) (contents (encode_utf8 c))
 
   pub operator_is_element : (c : ℕ) → AreElements strict 1 (operator_print c)
   operator_is_element c =
@@ -77,8 +76,7 @@ module _ (strict : Bool) where
       ]
 
   pub stretched_is_element : (b : Bool) (bs : List ℕ) → AreElements strict 1 (codes "<mo stretchy=\"" ++ (bool_text b ++ (codes "\">" ++ (content bs ++ codes "</mo>"))))
-  stretched_is_element true bs = sign (attribute (codes "stretchy") (map plain (codes "true")) ∷ []) refl bs
-  stretched_is_element false bs = sign (attribute (codes "stretchy") (map plain (codes "false")) ∷ []) refl bs
+  stretched_is_element b bs = respelled (sign (attribute (codes "stretchy") (map plain (bool_text b)) ∷ []) (grind arith) bs) (simp (append_assoc, append-nil, plain-spells))
 
   pub error_is_element : (bs : List ℕ) → AreElements strict 1 (error_print bs)
   error_is_element bs = respelled (wording (codes "[PARSE ERROR: " ++ (bs ++ codes "]"))) (simp (flat_map-append, append_assoc))
@@ -95,15 +93,12 @@ module _ (strict : Bool) where
 
   -- an element of text after a function's name represents its application
   pub application : AreElements strict 1 (codes "<mo>&#x2061;</mo>")
-  application = tagged (codes "mo") [] refl (reference_then (codes "mo") (numbered (codes "2061")) _ refl (text_ends (codes "mo") refl (λ parent d. refl)) false)
+  application = leaf (codes "mo") [] refl refl (λ parent d. refl) (referring [] (numbered (codes "2061")) refl)
 
   -- a letter and an operator with a slash, which is a reference
-  slash_ends : (n : Name) → IsTrue (is_name n) → ((parent : Option Name) (d : Bool) → IsTrue (child_table parent n [] d)) → (bs : List ℕ) → EndText n (content bs ++ (codes "&#x0338;" ++ spell_event (close_tag n)))
-  slash_ends n valid fit bs = content_then n bs _ (reference_then n (numbered (codes "0338")) _ refl (text_ends n valid fit))
-
   pub slashed_letter : (c : ℕ) (v : Variant) → AreElements strict 1 (codes "<mi mathvariant=\"" ++ (variant_text v ++ (codes "\">" ++ (content_char c ++ codes "&#x0338;</mi>"))))
-  slashed_letter c Italic = tagged (codes "mi") (attribute (codes "mathvariant") (map plain (codes "italic")) ∷ []) refl (slash_ends (codes "mi") refl (λ parent d. refl) (encode_utf8 c) false)
-  slashed_letter c v = tagged (codes "mi") (attribute (codes "mathvariant") (map plain (variant_text v)) ∷ []) refl (slash_ends (codes "mi") refl (λ parent d. refl) (encode_utf8 c) false)
+  slashed_letter c v = respelled (leaf (codes "mi") (attribute (codes "mathvariant") (map plain (variant_text v)) ∷ []) refl (grind arith) (λ parent d. refl) (referring (encode_utf8 c) (numbered (codes "0338")) refl))
+      (simp (append_assoc, append-nil, plain-spells))
 
   pub slashed_sign : (c : ℕ) → AreElements strict 1 (codes "<mo>" ++ (content_char c ++ codes "&#x0338;</mo>"))
-  slashed_sign c = tagged (codes "mo") [] refl (slash_ends (codes "mo") refl (λ parent d. refl) (encode_utf8 c) false)
+  slashed_sign c = respelled (leaf (codes "mo") [] refl refl (λ parent d. refl) (referring (encode_utf8 c) (numbered (codes "0338")) refl)) (simp append_assoc)
