@@ -7,13 +7,13 @@ use Rattle.latex2mathml_tokens.specs.{Attributes.accent_text, Attributes.thickne
 use Rattle.latex2mathml_tokens.specs.Escape.{content, content_char, quoted, value}
 use Rattle.latex2mathml_trees.specs.Markup.{Name, plain, Attribute, attribute, open_tag, close_tag, OpenElements, above, at_start, name_of, Runs, IsBalanced, is_name, is_attribute, spell_event}
 use Rattle.latex2mathml_trees.specs.Print.{print, prints, members_print, slashed_print, style_open}
-use Rattle.latex2mathml_trees.specs.Tree.{Tree, Trees, number, letter, operator, function, applied, space, subscript, superscript, sub_sup, over_op, under_op, overset, underset, under, under_over, root, sqrt, frac, row, fenced, stretched, other_operator, sized_paren, words, matrix, ampersand, new_line, slashed, style, undefined, no_trees, more_trees}
+use Rattle.latex2mathml_trees.specs.Tree.{Tree, Trees, number, letter, operator, applied, subscript, superscript, sub_sup, over_op, under_op, overset, underset, under, under_over, root, sqrt, frac, row, fenced, other_operator, sized_paren, matrix, ampersand, new_line, slashed, style, undefined, no_trees, more_trees}
 use Rattle.latex2mathml_tokens.specs.declared.DisplayStyle.TheVariants.{Block, Inline}
 use Rattle.latex2mathml_tokens.specs.{declared.attribute.Accent.Accent, declared.attribute.LineThickness.LineThickness}
 use Rattle.latex2mathml_tokens.specs.declared.attribute.LineThickness.TheVariants.{Thin, Medium, Thick, Length}
 use Rattle.latex2mathml_trees.proofs.Cells.{AreMembers, more_members, no_members, one_member, table_is_element}
 use Rattle.latex2mathml_trees.proofs.Leaves as leaves
-use Rattle.latex2mathml_trees.proofs.Leaves.{AreElements, application, closes, identifier, respelled, schema_of, sign, tagged}
+use Rattle.latex2mathml_trees.proofs.Leaves.{AreElements, application, closes, identifier, respelled, schema_of, sign, tagged, whole_elements}
 use Rattle.latex2mathml_trees.proofs.Runs.{ending_as, joined, more, more-above, more-append, more-lowest, plain-spells, staying}
 use Rattle.latex2mathml_trees.proofs.ValueTexts.{escaped, plain_decimal}
 
@@ -81,13 +81,9 @@ module _ (strict : Bool) where
   mutual
     elements : (t : Tree) → (IsTrue strict → HasNoArgument t) → AreElements strict 1 (print t)
     elements (number digits) h = leaves.leaf strict (codes "mn") [] refl refl (λ parent d. refl) (leaves.contents strict digits)
-    elements (letter c v) h = leaves.letter_is_element strict c v
-    elements (operator c) h = leaves.operator_is_element strict c
-    elements (function name) h = identifier strict name
     elements (applied name x) h =
         let whole = respelled (both (identifier strict name) (both (application strict) (elements x (λ e. absurd (h e))))) (simp append_assoc) in
         record { names = whole.names; counted = λ e. absurd (h e); leads = whole.leads }
-    elements (space width) h = leaves.space_is_element strict width
     elements (subscript a b) h = two (codes "msub") [] refl (refl, λ parent. exactly 2) (elements a (λ e. (h e).0)) (elements b (λ e. (h e).1))
     elements (superscript a b) h = two (codes "msup") [] refl (refl, λ parent. exactly 2) (elements a (λ e. (h e).0)) (elements b (λ e. (h e).1))
     elements (sub_sup a b c) h = three (codes "msubsup") (refl, λ parent. exactly 3) (elements a (λ e. (h e).0)) (elements b (λ e. (h e).1)) (elements c (λ e. (h e).2))
@@ -102,16 +98,15 @@ module _ (strict : Bool) where
     elements (frac a b t) h = fraction t (elements a (λ e. (h e).0)) (elements b (λ e. (h e).1))
     elements (row members) h = let some = all_elements members h in within (codes "mrow") [] refl (refl, λ parent ks e. refl) some.1
     elements (fenced o c x) h = between_fences o c (elements x h)
-    elements (stretched b text) h = leaves.stretched_is_element strict b text
     elements (other_operator text) h = sign strict [] refl text
     elements (sized_paren size paren) h = sized size paren
-    elements (words text) h = leaves.wording strict text
     elements (matrix members a) h = table_is_element strict a _ (some_members members h)
     elements ampersand h = leaves.error_is_element strict (codes "Ampersand")
     elements new_line h = leaves.error_is_element strict (codes "NewLine")
     elements (slashed x) h = slashed_elements x (elements x h)
     elements (style d x) h = styled d (elements x h)
     elements (undefined text) h = leaves.error_is_element strict (codes "Undefined(" ++ (quoted text ++ codes ")"))
+    elements t h = search whole_elements
 
     all_elements : (ts : Trees) → (IsTrue strict → HaveNoArgument ts) → (count : ℕ) × AreElements strict count (prints ts)
     all_elements no_trees h = (0, record { names = []; counted = λ e. refl; leads = λ s. staying })

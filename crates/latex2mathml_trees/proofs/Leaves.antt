@@ -102,3 +102,6 @@ module _ (strict : Bool) where
 
   pub slashed_sign : (c : ℕ) → AreElements strict 1 (codes "<mo>" ++ (content_char c ++ codes "&#x0338;</mo>"))
   slashed_sign c = respelled (leaf (codes "mo") [] refl refl (λ parent d. refl) (referring (encode_utf8 c) (numbered (codes "0338")) refl)) (simp append_assoc)
+
+-- elements that are a tree
+pub ruleset whole_elements = (identifier, wording, letter_is_element, operator_is_element, stretched_is_element, space_is_element)

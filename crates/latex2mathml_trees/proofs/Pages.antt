@@ -3,7 +3,7 @@ use Rattle.std.proofs.Common.{◌≡◌, ℕ, Bool, true, false, not, ◌&&◌, 
 use Rattle.std.specs.{Str.bytes_eq, List.list_all, Option.option_or}
 use Rattle.std.proofs.{lemmas.Grind.common_steps, lemmas.Option.option_and_then_some}
 use Rattle.latex2mathml_trees.specs.Markup.{Name, Attribute, Event, open_tag, close_tag, OpenElements, lowest, above, at_start, add, mark, name_of, Schema, any_element, step, run, Runs, IsBalanced, spell_event, is_attribute, is_name}
-use Rattle.latex2mathml_trees.specs.MathSchema.{IsMathElement, child_table, holding, holding_table, holds, is_parent, may_be_in}
+use Rattle.latex2mathml_trees.specs.MathSchema.{IsMathElement, child_table, holding, holding_table, holds, is_parent}
 use Rattle.latex2mathml_trees.specs.Pages.{IsPage, JoinsMarkup, is_in_table, page_schema, takes_math}
 use Rattle.latex2mathml_trees.proofs.Runs.{ending_as, joined, more, more-above, more-lowest, obeying, single, staying}
 
@@ -15,11 +15,8 @@ onto base (above own children met below) = above own children met (onto base bel
 add_marked : (name : Name) (met : Bool) (base : OpenElements) → mark met (add name base) ≡ add name (mark met base)
 add_marked name met base = grind arith
 
-added : (base : OpenElements) (name : Name) (s : OpenElements) → onto base (add name s) ≡ add name (onto base s)
-added base name s = grind (arith, add_marked)
-
-marked : (base s : OpenElements) → onto base (mark true s) ≡ mark true (onto base s)
-marked base s = grind (arith, common_steps)
+unmarked : (s : OpenElements) → mark false s ≡ s
+unmarked s = grind (arith, common_steps)
 
 name_with : (children : List Name) (met : Bool) (base : OpenElements) → name_of (mark met (more children base)) ≡ name_of base
 name_with [] met base = grind arith
@@ -30,27 +27,17 @@ abbrev Fits : Schema → Schema → Option Name → Type 0
 Fits own other base = (parent : Option Name) (name : Name) (children : List Name) (met : Bool) → IsTrue (own parent name children met) → IsTrue (other (option_or parent base) name children met)
 
 module _ (schema other : Schema) (base : OpenElements) (fits : Fits schema other (name_of base)) where
-  obeys_onto : (s : OpenElements) (name : Name) (children : List Name) (met : Bool) → IsTrue (schema (name_of s) name children met) → IsTrue (other (name_of (onto base s)) name children met)
-  obeys_onto (lowest names has_text) name children met h = rw name_with (fits None name children met h)
-  obeys_onto (above parent names has_text below) name children met h = fits (Some parent) name children met h
-
   step_onto : (p : Event) (s t : OpenElements) → step schema p s ≡ Some t → step other p (onto base s) ≡ Some (onto base t)
-  step_onto p s t e = grind (arith, common_steps, added, marked, obeys_onto)
+  step_onto p s t e = grind (arith, common_steps, add_marked, name_with, fits)
 
   -- what runs by one schema runs by the other on top of the levels
   run_onto : (ps : List Event) (s t : OpenElements) → run schema ps s ≡ Some t → run other ps (onto base s) ≡ Some (onto base t)
   run_onto [] s t e = cc
   run_onto (p ∷ ps) s t e = option_and_then_some (run schema ps) (step schema p s) t e (λ u h k. ap (option_and_then (run other ps)) (step_onto p s u h) ∙ run_onto ps u t k)
 
-  leads_onto : (bytes : List ℕ) (s t : OpenElements) → Runs schema bytes s t → Runs other bytes (onto base s) (onto base t)
-  leads_onto bytes s t m = record { events = m.events; are_events = m.are_events; spelled = m.spelled; runs = run_onto m.events s t m.runs }
-
-unmarked : (s : OpenElements) → mark false s ≡ s
-unmarked s = grind (arith, common_steps)
-
--- what a schema balances, on top of levels that it fits
-adds_to : (schema other : Schema) (base : OpenElements) (bytes : List ℕ) (children : List Name) (met : Bool) → Fits schema other (name_of base) → Runs schema bytes at_start (lowest children met) → Runs other bytes base (mark met (more children base))
-adds_to schema other base bytes children met fits m = rw unmarked at (leads_onto schema other base fits bytes at_start (lowest children met) m)
+  -- what a schema balances, on top of levels that it fits
+  adds_to : (bytes : List ℕ) (children : List Name) (met : Bool) → Runs schema bytes at_start (lowest children met) → Runs other bytes base (mark met (more children base))
+  adds_to bytes children met m = record { events = m.events; are_events = m.are_events; spelled = m.spelled; runs = rw unmarked at (run_onto m.events at_start (lowest children met) m.runs) }
 
 -- each element is closed, and obeys the schema
 abbrev IsClosed : Schema → List ℕ → Type 0
@@ -58,13 +45,13 @@ IsClosed schema bytes = (children : List Name) × ((has_text : Bool) × Runs sch
 
 one_after_other : (schema : Schema) (markup other : List ℕ) → Fits schema schema None → IsClosed schema markup → IsClosed schema other → IsClosed schema (markup ++ other)
 one_after_other schema markup other fits (names, (has_text, m)) (children, (met, n)) =
-    let on = adds_to schema schema (lowest names has_text) other children met fits n in
+    let on = adds_to schema schema (lowest names has_text) fits other children met n in
     (children ++ names, (has_text || met, joined m (ending_as (ap (mark met) (more-lowest children names has_text)) on)))
 
 within_element : (schema : Schema) (name : Name) (attributes : List Attribute) (markup : List ℕ) → Fits schema schema (Some name) → ((children : List Name) (met : Bool) → IsTrue (schema None name children met)) → IsTrue (is_name name) → IsTrue (list_all is_attribute attributes) → IsClosed schema markup → IsClosed schema (spell_event (open_tag name attributes) ++ (markup ++ spell_event (close_tag name)))
 within_element schema name attributes markup fits free valid valids (children, (met, m)) =
     let below : OpenElements = lowest (name ∷ []) false in
-    let on = adds_to schema schema (above name [] false below) markup children met fits m in
+    let on = adds_to schema schema (above name [] false below) fits markup children met m in
     let opens = single schema (open_tag name attributes) at_start (above name [] false below) (ap (λ b. b && list_all is_attribute attributes) valid ∙ valids) refl in
     let closes = obeying schema name (children ++ []) met below valid (free (children ++ []) met) in
     (name ∷ [], (false, joined opens (joined (ending_as (ap (mark met) (more-above children [] name false below)) on) closes)))
@@ -83,18 +70,16 @@ table_fits base takes (Some parent) name children met h =
 -- a `math` element on top of any levels
 math_onto : (other : Schema) (base : OpenElements) (markup : List ℕ) → Fits child_table other (name_of base) → IsMathElement markup → Runs other markup base (add (codes "math") base)
 unfolding IsMathElement
-math_onto other base markup fits m = ending_as (unmarked (add (codes "math") base)) (adds_to child_table other base markup (codes "math" ∷ []) false fits m)
+math_onto other base markup fits m = ending_as (unmarked (add (codes "math") base)) (adds_to child_table other base fits markup (codes "math" ∷ []) false m)
 
 page_balanced : (markup : List ℕ) → IsPage markup → IsBalanced markup
 page_balanced markup (children, (met, m)) =
-    let on = adds_to page_schema any_element at_start markup children met (λ parent child names met h. refl) m in
+    let on = adds_to page_schema any_element at_start (λ parent child names met h. refl) markup children met m in
     (children ++ [], (met, ending_as (ap (mark met) (more-lowest children [] false)) on))
 
 -- a page fits itself where `math` may be
 page_fits : (base : Option Name) → IsTrue (takes_math base) → Fits page_schema page_schema base
-page_fits base takes (Some parent) name children met h = h
-page_fits None takes None name children met h = h
-page_fits (Some outer) takes None name children met h = grind (arith, common_steps)
+page_fits base takes parent name children met h = grind (arith, common_steps)
 
 -- an element that the table does not name may hold anything
 holds_any : (named b : Bool) → IsTrue (not named) → IsTrue (cond named b true)
@@ -115,7 +100,7 @@ joins_markup = record {
   pages = record {
     nothing = ([], (false, staying));
     joined = λ page other m n. one_after_other page_schema page other (page_fits None refl) m n;
-    wrapped = λ name attributes page valid valids free m. within_element page_schema name attributes page (page_fits (Some name) free) (λ children met. holds_any (is_in_table name) (may_be_in takes_math None name && holds (holding holding_table name) children met) free) valid valids m;
+    wrapped = λ name attributes page valid valids free m. within_element page_schema name attributes page (page_fits (Some name) free) (λ children met. holds_any _ _ free) valid valids m;
     element = λ markup m. (codes "math" ∷ [], (false, math_onto page_schema at_start markup (table_fits None refl) m));
     inserted = λ markup levels takes m. math_onto page_schema levels markup (table_fits (name_of levels) takes) m;
   };
