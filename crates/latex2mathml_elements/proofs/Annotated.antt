@@ -8,7 +8,7 @@ use Rattle.latex2mathml_elements.specs.{Laws.AnnotatedPrintAsElements}
 use Rattle.latex2mathml_elements.proofs.{Alternatives.alternative_value, Characters.alternatives, Characters.both, Characters.clean, Characters.contents, OneElement.Piece, OneElement.element, OneElement.plainly, OneElement.then, Plain.called}
 use Rattle.latex2mathml_trees.specs.MathSchema.{child_table}
 use Rattle.latex2mathml_trees.specs.Markup.{Name, Runs, above, at_start, attribute, lowest, open_tag, plain}
-use Rattle.latex2mathml_trees.proofs.Runs.{closed, content_leads, obeying, opened, single, spelled_as}
+use Rattle.latex2mathml_trees.proofs.Runs.{content_leads, obeying, opened, single, spelled_as}
 
 -- The child table with annotations allows more: its two further elements are not in the other table.
 
@@ -53,7 +53,7 @@ annotated is_display x tex =
     (then (then (plainly refl (single annotated_child_table (open_tag (codes "annotation") (attribute (codes "encoding") (map plain (codes "application/x-tex")) ∷ [])) (above (codes "semantics") (called x ∷ []) false inside) (above (codes "annotation") [] false behind) refl refl))
     (then (record { runs = text.1; is_clean = contents tex (λ h. h.1) }) (plainly refl (obeying annotated_child_table (codes "annotation") [] text.0 behind refl refl))))
     (then (plainly refl (obeying annotated_child_table (codes "semantics") (codes "annotation" ∷ called x ∷ []) false inside refl (grind arith)))
-    (plainly refl (closed annotated_child_table (codes "math") (codes "semantics" ∷ []) false end refl refl))))))
+    (plainly refl (obeying annotated_child_table (codes "math") (codes "semantics" ∷ []) false end refl refl))))))
 
 -- the law
 pub annotated_print_as_elements : AnnotatedPrintAsElements

@@ -8,7 +8,7 @@ use Rattle.latex2mathml_trees.specs.Markup.{plain, attribute, open_tag, lowest, 
 use Rattle.latex2mathml_grammar.specs.Rendering.{IsRendering, math_print}
 use Rattle.latex2mathml_trees.specs.Tree.{Tree, trees_of}
 use Rattle.latex2mathml_trees.proofs.Elements.{some_children}
-use Rattle.latex2mathml_trees.proofs.Runs.{closed, joined, plain-spells, single, spelled_as}
+use Rattle.latex2mathml_trees.proofs.Runs.{joined, obeying, plain-spells, single, spelled_as}
 use Rattle.latex2mathml_grammar.proofs.Kept.{reading_is_kept}
 
 math_element : (display : DisplayStyle) (xs : List Tree) → HaveNoArgument (trees_of xs) → IsElement child_table (codes "math") (math_print display xs)
@@ -17,7 +17,7 @@ math_element display xs h =
     let children = some_children (trees_of xs) h (codes "math") [] end in
     let tag = open_tag (codes "math") (attribute (codes "xmlns") (map plain (codes "http://www.w3.org/1998/Math/MathML")) ∷ attribute (codes "display") (map plain (display_text display)) ∷ []) in
     spelled_as (simp (append_assoc, append-nil, plain-spells))
-    (joined (single child_table tag at_start _ (grind arith) refl) (joined children.1 (closed child_table (codes "math") children.0 false end refl refl)))
+    (joined (single child_table tag at_start _ (grind arith) refl) (joined children.1 (obeying child_table (codes "math") children.0 false end refl refl)))
 
 pub rendering_is_math : (text : List ℕ) (display : DisplayStyle) (markup : List ℕ) → IsRendering text display markup → IsMathElement markup
 unfolding IsRendering IsMathElement

@@ -5,7 +5,7 @@ use Rattle.latex2mathml_tokens.specs.{Attributes.align_text, declared.attribute.
 use Rattle.latex2mathml_trees.specs.Markup.{Name, plain, attribute, OpenElements, above, Runs}
 use Rattle.latex2mathml_trees.specs.{Print.member_print, Print.print, Tree.Tree, Tree.ampersand, Tree.new_line}
 use Rattle.latex2mathml_tokens.specs.declared.attribute.ColumnAlign.TheVariants as align
-use Rattle.latex2mathml_trees.proofs.Runs.{ending_as, joined, more-above, opened, staying}
+use Rattle.latex2mathml_trees.proofs.Runs.{joined, opened, staying}
 use Rattle.latex2mathml_trees.proofs.Leaves.{AreElements, closes, schema_of, tagged}
 
 -- an open row of an open table, and an open cell in it: what the cell holds, the row's earlier cells, and the earlier rows
@@ -49,7 +49,7 @@ module _ (strict : Bool) where
       let opens = joined (opened (schema_of strict) (codes "mtr") _ refl) (opened (schema_of strict) (codes "mtd") _ refl) in
       record { ks' = []; cs' = []; rs' = codes "mtr" ∷ rs; cells = refl; rows = i; leads = joined (close_cell ks cs rs s) (joined (close_row cs rs s h) opens) }
   one_member ampersand g ks cs rs s h i = record { ks' = []; cs' = codes "mtd" ∷ cs; rs' = rs; cells = h; rows = i; leads = joined (close_cell ks cs rs s) (opened (schema_of strict) (codes "mtd") _ refl) }
-  one_member x g ks cs rs s h i = record { ks' = g.names ++ ks; cs' = cs; rs' = rs; cells = h; rows = i; leads = ending_as (more-above g.names ks (codes "mtd") false _) (g.leads (in_cell ks cs rs s)) }
+  one_member x g ks cs rs s h i = record { ks' = g.names ++ ks; cs' = cs; rs' = rs; cells = h; rows = i; leads = g.leads (in_cell ks cs rs s) }
 
   table_ends : (bs : List ℕ) → AreMembers strict bs → (s : OpenElements) → Runs (schema_of strict) (codes "<mtr><mtd>" ++ (bs ++ codes "</mtd></mtr></mtable>")) (above (codes "mtable") [] false s) s
   table_ends bs x s =

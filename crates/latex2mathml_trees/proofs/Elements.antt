@@ -14,7 +14,7 @@ use Rattle.latex2mathml_tokens.specs.declared.attribute.LineThickness.TheVariant
 use Rattle.latex2mathml_trees.proofs.Cells.{AreMembers, more_members, no_members, one_member, table_is_element}
 use Rattle.latex2mathml_trees.proofs.Leaves as leaves
 use Rattle.latex2mathml_trees.proofs.Leaves.{AreElements, application, closes, identifier, respelled, schema_of, sign, tagged, whole_elements}
-use Rattle.latex2mathml_trees.proofs.Runs.{ending_as, joined, more, more-above, more-append, more-lowest, plain-spells, staying}
+use Rattle.latex2mathml_trees.proofs.Runs.{ending_as, joined, more, more-append, none_more, plain-spells, staying}
 use Rattle.latex2mathml_trees.proofs.ValueTexts.{escaped, plain_decimal}
 
 both : {strict : Bool} {j k : ℕ} {a b : List ℕ} → AreElements strict j a → AreElements strict k b → AreElements strict (j + k) (a ++ b)
@@ -31,7 +31,7 @@ module _ (strict : Bool) where
 
   within : (n : Name) (attributes : List Attribute) {count : ℕ} {a : List ℕ} → IsTrue (list_all is_attribute attributes) → Holds n count → AreElements strict count a → AreElements strict 1 (spell_event (open_tag n attributes) ++ (a ++ spell_event (close_tag n)))
   within n attributes valid holds x = tagged strict n attributes (ap (λ b. b && list_all is_attribute attributes) holds.0 ∙ valid)
-      (λ s. joined (ending_as (more-above x.names [] n false s) (x.leads (above n [] false s)))
+      (λ s. joined (x.leads (above n [] false s))
       (closes strict n (x.names ++ []) false s holds.0 (λ e. holds.1 (name_of s) (x.names ++ []) (omega (arith, length-append x.names [], x.counted e)))))
 
   exactly : (count : ℕ) (ks : List Name) → length ks ≡ count → (length ks == count && true) ≡ (count == count && true)
@@ -109,7 +109,7 @@ module _ (strict : Bool) where
     elements t h = search whole_elements
 
     all_elements : (ts : Trees) → (IsTrue strict → HaveNoArgument ts) → (count : ℕ) × AreElements strict count (prints ts)
-    all_elements no_trees h = (0, record { names = []; counted = λ e. refl; leads = λ s. staying })
+    all_elements no_trees h = (0, record { names = []; counted = λ e. refl; leads = λ s. ending_as (none_more s) staying })
     all_elements (more_trees x rest) h = let others = all_elements rest (λ e. (h e).1) in (1 + others.0, both (elements x (λ e. (h e).0)) others.1)
 
     some_members : (ts : Trees) → (IsTrue strict → HaveNoArgument ts) → AreMembers strict (members_print ts)
@@ -117,7 +117,7 @@ module _ (strict : Bool) where
     some_members (more_trees x rest) h = more_members strict _ _ (one_member strict x (elements x (λ e. (h e).0))) (some_members rest (λ e. (h e).1))
 
 pub print_is_balanced : (t : Tree) → IsBalanced (print t)
-print_is_balanced t = let some = elements false t (λ e. cc) in (some.names ++ [], (false, ending_as (more-lowest some.names [] false) (some.leads at_start)))
+print_is_balanced t = let some = elements false t (λ e. cc) in (some.names ++ [], (false, some.leads at_start))
 
 -- markup with one name is one element
 one_of : (bytes : List ℕ) (names : List Name) → length names ≡ 1 → Runs child_table bytes at_start (more names at_start) → IsOneElement bytes
@@ -129,4 +129,4 @@ one_element t h = let some = elements true t (λ e. h) in one_of (print t) some.
 
 -- within any element
 pub some_children : (ts : Trees) → HaveNoArgument ts → (n : Name) (ks : List Name) (s : OpenElements) → (ks' : List Name) × Runs child_table (prints ts) (above n ks false s) (above n ks' false s)
-some_children ts h n ks s = let some = (all_elements true ts (λ e. h)).1 in (some.names ++ ks, ending_as (more-above some.names ks n false s) (some.leads (above n ks false s)))
+some_children ts h n ks s = let some = (all_elements true ts (λ e. h)).1 in (some.names ++ ks, some.leads (above n ks false s))

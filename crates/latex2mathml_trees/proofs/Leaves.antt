@@ -6,7 +6,7 @@ use Rattle.latex2mathml_tokens.specs.{Attributes.bool_text, Attributes.variant_t
 use Rattle.latex2mathml_tokens.specs.{Escape.content, Escape.content_char, declared.attribute.Variant.Variant}
 use Rattle.latex2mathml_trees.specs.Markup.{Name, Reference, numbered, plain, Attribute, attribute, open_tag, close_tag, empty_tag, reference, OpenElements, above, add, name_of, any_element, Schema, Runs, is_name, is_attribute, is_reference, is_event, spell_event, spell_reference}
 use Rattle.latex2mathml_trees.specs.{MathSchema.child_table, Print.error_print, Print.letter_print, Print.operator_print, Width.width_text}
-use Rattle.latex2mathml_trees.proofs.Runs.{content_leads, joined, more, obeying, plain-spells, single, spelled_as}
+use Rattle.latex2mathml_trees.proofs.Runs.{content_leads, ending_as, joined, more, one_more, obeying, plain-spells, single, spelled_as}
 use Rattle.latex2mathml_trees.proofs.ValueTexts.{beside, no_text, plain_before, plain_width}
 
 -- If strict, elements obey the child table. Otherwise every element is allowed.
@@ -36,7 +36,7 @@ module _ (strict : Bool) where
   tagged n attributes valid end = record {
     names = n ∷ [];
     counted = λ h. refl;
-    leads = λ s. joined (single (schema_of strict) (open_tag n attributes) s (above n [] false (add n s)) valid refl) (end (add n s));
+    leads = λ s. ending_as (one_more n s) (joined (single (schema_of strict) (open_tag n attributes) s (above n [] false (add n s)) valid refl) (end (add n s)));
   }
 
   -- the bytes are text of an element that holds no element
@@ -87,8 +87,8 @@ module _ (strict : Bool) where
       record {
         names = codes "mspace" ∷ [];
         counted = λ h. refl;
-        leads = λ s. spelled_as (simp (append_assoc, append-nil, width.spelled))
-            (single (schema_of strict) (empty_tag (codes "mspace") (attribute (codes "width") width.parts ∷ [])) s (add (codes "mspace") s) (ap (λ b. b && true) width.are_parts) (ap (λ b. cond b (Some (add (codes "mspace") s)) None) (obeys strict (name_of s) (codes "mspace") [] false (λ h. refl))));
+        leads = λ s. ending_as (one_more _ s) (spelled_as (simp (append_assoc, append-nil, width.spelled))
+            (single (schema_of strict) (empty_tag (codes "mspace") (attribute (codes "width") width.parts ∷ [])) s (add (codes "mspace") s) (ap (λ b. b && true) width.are_parts) (ap (λ b. cond b (Some (add (codes "mspace") s)) None) (obeys strict (name_of s) (codes "mspace") [] false (λ h. refl)))));
       }
 
   -- an element of text after a function's name represents its application

@@ -5,7 +5,7 @@ use Rattle.std.proofs.{lemmas.Grind.common_steps, lemmas.Option.option_and_then_
 use Rattle.latex2mathml_trees.specs.Markup.{Name, Attribute, Event, open_tag, close_tag, OpenElements, lowest, above, at_start, add, mark, name_of, Schema, any_element, step, run, Runs, IsBalanced, spell_event, is_attribute, is_name}
 use Rattle.latex2mathml_trees.specs.MathSchema.{IsMathElement, child_table, holding, holding_table, holds, is_parent}
 use Rattle.latex2mathml_trees.specs.Pages.{IsPage, JoinsMarkup, is_in_table, page_schema, takes_math}
-use Rattle.latex2mathml_trees.proofs.Runs.{ending_as, joined, more, more-above, more-lowest, obeying, single, staying}
+use Rattle.latex2mathml_trees.proofs.Runs.{ending_as, joined, more, obeying, single, staying}
 
 -- levels on top of others: the lowest level becomes part of the highest of the others
 abbrev onto : OpenElements → OpenElements → OpenElements
@@ -15,12 +15,11 @@ onto base (above own children met below) = above own children met (onto base bel
 add_marked : (name : Name) (met : Bool) (base : OpenElements) → mark met (add name base) ≡ add name (mark met base)
 add_marked name met base = grind arith
 
-unmarked : (s : OpenElements) → mark false s ≡ s
+unmarked : (s : OpenElements) → mark false (more [] s) ≡ s
 unmarked s = grind (arith, common_steps)
 
 name_with : (children : List Name) (met : Bool) (base : OpenElements) → name_of (mark met (more children base)) ≡ name_of base
-name_with [] met base = grind arith
-name_with (name ∷ names) met base = grind (arith, add_marked, name_with names met base)
+name_with children met base = grind arith
 
 -- what obeys one schema obeys the other on top of levels of this name
 abbrev Fits : Schema → Schema → Option Name → Type 0
@@ -45,8 +44,7 @@ IsClosed schema bytes = (children : List Name) × ((has_text : Bool) × Runs sch
 
 one_after_other : (schema : Schema) (markup other : List ℕ) → Fits schema schema None → IsClosed schema markup → IsClosed schema other → IsClosed schema (markup ++ other)
 one_after_other schema markup other fits (names, (has_text, m)) (children, (met, n)) =
-    let on = adds_to schema schema (lowest names has_text) fits other children met n in
-    (children ++ names, (has_text || met, joined m (ending_as (ap (mark met) (more-lowest children names has_text)) on)))
+    (children ++ names, (has_text || met, joined m (adds_to schema schema (lowest names has_text) fits other children met n)))
 
 within_element : (schema : Schema) (name : Name) (attributes : List Attribute) (markup : List ℕ) → Fits schema schema (Some name) → ((children : List Name) (met : Bool) → IsTrue (schema None name children met)) → IsTrue (is_name name) → IsTrue (list_all is_attribute attributes) → IsClosed schema markup → IsClosed schema (spell_event (open_tag name attributes) ++ (markup ++ spell_event (close_tag name)))
 within_element schema name attributes markup fits free valid valids (children, (met, m)) =
@@ -54,7 +52,7 @@ within_element schema name attributes markup fits free valid valids (children, (
     let on = adds_to schema schema (above name [] false below) fits markup children met m in
     let opens = single schema (open_tag name attributes) at_start (above name [] false below) (ap (λ b. b && list_all is_attribute attributes) valid ∙ valids) refl in
     let closes = obeying schema name (children ++ []) met below valid (free (children ++ []) met) in
-    (name ∷ [], (false, joined opens (joined (ending_as (ap (mark met) (more-above children [] name false below)) on) closes)))
+    (name ∷ [], (false, joined opens (joined on closes)))
 
 -- The child table in a page. What the table says of an element that it names, a page says too: of a row, of a cell, of
 -- `math`, and of what it may hold.
@@ -70,12 +68,11 @@ table_fits base takes (Some parent) name children met h =
 -- a `math` element on top of any levels
 math_onto : (other : Schema) (base : OpenElements) (markup : List ℕ) → Fits child_table other (name_of base) → IsMathElement markup → Runs other markup base (add (codes "math") base)
 unfolding IsMathElement
-math_onto other base markup fits m = ending_as (unmarked (add (codes "math") base)) (adds_to child_table other base fits markup (codes "math" ∷ []) false m)
+math_onto other base markup fits m = ending_as (grind (arith, common_steps)) (adds_to child_table other base fits markup (codes "math" ∷ []) false m)
 
 page_balanced : (markup : List ℕ) → IsPage markup → IsBalanced markup
 page_balanced markup (children, (met, m)) =
-    let on = adds_to page_schema any_element at_start (λ parent child names met h. refl) markup children met m in
-    (children ++ [], (met, ending_as (ap (mark met) (more-lowest children [] false)) on))
+    (children ++ [], (met, adds_to page_schema any_element at_start (λ parent child names met h. refl) markup children met m))
 
 -- a page fits itself where `math` may be
 page_fits : (base : Option Name) → IsTrue (takes_math base) → Fits page_schema page_schema base

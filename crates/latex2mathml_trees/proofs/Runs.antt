@@ -1,6 +1,6 @@
 -- Runs through markup: one after the other, of single events and of texts. Each starts from any levels, so what surrounds
 -- the bytes does not matter.
-use Rattle.std.proofs.Common.{◌≡◌, ℕ, Bool, true, false, ◌&&◌, ◌||◌, ◌==◌, IsTrue, List, [], ◌∷◌, ◌++◌, Some, None, option_and_then, refl, ap, ◌∙◌, append-nil, arith, map, codes, cond}
+use Rattle.std.proofs.Common.{◌≡◌, ℕ, Bool, true, false, ◌&&◌, ◌||◌, ◌==◌, IsTrue, List, [], ◌∷◌, ◌++◌, Some, None, option_and_then, refl, ap, ◌∙◌, append_assoc, append-nil, arith, map, codes, cond}
 use Rattle.std.specs.{Cmp.Lexicographic.bytes_decides, List.flat_map}
 use Rattle.std.proofs.{lemmas.Grind.common_steps, lemmas.Grind.flat_map-append, lemmas.List.Folds.list_all-append}
 use Rattle.latex2mathml_tokens.specs.Escape.{content}
@@ -39,34 +39,28 @@ single schema p s t valid fit = record {
   runs = ap (option_and_then (run schema [])) fit;
 }
 
--- an open tag without attributes, and a close tag
+-- an open tag without attributes
 pub opened : (schema : Schema) (n : Name) (s : OpenElements) → IsTrue (is_event (open_tag n [])) → Runs schema (spell_event (open_tag n [])) s (above n [] false (add n s))
 opened schema n s valid = single schema (open_tag n []) s (above n [] false (add n s)) valid refl
-
-pub closed : (schema : Schema) (n : Name) (ks : List Name) (d : Bool) (s : OpenElements) → IsTrue (is_event (close_tag n)) → step schema (close_tag n) (above n ks d s) ≡ Some s → Runs schema (spell_event (close_tag n)) (above n ks d s) s
-closed schema n ks d s valid fit = single schema (close_tag n) (above n ks d s) s valid fit
 
 -- the close tag of an element that obeys the schema
 pub obeying : (schema : Schema) (n : Name) (ks : List Name) (d : Bool) (s : OpenElements) → IsTrue (is_name n) → IsTrue (schema (name_of s) n ks d) → Runs schema (spell_event (close_tag n)) (above n ks d s) s
 obeying schema n ks d s valid fit =
-    closed schema n ks d s valid (ap (λ b. cond (b && schema (name_of s) n ks d) (Some s) None) ((bytes_decides n n).1 refl) ∙ ap (λ b. cond b (Some s) None) fit)
+    single schema (close_tag n) (above n ks d s) s valid (ap (λ b. cond (b && schema (name_of s) n ks d) (Some s) None) ((bytes_decides n n).1 refl) ∙ ap (λ b. cond b (Some s) None) fit)
 
 -- more children of the highest level, the last one first
 abbrev pub more : List Name → OpenElements → OpenElements
-more [] s = s
-more (n ∷ ns) s = add n (more ns s)
+more ns (lowest ks d) = lowest (ns ++ ks) d
+more ns (above n ks d s) = above n (ns ++ ks) d s
+
+pub one_more : (n : Name) (s : OpenElements) → add n s ≡ more (n ∷ []) s
+one_more n s = grind arith
+
+pub none_more : (s : OpenElements) → s ≡ more [] s
+none_more s = grind arith
 
 pub more-append : (ms ns : List Name) (s : OpenElements) → more (ms ++ ns) s ≡ more ms (more ns s)
-more-append [] ns s = refl
-more-append (m ∷ ms) ns s = ap (add m) (more-append ms ns s)
-
-pub more-above : (ms ks : List Name) (n : Name) (d : Bool) (s : OpenElements) → more ms (above n ks d s) ≡ above n (ms ++ ks) d s
-more-above [] ks n d s = refl
-more-above (m ∷ ms) ks n d s = ap (add m) (more-above ms ks n d s)
-
-pub more-lowest : (ns ks : List Name) (d : Bool) → more ns (lowest ks d) ≡ lowest (ns ++ ks) d
-more-lowest [] ks d = refl
-more-lowest (n ∷ ns) ks d = ap (add n) (more-lowest ns ks d)
+more-append ms ns s = grind (arith, append_assoc)
 
 -- Contents. The tests of a byte are variables, so that each case computes.
 tested_leads : (schema : Schema) (p q r d : Bool) (b : ℕ) (s : OpenElements) → p ≡ (b == 38) → q ≡ (b == 60) → r ≡ (b == 62) → Runs schema (cond p (codes "&amp;") (cond q (codes "&lt;") (cond r (codes "&gt;") (cond d (codes "&#x24;") (b ∷ []))))) s (mark true s)

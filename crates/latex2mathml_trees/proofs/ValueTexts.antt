@@ -1,10 +1,10 @@
 -- Texts that are values of attributes: any escaped text, and the texts of numbers and of widths as they are.
-use Rattle.std.proofs.Common.{◌≡◌, ℕ, zero, suc, ℤ, pos, negsuc, ◌+◌, ◌/◌, ◌%◌, ◌<◌, Bool, true, false, ◌&&◌, ◌==◌, IsTrue, List, [], ◌∷◌, ◌++◌, refl, ap, ◌∙◌, append-nil, arith, codes, cond, map}
+use Rattle.std.proofs.Common.{◌≡◌, ℕ, zero, suc, ℤ, pos, negsuc, ◌+◌, ◌/◌, ◌%◌, ◌<◌, Bool, true, false, ◌&&◌, ◌==◌, IsTrue, List, [], ◌∷◌, ◌++◌, refl, ap, subst, ◌∙◌, append-nil, arith, codes, cond, map}
 use Rattle.std.specs.Fmt.{decimal, digits, digits_onto, digit_glyph}
 use Rattle.std.specs.List.{flat_map, list_all}
 use Rattle.std.proofs.{lemmas.Bool.Decides.nat_tests, lemmas.Grind.flat_map-append, lemmas.List.Folds.list_all-append, lemmas.List.Folds.list_all-map}
-use Rattle.latex2mathml_tokens.specs.Escape.{value}
-use Rattle.latex2mathml_trees.specs.Markup.{named, Part, refers, plain, is_part, spell_part}
+use Rattle.latex2mathml_tokens.specs.Escape.{value, value_byte}
+use Rattle.latex2mathml_trees.specs.Markup.{named, numbered, Part, refers, plain, is_part, spell_part}
 use Rattle.latex2mathml_trees.proofs.Runs.{plain-spells}
 use Rattle.latex2mathml_trees.specs.Width.{width_text, thousandths_text, thousandths}
 
@@ -30,18 +30,18 @@ beside x y = record {
 pub plain_before : (b : ℕ) {bs : List ℕ} → IsTrue (is_part (plain b)) → IsValue bs → IsValue (b ∷ bs)
 plain_before b h x = beside (one_part (plain b) h) x
 
--- Escaped texts. The tests of a byte are variables, so that each case computes.
-tested : (o d p q r : Bool) (b : ℕ) → o ≡ (b == 34) → p ≡ (b == 38) → q ≡ (b == 60) → r ≡ (b == 62) → IsValue (cond o (codes "&quot;") (cond d (codes "$") (cond p (codes "&amp;") (cond q (codes "&lt;") (cond r (codes "&gt;") (cond d (codes "&#x24;") (b ∷ [])))))))
-tested true d p q r b g h i j = one_part (refers (named (codes "quot"))) refl
-tested false true p q r b g h i j = one_part (plain 36) refl
-tested false false true q r b g h i j = one_part (refers (named (codes "amp"))) refl
-tested false false false true r b g h i j = one_part (refers (named (codes "lt"))) refl
-tested false false false false true b g h i j = one_part (refers (named (codes "gt"))) refl
-tested false false false false false b g h i j = one_part (plain b) (rw (← i, ← j, ← h, ← g) refl)
+-- Escaped texts
+
+-- what a byte of contents is within a value
+abbrev pub content_part : ℕ → Part
+content_part b = cond (b == 38) (refers (named (codes "amp"))) (cond (b == 60) (refers (named (codes "lt"))) (cond (b == 62) (refers (named (codes "gt"))) (cond (b == 36) (refers (numbered (codes "24"))) (plain b))))
+
+pub escaped_by : (escape : ℕ → List ℕ) (part : ℕ → Part) → ((b : ℕ) → IsTrue (is_part (part b)) × (spell_part (part b) ≡ escape b)) → (bs : List ℕ) → IsValue (flat_map escape bs)
+escaped_by escape part is [] = no_text
+escaped_by escape part is (b ∷ bs) = beside (subst IsValue (is b).1 (one_part (part b) (is b).0)) (escaped_by escape part is bs)
 
 pub escaped : (bs : List ℕ) → IsValue (value bs)
-escaped [] = no_text
-escaped (b ∷ bs) = beside (tested (b == 34) (b == 36) (b == 38) (b == 60) (b == 62) b refl refl refl refl) (escaped bs)
+escaped = escaped_by value_byte (λ b. cond (b == 34) (refers (named (codes "quot"))) (cond (b == 36) (plain 36) (content_part b))) (λ b. grind (arith, nat_tests))
 
 -- Numbers and widths: what holds of each digit, and of a period and a minus sign, holds of each byte of them.
 module _ (passes : ℕ → Bool) (digit_passes : (d : ℕ) → d < 10 → IsTrue (passes (48 + d))) where
