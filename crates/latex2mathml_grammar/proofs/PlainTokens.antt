@@ -1,12 +1,12 @@
 -- The tokens of slices: a slice is one character that is a token by itself, or its token is plain. So sizes in tokens hold
 -- no dollar sign.
-use Rattle.std.proofs.Common.{◌≡◌, ◌⊎◌, inl, inr, ℕ, Bool, true, false, not, ◌==◌, List, [], ◌∷◌, codes, Option, Some, unwrap_or, refl, sym, subst, arith, cond, map}
-use Rattle.std.specs.{Char.encode_utf8, List.list_all, Str.byte, Str.bytes_eq, Str.encode_utf8_all}
+use Rattle.std.proofs.Common.{◌≡◌, ◌⊎◌, inl, inr, ℕ, Bool, true, false, not, ◌==◌, List, [], ◌∷◌, codes, Option, unwrap_or, refl, sym, subst, arith, map}
+use Rattle.std.specs.{Char.encode_utf8, List.list_all, Str.byte, Str.bytes_eq}
 use Rattle.latex2mathml_tokens.specs.Commands.{command_entries, command_token, entry_token}
 use Rattle.latex2mathml_grammar.specs.Dollars.{is_other}
-use Rattle.latex2mathml_grammar.specs.Spelling.{SpellsAt, character_token, character, colon, colon_equals, number, digit, symbol_command, letter_command, lone_backslash, Slice, HasSlices, HasTokens, takes_digit}
+use Rattle.latex2mathml_grammar.specs.Spelling.{SpellsAt, character_token, Slice, HasSlices, HasTokens, takes_digit}
 use Rattle.latex2mathml_tokens.specs.Tok.{Tok, EOF, Paren, Underscore, Circumflex, Big, Operator, Command}
-use Rattle.std.proofs.{lemmas.Bool.and_parts, lemmas.Bool.Decides.nat_tests}
+use Rattle.std.proofs.{lemmas.Bool.Decides.nat_tests}
 
 -- the token is not the end of a formula, a prime, a sign, an opening bracket, or a size with a dollar sign
 abbrev pub is_plain : Tok → Bool
@@ -26,15 +26,9 @@ plain-command_entries : list_all (λ r. is_plain r.1) command_entries ≡ true
 unfolding command_entries encode_utf8
 plain-command_entries = refl
 
--- the first entry is found, or a later one
-found_first : (t other : Tok) (later : Option Tok) (p : Bool) → IsPlain t → IsPlain (unwrap_or later other) → IsPlain (unwrap_or (cond p (Some t) later) other)
-found_first t other later p h l = grind arith
-
 plain_entry : (rs : List (List ℕ × Tok)) (name : List ℕ) → list_all (λ r. is_plain r.1) rs ≡ true → IsPlain (unwrap_or (entry_token rs name) (Command name))
 plain_entry [] name h = refl
-plain_entry (r ∷ rs) name h =
-    let parts = and_parts (is_plain r.1) (list_all (λ r. is_plain r.1) rs) h in
-    found_first r.1 (Command name) (entry_token rs name) (bytes_eq r.0 name) parts.0 (plain_entry rs name parts.1)
+plain_entry (r ∷ rs) name h = grind (arith, plain_entry rs name)
 
 -- the token of a command is plain
 plain_command : (name : List ℕ) → IsPlain (command_token name)
@@ -46,14 +40,7 @@ abbrev pub IsKnown : List ℕ → Tok → Type 0
 IsKnown w t = ((c : ℕ) × (w ≡ c ∷ []) × (t ≡ character_token c)) ⊎ IsPlain t
 
 pub known : (alone : Bool) (w : List ℕ) (next : Option ℕ) (t : Tok) → SpellsAt alone w next t → IsKnown w t
-known alone w next t (character c b s e f) = inl (c, e, f)
-known alone w next t (colon s e f) = inr (subst IsPlain (sym f) refl)
-known alone w next t (colon_equals e f) = inr (subst IsPlain (sym f) refl)
-known alone w next t (number a i f) = inr (subst IsPlain (sym f) refl)
-known alone w next t (digit c a i e f) = inr (subst IsPlain (sym f) refl)
-known alone w next t (symbol_command c a e f) = inr (subst IsPlain (sym f) (plain_command (encode_utf8_all (c ∷ []))))
-known alone w next t (letter_command c cs e a s f) = inr (subst IsPlain (sym f) (plain_command (encode_utf8_all (c ∷ cs))))
-known alone w next t (lone_backslash e n f) = inr (subst IsPlain (sym f) refl)
+known alone w next t spells = grind (arith, plain_command)
 
 -- the size of the token, if it is one, holds no dollar sign
 abbrev pub IsFree : Tok → Type 0

@@ -1,5 +1,5 @@
 -- No slice begins with white space or is empty, so each slice takes something from the text.
-use Rattle.std.proofs.Common.{◌≡◌, ℕ, ◌+◌, ◌≤◌, ◌<◌, Bool, false, List, [], ◌∷◌, ◌++◌, length, Option, ap, ◌∙◌, arith, length-append}
+use Rattle.std.proofs.Common.{◌≡◌, ℕ, ◌<◌, Bool, false, List, [], ◌∷◌, length, Option, arith, length-append}
 use Rattle.std.proofs.lemmas.Bool.Decides.{nat_tests}
 use Rattle.latex2mathml_grammar.specs.Characters.{is_space}
 use Rattle.latex2mathml_grammar.specs.Spelling.{SpellsAt, Slice, IsFirstSlice, number}
@@ -19,7 +19,4 @@ spells_dark alone w next t spells = grind (arith, nat_tests)
 -- so a step leaves less of the text
 pub step_shortens : (takes : Bool) (text rest : List ℕ) (s : Slice) → IsFirstSlice takes text s rest → length rest < length text
 step_shortens takes text rest s step =
-    let dark = spells_dark _ _ _ _ step.3 in
-    let some : 1 ≤ length s.text = grind (arith, dark) in
-    let whole : length text ≡ length step.0 + (length s.text + length rest) = ap length step.1 ∙ length-append step.0 (s.text ++ rest) ∙ ap (λ n. length step.0 + n) (length-append s.text rest) in
-    omega arith
+    let dark = spells_dark _ _ _ _ step.3 in grind (arith, length-append {A = ℕ}, dark, step.1)
