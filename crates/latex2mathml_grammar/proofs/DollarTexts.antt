@@ -5,7 +5,7 @@ use Rattle.latex2mathml_trees.proofs.ValueTexts.{decimal_passes, width_passes}
 use Rattle.std.proofs.{lemmas.Bool.Decides.nat_tests, lemmas.List.Folds.list_all-append}
 use Rattle.latex2mathml_tokens.specs.Attributes.{accent_text}
 use Rattle.latex2mathml_grammar.specs.Dollars.{is_other, IsDollarFree, free_both, free_first, free_more, free_rest}
-use Rattle.latex2mathml_tokens.specs.Escape.{content, content_byte, value, value_byte}
+use Rattle.latex2mathml_tokens.specs.Escape.{content, content_byte, value}
 use Rattle.latex2mathml_trees.specs.Print.{print, prints, members_print, letter_print, operator_print, slashed_print, member_print}
 use Rattle.latex2mathml_trees.specs.Tree.{Tree, Trees, no_trees, more_trees}
 use Rattle.latex2mathml_trees.specs.Width.{width_text}
@@ -19,8 +19,7 @@ free_content (b ∷ bs) = free_both (content_byte b) _ (grind arith) (free_conte
 -- Values keep it.
 pub free_value : (bs : List ℕ) → IsDollarFree bs → IsDollarFree (value bs)
 free_value [] h = refl
-free_value (b ∷ bs) h =
-    let first = free_first b bs h in free_both (value_byte b) _ (grind (arith, first)) (free_value bs (free_rest b bs h))
+free_value (b ∷ bs) h = grind (arith, list_all-append, free_value bs)
 
 -- Numbers and widths hold no dollar sign.
 other_digit : (d : ℕ) → d < 10 → is_other (48 + d) ≡ true

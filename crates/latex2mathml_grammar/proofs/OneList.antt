@@ -11,7 +11,7 @@ use Rattle.latex2mathml_grammar.specs.{Beginnings.BeginsWith, Beginnings.BeginsW
 use Rattle.latex2mathml_grammar.specs.Spelling.{Slice, IsFirstSlice, HasSlices, HasTokens, takes_digit, is_period, is_equals_sign, character_token, character, colon, colon_equals, number, digit, symbol_command, letter_command, lone_backslash}
 use Rattle.latex2mathml_tokens.specs.Tok.{Tok, Number, Command, Paren, Operator}
 use Rattle.latex2mathml_grammar.proofs.Numbers.{digits_alone, digits_with_period}
-use Rattle.latex2mathml_grammar.proofs.Tokenizing.{Dark, spells_dark, step_shortens}
+use Rattle.latex2mathml_grammar.proofs.Tokenizing.{spells_dark, step_shortens}
 
 -- a text splits after its longest run
 split : (p : ℕ → Bool) (text : List ℕ) → (front : List ℕ) × (back : List ℕ) × IsLongestRun p text front back
@@ -85,16 +85,13 @@ within (suc n) takes text (space, c ∷ cs, run) h =
     let more = within n (takes_digit (Some t)) rest (split is_space rest) (omega (arith, step_shortens takes text rest (slice w t) step)) in
     (slice w t ∷ more.0, (rest, step, more.1))
 
-dark_starts : (w rest : List ℕ) → Dark w → Stops is_space (head (w ++ rest)) × (is_empty (w ++ rest) ≡ false)
-dark_starts w rest d = grind arith
-
 -- the slices that a text has are the computed ones
 computed : (n : ℕ) (takes : Bool) (text : List ℕ) (ss : List Slice) → HasSlices takes text ss → length text < n → slices_within n takes text ≡ ss
 unfolding slices_within
 computed zero takes text ss h l = absurd (omega arith)
 computed (suc n) takes text [] h l = rw (rw append-nil at (parted is_space text [] (each is_space text h) tt).1) refl
 computed (suc n) takes text (s ∷ ss) (rest, (space, whole, white, spells), later) l =
-    let dark = dark_starts s.text rest (spells_dark _ s.text _ s.token spells) in
+    let dark : Stops is_space (head (s.text ++ rest)) × (is_empty (s.text ++ rest) ≡ false) = grind (arith, spells_dark _ s.text _ s.token spells) in
     let parts = parted is_space space (s.text ++ rest) (each is_space space white) dark.0 in
     let more = computed n (takes_digit (Some s.token)) rest ss later (omega (arith, step_shortens takes text rest s (space, whole, white, spells))) in
     rw (whole, parts.1, parts.0, dark.1, slice_of (takes && is_empty space) s.text rest s.token spells, drop-append_seam s.text rest, more) refl

@@ -1,6 +1,6 @@
 -- The tokens of slices: a slice is one character that is a token by itself, or its token is plain. So sizes in tokens hold
 -- no dollar sign.
-use Rattle.std.proofs.Common.{◌≡◌, ◌⊎◌, inl, inr, ℕ, Bool, true, false, not, ◌==◌, List, [], ◌∷◌, codes, Option, unwrap_or, refl, sym, subst, arith, map}
+use Rattle.std.proofs.Common.{◌≡◌, ◌⊎◌, ℕ, Bool, true, false, not, ◌==◌, List, [], ◌∷◌, codes, Option, unwrap_or, refl, sym, subst, arith, map}
 use Rattle.std.specs.{Char.encode_utf8, List.list_all, Str.byte, Str.bytes_eq}
 use Rattle.latex2mathml_tokens.specs.Commands.{command_entries, command_token, entry_token}
 use Rattle.latex2mathml_grammar.specs.Dollars.{is_other}
@@ -52,9 +52,7 @@ AreFree [] = Unit {0}
 AreFree (t ∷ ts) = IsFree t × AreFree ts
 
 free_known : (w : List ℕ) (t : Tok) → IsKnown w t → IsFree t
-free_known w (Big size) (inl (c, e, f)) = grind (arith, nat_tests)
-free_known w (Big size) (inr plain) = plain
-free_known w t known = tt
+free_known w t known = grind (arith, nat_tests)
 
 -- the tokens of slices
 free_slices : (takes : Bool) (text : List ℕ) (ss : List Slice) → HasSlices takes text ss → AreFree (map (λ s. s.token) ss)

@@ -16,28 +16,24 @@ use Rattle.latex2mathml_grammar.proofs.Tokenizing.{Dark, spells_dark}
 abbrev IsLight : Option ℕ → Type 0
 IsLight next = (p : ℕ → Bool) → ((c : ℕ) → is_space c ≡ true → p c ≡ false) → Stops p next
 
--- white space is not a digit, a period, an equals sign or a letter
-spaces_apart : (c : ℕ) → is_space c ≡ true → (is_ascii_digit c ≡ false) × (is_period c ≡ false) × (is_equals_sign c ≡ false) × (is_ascii_alphabetic c ≡ false)
-spaces_apart c h = (grind (arith, nat_tests), grind (arith, nat_tests), grind (arith, nat_tests), grind (arith, nat_tests))
-
 -- a slice spells the same before `later` as before `next`, if `later` fails each test that `next` and all white space
 -- fail, and if a digit is a number of its own in both places or in neither
 spells_there : (alone other : Bool) (w : List ℕ) (next later : Option ℕ) (t : Tok) → (Begins is_ascii_digit w → alone ≡ other) → ((p : ℕ → Bool) → ((c : ℕ) → is_space c ≡ true → p c ≡ false) → Stops p next → Stops p later) → (next ≡ None → later ≡ None) → SpellsAt alone w next t → SpellsAt other w later t
 spells_there alone other w next later t same stops none (character c longer dark e f) = character c longer dark e f
-spells_there alone other w next later t same stops none (colon s e f) = colon (stops is_equals_sign (λ c h. (spaces_apart c h).2) s) e f
+spells_there alone other w next later t same stops none (colon s e f) = colon (stops is_equals_sign (λ c h. grind (arith, nat_tests)) s) e f
 spells_there alone other w next later t same stops none (colon_equals e f) = colon_equals e f
 spells_there alone other w next later t same stops none (number a n f) =
     number (sym (same n.begins) ∙ a) (record {
       begins = n.begins;
       holds = n.holds;
       at_most_one = n.at_most_one;
-      ends = stops is_ascii_digit (λ c h. (spaces_apart c h).0) n.ends;
-      longest = λ k. stops is_period (λ c h. (spaces_apart c h).1) (n.longest k);
+      ends = stops is_ascii_digit (λ c h. grind (arith, nat_tests)) n.ends;
+      longest = λ k. stops is_period (λ c h. grind (arith, nat_tests)) (n.longest k);
     }) f
 spells_there alone other w next later t same stops none (digit c a d e f) =
     digit c (sym (same (subst (Begins is_ascii_digit) (sym e) d)) ∙ a) d e f
 spells_there alone other w next later t same stops none (symbol_command c l e f) = symbol_command c l e f
-spells_there alone other w next later t same stops none (letter_command c cs e l s f) = letter_command c cs e l (stops is_ascii_alphabetic (λ c h. (spaces_apart c h).3) s) f
+spells_there alone other w next later t same stops none (letter_command c cs e l s f) = letter_command c cs e l (stops is_ascii_alphabetic (λ c h. grind (arith, nat_tests)) s) f
 spells_there alone other w next later t same stops none (lone_backslash e n f) = lone_backslash e (none n) f
 
 -- the slices before the place
@@ -83,8 +79,7 @@ gap_some (x ∷ left) c cs = refl
 -- a slice spells the same after a gap, except for a digit that is a number of its own
 spells_apart : (takes : Bool) (gap w : List ℕ) (next : Option ℕ) (t : Tok) → (gap ≡ [] → IsTrue takes → Begins is_ascii_digit w → ⊥) → SpellsAt (takes && is_empty gap) w next t → SpellsAt false w next t
 spells_apart true [] w next t other spells = spells_there true false w next next t (λ digit. absurd (other refl refl digit)) (λ p dark s. s) (λ e. e) spells
-spells_apart false gap w next t other spells = spells
-spells_apart true (c ∷ gap) w next t other spells = spells
+spells_apart takes gap w next t other spells = spells
 
 -- the slices of a text with a place between two tokens
 
