@@ -1,13 +1,12 @@
 -- What is read is a slice of the tokens, with the rest after it; and what is refused is refused after such slices. Slices
 -- are read where they are, and where the grammar over slices refuses, the table does.
-use Rattle.std.proofs.Common.{◌≡◌, ◌≢◌, ◌∙◌, ℕ, List, [], ◌∷◌, ◌++◌, length, map, Option, Some, None, refl, sym, ap, subst, append_assoc, arith}
+use Rattle.std.proofs.Common.{◌≡◌, ◌≢◌, ◌∙◌, ℕ, List, [], ◌∷◌, ◌++◌, length, length-append, map, Option, Some, None, refl, sym, ap, subst, append_assoc, arith}
 use Rattle.std.proofs.lemmas.List.{append_cancel_right}
 use Rattle.latex2mathml_grammar.specs.Grammar.{Sort, node, Rule, takes_token, prime, Outcome, Read, Refused, first, first_letter, letter_of, AreLetters, Reads, core_at_end, core_begun, single_read, node_read, ReadsRule, rule_gives, rule_refuses, part_read, part_refused, members_read, members_refused, sign_stands, sign_missing, token_taken, token_at_end, token_seen, letters_taken, ReadsAll, formula_ends, group_ends, never_closed, member_read, later_refused, member_refused}
 use Rattle.latex2mathml_grammar.specs.SliceRefusals.{PartRefuses, core_refuses, single_refuses, node_refuses, subscript_refuses, superscript_refuses, RuleRefuses, rule_itself, part_itself, behind_part, members_themselves, behind_members, behind_sign, behind_no_sign, behind_token, behind_no_token, at_next_token, behind_letters, MembersRefuse, end_missing, member_itself, behind_member, FormulaRefuses, node_itself, behind_node}
 use Rattle.latex2mathml_grammar.specs.Slices.{IsPart, no_core, core_by_rule, without_prime, with_prime, without_script, with_subscript, with_superscript, AreParts, no_part, part, members, with_sign, without_sign, with_token, without_token, by_next_token, letters, AreMembers, no_member, member, AreNodes, no_node, one_node}
 use Rattle.latex2mathml_tokens.specs.{Refusal.Refusal, Tok.Tok, Tok.EOF, Tok.Underscore, Tok.Circumflex}
 use Rattle.latex2mathml_trees.specs.Tree.{Tree}
-use Rattle.latex2mathml_grammar.proofs.Total.{some_taken}
 
 -- what is read is a slice, and what is refused is refused after slices
 abbrev pub BySlices : {A : Type 0} → (List Tok → List Tok → A → Type 0) → (List Tok → Refusal → Type 0) → List Tok → Outcome A → Type 0
@@ -45,10 +44,25 @@ no_token : {then : Tok → Rule} (v f : List Tok) {x : Tree} → [] ≡ v ++ f �
 no_token [] [] e d = without_token d
 no_token v f e d = absurd cc
 
+-- a part takes a token where one is left
+pub part_takes : {s : Sort} {f : List Tok} {x : Tree} → IsPart s [] f x → f ≡ []
+part_takes no_core = refl
+part_takes (without_prime d h) = part_takes d
+part_takes (with_prime {c = c} e d) = absurd (omega (arith, ap length e, length-append c (prime ∷ [])))
+part_takes (without_script d h k) = part_takes d
+part_takes (with_subscript {u = u} {v = v} e d ds) = absurd (omega (arith, ap length e, length-append u (Underscore ∷ v)))
+part_takes (with_superscript {u = u} {v = v} e d ds) = absurd (omega (arith, ap length e, length-append u (Circumflex ∷ v)))
+
+-- the members of a group take their end token
+pub members_take : {end : Tok} {f : List Tok} {xs : List Tree} → AreMembers end [] f xs → ⊥
+members_take (no_member e) = absurd cc
+members_take (member {u = []} {v = []} e h d ds) = members_take ds
+members_take (member {u = u} {v = v} e h d ds) = absurd cc
+
 -- nodes that are read take a token where one is left
-begun : (t : Tok) (l m : List Tok) (x : Tree) → Reads node (t ∷ l) (Read x m) → BySlices (IsPart node) (PartRefuses node) (t ∷ l) (Read x m) → (u : List Tok) × (t ∷ l ≡ u ++ m) × ((first u ≡ Some t) × IsPart node u m x)
-begun t l m x d ([], e, p) = absurd (let fewer = some_taken node t l m x d in omega (arith, fewer, ap length e))
-begun t l m x d (s ∷ u, e, p) = (s ∷ u, e, (cc, p))
+begun : (t : Tok) (l m : List Tok) (x : Tree) → BySlices (IsPart node) (PartRefuses node) (t ∷ l) (Read x m) → (u : List Tok) × (t ∷ l ≡ u ++ m) × ((first u ≡ Some t) × IsPart node u m x)
+begun t l m x ([], e, p) = absurd (let none = part_takes p in cc (e, none))
+begun t l m x (s ∷ u, e, p) = (s ∷ u, e, (cc, p))
 
 mutual
   -- a core, a single or a node is read or refused by slices
@@ -102,15 +116,15 @@ mutual
   all_by_slices never_closed = end_missing
   all_by_slices (group_ends {end = end} p) = (_, p, no_member refl)
   all_by_slices (member_read {end = Some end} {rest = f} h d ds) =
-      let u = begun _ _ _ _ d (part_by_slices d) in
+      let u = begun _ _ _ _ (part_by_slices d) in
       let v = all_by_slices ds in
       (_, joined u.0 v.0 f u.1 v.1, member refl (λ q. h (sym q ∙ u.2.0)) (part_before v.1 u.2.1) v.2)
   all_by_slices (member_read {end = None} h d ds) =
-      let u = begun _ _ _ _ d (part_by_slices d) in one_node u.1 (λ q. cc (q, u.2.0)) u.2.1 (all_by_slices ds)
+      let u = begun _ _ _ _ (part_by_slices d) in one_node u.1 (λ q. cc (q, u.2.0)) u.2.1 (all_by_slices ds)
   all_by_slices (later_refused {end = Some end} h d ds) =
-      let u = begun _ _ _ _ d (part_by_slices d) in behind_member u.1 (λ q. h (sym q ∙ u.2.0)) u.2.1 (all_by_slices ds)
+      let u = begun _ _ _ _ (part_by_slices d) in behind_member u.1 (λ q. h (sym q ∙ u.2.0)) u.2.1 (all_by_slices ds)
   all_by_slices (later_refused {end = None} h d ds) =
-      let u = begun _ _ _ _ d (part_by_slices d) in behind_node u.1 (λ q. cc (q, u.2.0)) u.2.1 (all_by_slices ds)
+      let u = begun _ _ _ _ (part_by_slices d) in behind_node u.1 (λ q. cc (q, u.2.0)) u.2.1 (all_by_slices ds)
   all_by_slices (member_refused {end = Some end} h d) = member_itself (λ e. h (ap Some (sym e))) (part_by_slices d)
   all_by_slices (member_refused {end = None} h d) = node_itself (part_by_slices d)
 
@@ -119,12 +133,6 @@ letters_are_read : (cs : List ℕ) (u g : List Tok) → map letter_of u ≡ map 
 letters_are_read [] [] g e h = (refl, h)
 letters_are_read (c ∷ cs) (t ∷ u) g e h = (t, (u ++ g, refl, (cc), letters_are_read cs u g (cc) h))
 letters_are_read cs u g e h = absurd cc
-
--- a member before members: it is not empty, since a token is left after it
-member_is_read : {end : Tok} (u g : List Tok) {f : List Tok} {x : Tree} {xs : List Tree} → first u ≢ Some end → Reads node (u ++ g) (Read x g) → ReadsAll (Some end) g (Read xs f) → ReadsAll (Some end) (u ++ g) (Read (x ∷ xs) f)
-member_is_read (t ∷ u) g h d ds = member_read (λ e. h (sym e)) d ds
-member_is_read [] [] h d (group_ends p) = absurd cc
-member_is_read [] (t ∷ g) {x = x} h d ds = absurd (let fewer = some_taken node t g (t ∷ g) x d in omega (arith, fewer))
 
 -- the sign of a superscript is not that of a subscript
 other_sign : Some Circumflex ≢ Some Underscore
@@ -156,18 +164,9 @@ mutual
   -- the members of a group are read
   pub members_are_read : {end : Tok} {w f : List Tok} {xs : List Tree} → AreMembers end w f xs → ReadsAll (Some end) (w ++ f) (Read xs f)
   members_are_read (no_member e) = rw e (group_ends refl)
-  members_are_read (member {u = u} e h d ds) = rw (e, append_assoc) (member_is_read u _ h (part_is_read d) (members_are_read ds))
-
--- a part takes a token where one is left
-pub part_takes : {s : Sort} (f : List Tok) {x : Tree} → IsPart s [] f x → f ≡ []
-part_takes [] d = refl
-part_takes {s} (t ∷ f) {x} d = absurd (let fewer = some_taken s t f (t ∷ f) x (part_is_read d) in omega (arith, fewer))
-
--- the members of a group take their end token
-pub members_take : {end : Tok} {f : List Tok} {xs : List Tree} → AreMembers end [] f xs → ⊥
-members_take (no_member e) = absurd cc
-members_take (member {u = []} {v = []} e h d ds) = members_take ds
-members_take (member {u = u} {v = v} e h d ds) = absurd cc
+  members_are_read (member {u = t ∷ u} e h d ds) = rw (e, append_assoc) (member_read (λ q. h (sym q)) (part_is_read d) (members_are_read ds))
+  members_are_read (member {u = []} {v = []} e h d ds) = absurd (members_take ds)
+  members_are_read (member {u = []} {v = t ∷ v} e h d ds) = absurd (let none = part_takes d in cc none)
 
 -- consecutive nodes are read
 pub nodes_are_read : {l : List Tok} {xs : List Tree} → AreNodes l xs → ReadsAll None l (Read xs [])

@@ -192,10 +192,3 @@ has_one_reading l = record {
   one_refusal = λ r q d e. (let same = one_all d e in cc same);
   never_both = λ xs r d e. (let same = one_all d e in cc same);
 }
-
--- since there is only one outcome, what is read leaves fewer tokens
-pub some_taken : (s : Sort) (t : Tok) (l f : List Tok) (x : Tree) → Reads s (t ∷ l) (Read x f) → length f ≤ length l
-some_taken s t l f x d = elim ((outcomes (suc (length (t ∷ l)))).of_sort s (t ∷ l) (omega arith)) [
-  | comes_to y m fits e ↦ (let same : m ≡ f = cc (one e d) in omega (arith, ap length same))
-  | is_refused r e ↦ absurd (cc (one e d))
-]
