@@ -1,6 +1,4 @@
-pub mod Cells
 pub mod Elements
-pub mod Leaves
 pub mod Pages
 pub mod Runs
 pub mod ValueTexts
