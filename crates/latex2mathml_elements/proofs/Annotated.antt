@@ -1,14 +1,14 @@
 -- The print of a formula with an annotation is one element that obeys the child table with annotations.
-use Rattle.std.proofs.Common.{◌≡◌, ℕ, Bool, true, false, ◌&&◌, IsTrue, List, [], ◌∷◌, ◌++◌, Option, refl, ap, subst, append-nil, append_assoc, arith, codes, cond, map}
-use Rattle.std.specs.{Cmp.Lexicographic.bytes_decides, Str.bytes_eq}
-use Rattle.latex2mathml_elements.specs.Annotated.{IsAnnotatedMathElement, alternative_start, alternative_tag, annotated_child_table, annotated_print}
+use Rattle.std.proofs.Common.{◌≡◌, ℕ, Bool, true, false, IsTrue, List, [], ◌∷◌, ◌++◌, Option, refl, subst, append-nil, append_assoc, arith, codes, cond, map}
+use Rattle.std.specs.{Cmp.Lexicographic.bytes_decides, List.list_all, Str.bytes_eq}
+use Rattle.latex2mathml_elements.specs.Annotated.{IsAnnotatedMathElement, alternative, alternative_start, alternative_tag, annotated_child_table, annotated_print}
 use Rattle.latex2mathml_elements.specs.Characters.{EachText, IsAllowed}
 use Rattle.latex2mathml_elements.specs.Element.{Element}
 use Rattle.latex2mathml_elements.specs.{Laws.AnnotatedPrintAsElements}
 use Rattle.latex2mathml_elements.proofs.{Alternatives.alternative_value, Characters.alternatives, Characters.both, Characters.clean, Characters.contents, OneElement.Piece, OneElement.element, OneElement.plainly, OneElement.then, Plain.called}
 use Rattle.latex2mathml_trees.specs.MathSchema.{child_table}
-use Rattle.latex2mathml_trees.specs.Markup.{Name, Runs, above, at_start, attribute, lowest, open_tag, plain}
-use Rattle.latex2mathml_trees.proofs.Runs.{content_leads, obeying, opened, single, spelled_as}
+use Rattle.latex2mathml_trees.specs.Markup.{Name, Runs, above, at_start, attribute, is_part, lowest, open_tag, plain}
+use Rattle.latex2mathml_trees.proofs.Runs.{content_leads, obeying, opened, plain-spells, single, spelled_as}
 
 -- The child table with annotations allows more: its two further elements are not in the other table.
 
@@ -22,19 +22,16 @@ allows_more parent name children has_text h =
     (λ is. subst (λ n. child_table parent n children has_text ≡ false) ((bytes_decides (codes "annotation") name).0 is) refl)
     h
 
--- the attribute of the alternative text, as it is spelled
-reach : (u w : List ℕ) → u ≡ w → ((u ++ codes "\"") ++ []) ++ codes ">" ≡ w ++ codes "\">"
-reach u w e = simp (append_assoc, append-nil, e)
+-- the start tag, whose alternative text is spelled by the parts of a value
+opened_with : (display tex : List ℕ) → IsTrue (list_all is_part (map plain display)) → Runs annotated_child_table (codes "<math xmlns=\"http://www.w3.org/1998/Math/MathML\" display=\"" ++ (display ++ (codes "\" alttext=\"" ++ (alternative tex ++ codes "\">")))) at_start (above (codes "math") [] false (lowest (codes "math" ∷ []) false))
+opened_with display tex valid =
+    let value = alternative_value tex in
+    spelled_as (simp (append_assoc, append-nil, plain-spells, value.spelled))
+    (single annotated_child_table (open_tag (codes "math") (attribute (codes "xmlns") (map plain (codes "http://www.w3.org/1998/Math/MathML")) ∷ attribute (codes "display") (map plain display) ∷ attribute (codes "alttext") value.parts ∷ [])) at_start _ (simp (valid, value.are_parts)) refl)
 
 math_opened : (is_display : Bool) (tex : List ℕ) → Runs annotated_child_table (alternative_tag is_display tex) at_start (above (codes "math") [] false (lowest (codes "math" ∷ []) false))
-math_opened true tex =
-    let value = alternative_value tex in
-    spelled_as (ap (λ l. alternative_start true ++ l) (reach _ _ value.spelled))
-    (single annotated_child_table (open_tag (codes "math") (attribute (codes "xmlns") (map plain (codes "http://www.w3.org/1998/Math/MathML")) ∷ attribute (codes "display") (map plain (codes "block")) ∷ attribute (codes "alttext") value.parts ∷ [])) at_start _ (ap (λ b. b && true) value.are_parts) refl)
-math_opened false tex =
-    let value = alternative_value tex in
-    spelled_as (ap (λ l. alternative_start false ++ l) (reach _ _ value.spelled))
-    (single annotated_child_table (open_tag (codes "math") (attribute (codes "xmlns") (map plain (codes "http://www.w3.org/1998/Math/MathML")) ∷ attribute (codes "display") (map plain (codes "inline")) ∷ attribute (codes "alttext") value.parts ∷ [])) at_start _ (ap (λ b. b && true) value.are_parts) refl)
+math_opened true tex = opened_with (codes "block") tex refl
+math_opened false tex = opened_with (codes "inline") tex refl
 
 -- The alternative text, what is shown and the annotation
 
