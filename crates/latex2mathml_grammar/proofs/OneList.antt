@@ -1,10 +1,10 @@
 -- A text has exactly one list of slices, and so exactly one token list.
 use Rattle.std.proofs.Common.{◌≡◌, ℕ, zero, suc, ◌<◌, Bool, true, false, ◌&&◌, List, [], ◌∷◌, ◌++◌, map, codes, length, refl, sym, ap, subst, ◌∙◌, Option, Some, None, inl, inr, append-nil, arith}
-use Rattle.std.proofs.{Math.Seq.drop-append_seam, lemmas.Bool.cases_Bool, lemmas.Bool.Decides.nat_tests}
+use Rattle.std.proofs.{Math.Seq.drop-append_seam, lemmas.Bool.cases_Bool, lemmas.Bool.Decides.nat_tests, lemmas.List.Sums.list_all-from_AllPass}
 use Rattle.std.specs.{Char.is_ascii_digit, Char.is_ascii_alphabetic, List.AllPass, Str.byte, Str.encode_utf8_all}
 use Rattle.latex2mathml_grammar.specs.Characters.{◌∈◌, Begins, Stops, head, is_empty, is_space}
 use Rattle.std.proofs.lemmas.List.Elements.{All-nil, All-cons}
-use Rattle.latex2mathml_grammar.proofs.{Counting.each, FirstSlices.parted, FirstSlices.slice_of}
+use Rattle.latex2mathml_grammar.proofs.{FirstSlices.parted, FirstSlices.slice_of}
 use Rattle.latex2mathml_tokens.specs.{Among.is_among, Commands.command_token}
 use Rattle.latex2mathml_grammar.specs.Cutting.{slice, slices_within, slices_of}
 use Rattle.latex2mathml_grammar.specs.{Beginnings.BeginsWith, Beginnings.BeginsWithNumber, Beginnings.IsLongestRun, TokenLists.HasOneTokenList}
@@ -89,10 +89,10 @@ within (suc n) takes text (space, c ∷ cs, run) h =
 computed : (n : ℕ) (takes : Bool) (text : List ℕ) (ss : List Slice) → HasSlices takes text ss → length text < n → slices_within n takes text ≡ ss
 unfolding slices_within
 computed zero takes text ss h l = absurd (omega arith)
-computed (suc n) takes text [] h l = rw (rw append-nil at (parted is_space text [] (each is_space text h) tt).1) refl
+computed (suc n) takes text [] h l = rw (rw append-nil at (parted is_space text [] (list_all-from_AllPass is_space text h) tt).1) refl
 computed (suc n) takes text (s ∷ ss) (rest, (space, whole, white, spells), later) l =
     let dark : Stops is_space (head (s.text ++ rest)) × (is_empty (s.text ++ rest) ≡ false) = grind (arith, spells_dark _ s.text _ s.token spells) in
-    let parts = parted is_space space (s.text ++ rest) (each is_space space white) dark.0 in
+    let parts = parted is_space space (s.text ++ rest) (list_all-from_AllPass is_space space white) dark.0 in
     let more = computed n (takes_digit (Some s.token)) rest ss later (omega (arith, step_shortens takes text rest s (space, whole, white, spells))) in
     rw (whole, parts.1, parts.0, dark.1, slice_of (takes && is_empty space) s.text rest s.token spells, drop-append_seam s.text rest, more) refl
 

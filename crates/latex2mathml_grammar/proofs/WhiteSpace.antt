@@ -1,13 +1,13 @@
 -- White space at a place between two tokens that is not a digit place does not change the token list.
 use Rattle.std.proofs.Common.{◌≡◌, ℕ, Bool, true, false, ◌&&◌, IsTrue, List, [], ◌∷◌, ◌++◌, Option, Some, None, map, refl, sym, ap, subst, ◌∙◌, append_assoc, arith}
-use Rattle.std.proofs.{lemmas.Bool.and_right, lemmas.Bool.Decides.nat_tests, lemmas.Str.chars-append}
-use Rattle.std.specs.{Char.is_ascii_digit, Char.is_ascii_alphabetic, List.AllPass, Str.IsUtf8, Str.chars}
+use Rattle.std.proofs.{lemmas.Bool.and_right, lemmas.Bool.Decides.nat_tests, lemmas.List.Elements.All-head, lemmas.List.Elements.All-nil, lemmas.List.Folds.list_all-append, lemmas.List.Sums.AllPass-from_list_all, lemmas.List.Sums.list_all-from_AllPass, lemmas.Str.chars-append}
+use Rattle.std.specs.{Char.is_ascii_digit, Char.is_ascii_alphabetic, List.AllPass, List.list_all, Str.IsUtf8, Str.chars}
 use Rattle.latex2mathml_grammar.specs.Characters.{Begins, Stops, head, is_empty, is_space}
 use Rattle.latex2mathml_grammar.specs.{Cutting.slices_of, Rendering.IsRendering, Rendering.IsFormulaRefusal}
 use Rattle.latex2mathml_grammar.specs.Places.{AreSlices, IsBetweenTokens, IsDigitPlace, IsReadAlike, SpaceChangesNothing, HasPlaces}
 use Rattle.latex2mathml_grammar.specs.Spelling.{SpellsAt, Slice, HasSlices, HasTokens, is_equals_sign, is_period, takes_digit, character, colon, colon_equals, number, digit, symbol_command, letter_command, lone_backslash}
 use Rattle.latex2mathml_tokens.specs.Tok.{Tok}
-use Rattle.latex2mathml_grammar.proofs.{OneList.at_most_one, OneList.cut, Counting.Each, Counting.each, Counting.passing}
+use Rattle.latex2mathml_grammar.proofs.{OneList.at_most_one, OneList.cut}
 use Rattle.latex2mathml_grammar.proofs.Tokenizing.{Dark, spells_dark}
 
 -- a slice, where other characters may follow it
@@ -58,15 +58,9 @@ slices_joined takes w behind (r ∷ ss) s rs (space, more, whole, white, spells,
 
 -- the slice after the place
 
--- the white space at the place, with more of it
-gap_grown : (left cs right : List ℕ) → Each is_space (left ++ right) → Each is_space cs → Each is_space (left ++ (cs ++ right))
-gap_grown [] [] right h k = h
-gap_grown [] (c ∷ cs) right h k = (k.0, gap_grown [] cs right h k.1)
-gap_grown (x ∷ left) cs right h k = (h.0, gap_grown left cs right h.1 k)
-
-light_first : (left : List ℕ) (c : ℕ) (cs right : List ℕ) → Each is_space (left ++ right) → is_space c ≡ true → (behind : List ℕ) → IsLight (head (left ++ (c ∷ cs ++ behind)))
+light_first : (left : List ℕ) (c : ℕ) (cs right : List ℕ) → IsTrue (list_all is_space (left ++ right)) → is_space c ≡ true → (behind : List ℕ) → IsLight (head (left ++ (c ∷ cs ++ behind)))
 light_first [] c cs right h k behind = λ p dark. dark c k
-light_first (x ∷ left) c cs right h k behind = λ p dark. dark x h.0
+light_first (x ∷ left) c cs right h k behind = λ p dark. dark x (grind arith)
 
 some_stands : (left right w rest : List ℕ) → Dark w → head (left ++ (right ++ (w ++ rest))) ≡ None → ⊥
 some_stands [] [] [] rest dark none = absurd dark
@@ -94,14 +88,15 @@ slices_around {before} {after} place space earlier white spells =
     let next : place.left ++ (space ++ after) ≡ (place.left ++ (space ++ place.right)) ++ slice = ap (λ x. place.left ++ (space ++ x)) place.after_is ∙ sym (append_assoc place.left (space ++ place.right) slice ∙ ap (λ x. place.left ++ x) (append_assoc space place.right slice)) in
     subst (λ x. HasSlices false x (around _ _ place)) (sym whole) (slices_joined false place.front _ place.earlier place.last _ earlier (place.rest, (_, next, white, spells), cut _ place.rest))
 
-same_slices : (before after : List ℕ) (place : IsBetweenTokens before after) → ¬ (IsDigitPlace place) → (space : List ℕ) → Each is_space space → HasSlices false (before ++ (space ++ after)) (around before after place)
+same_slices : (before after : List ℕ) (place : IsBetweenTokens before after) → ¬ (IsDigitPlace place) → (space : List ℕ) → AllPass is_space space → HasSlices false (before ++ (space ++ after)) (around before after place)
 same_slices before after place no_digit_place [] white = slices_around place [] place.slices place.space place.spells
 same_slices before after place no_digit_place (c ∷ cs) white =
-    let space : Each is_space (place.left ++ place.right) = each is_space (place.left ++ place.right) place.space in
+    let space = list_all-from_AllPass is_space (place.left ++ place.right) place.space in
+    let more = list_all-from_AllPass is_space (c ∷ cs) white in
     let some : head (place.left ++ after) ≡ None → ⊥ = λ none. some_stands place.left place.right _ _ (spells_dark _ _ _ _ place.spells) (ap (λ x. head (place.left ++ x)) (sym place.after_is) ∙ none) in
-    let earlier = slices_before_space false place.front _ (place.left ++ (c ∷ cs ++ after)) _ some (light_first place.left c cs place.right space white.0 after) place.slices in
+    let earlier = slices_before_space false place.front _ (place.left ++ (c ∷ cs ++ after)) _ some (light_first place.left c cs place.right space (All-head (λ x. is_space x ≡ true) c cs white) after) place.slices in
     let spells = spells_apart _ _ _ _ _ (λ touching takes digit. no_digit_place (record { touching = touching; takes = takes; digit = digit })) place.spells in
-    slices_around place (c ∷ cs) earlier (passing is_space _ (gap_grown place.left (c ∷ cs) place.right space white)) (rw (gap_some place.left c (cs ++ place.right), and_right _ false refl) spells)
+    slices_around place (c ∷ cs) earlier (AllPass-from_list_all is_space _ (grind (arith, list_all-append {X = ℕ}, space, more))) (rw (gap_some place.left c (cs ++ place.right), and_right _ false refl) spells)
 
 -- texts with the same slices
 
@@ -120,8 +115,8 @@ read_alike text other to from = record {
 pub space_changes_nothing : (before space after : List ℕ) → IsUtf8 before → IsUtf8 space → SpaceChangesNothing before space after
 space_changes_nothing before space after u v = λ place no_digit_place white.
     let ss : List Slice = around (chars before) (chars after) place in
-    let a : HasSlices false (chars (before ++ after)) ss = rw (chars-append before after u) (same_slices _ _ place no_digit_place [] tt) in
-    let b : HasSlices false (chars (before ++ (space ++ after))) ss = rw (chars-append before (space ++ after) u, chars-append space after v) (same_slices _ _ place no_digit_place (chars space) (each is_space (chars space) white)) in
+    let a : HasSlices false (chars (before ++ after)) ss = rw (chars-append before after u) (same_slices _ _ place no_digit_place [] (All-nil (λ x. is_space x ≡ true))) in
+    let b : HasSlices false (chars (before ++ (space ++ after))) ss = rw (chars-append before (space ++ after) u, chars-append space after v) (same_slices _ _ place no_digit_place (chars space) white) in
     read_alike (before ++ after) (before ++ (space ++ after)) (same_tokens _ _ ss a b) (same_tokens _ _ ss b a)
 
 -- where places are
