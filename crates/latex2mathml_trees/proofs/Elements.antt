@@ -12,7 +12,7 @@ use Rattle.latex2mathml_trees.specs.Markup.{Name, Reference, numbered, plain, At
 use Rattle.latex2mathml_trees.specs.Print.{error_print, letter_print, operator_print, member_print, print, prints, members_print, slashed_print, style_open}
 use Rattle.latex2mathml_trees.specs.Tree.{Tree, ampersand, new_line, Trees, number, letter, operator, applied, subscript, superscript, sub_sup, over_op, under_op, overset, underset, under, under_over, root, sqrt, frac, row, fenced, other_operator, sized_paren, matrix, slashed, style, undefined, no_trees, more_trees}
 use Rattle.latex2mathml_trees.proofs.Runs.{content_leads, ending_as, joined, more, one_more, obeying, plain-spells, single, spelled_as, opened, staying, more-append, none_more}
-use Rattle.latex2mathml_trees.proofs.ValueTexts.{beside, no_text, plain_before, plain_width, escaped, plain_decimal}
+use Rattle.latex2mathml_trees.proofs.ValueTexts.{beside, plain_text, plain_width, escaped, plain_decimal}
 
 -- If strict, elements obey the child table. Otherwise every element is allowed.
 abbrev schema_of : Bool → Schema
@@ -20,8 +20,7 @@ schema_of true = child_table
 schema_of false = any_element
 
 obeys : (strict : Bool) (parent : Option Name) (n : Name) (ks : List Name) (d : Bool) → (IsTrue strict → IsTrue (child_table parent n ks d)) → IsTrue (schema_of strict parent n ks d)
-obeys true parent n ks d h = h refl
-obeys false parent n ks d h = refl
+obeys strict parent n ks d h = grind (arith, h)
 
 -- the bytes are elements one after another, and exactly `count` if strict
 record AreElements (strict : Bool) (count : ℕ) (bytes : List ℕ) : Type 0 where
@@ -115,7 +114,7 @@ module _ (strict : Bool) where
 
   space_is_element : (n : ℤ) → AreElements strict 1 (codes "<mspace width=\"" ++ (width_text n ++ codes "em\"/>"))
   space_is_element n =
-      let width = beside (plain_width n) (plain_before 101 refl (plain_before 109 refl no_text)) in
+      let width = beside (plain_width n) (plain_text (codes "em") refl) in
       record {
         names = codes "mspace" ∷ [];
         counted = λ h. refl;
@@ -170,9 +169,6 @@ module _ (strict : Bool) where
       (λ s. joined (x.leads (above n [] false s))
       (closes n (x.names ++ []) false s holds.0 (λ e. holds.1 (name_of s) (x.names ++ []) (omega (arith, length-append x.names [], x.counted e)))))
 
-  exactly : (count : ℕ) (ks : List Name) → length ks ≡ count → (length ks == count && true) ≡ (count == count && true)
-  exactly count ks e = ap (λ l. l == count && true) e
-
   two : (n : Name) (attributes : List Attribute) {a b : List ℕ} → IsTrue (list_all is_attribute attributes) → Holds n 2 → AreElements strict 1 a → AreElements strict 1 b → AreElements strict 1 (spell_event (open_tag n attributes) ++ (a ++ (b ++ spell_event (close_tag n))))
   two n attributes valid holds x y = respelled (within n attributes valid holds (both x y)) (simp append_assoc)
 
@@ -183,12 +179,12 @@ module _ (strict : Bool) where
   accented n holds c k x = respelled (two n [] refl holds x (sign (attribute (codes "accent") (map plain (accent_text k)) ∷ []) (grind arith) (encode_utf8 c))) (simp (append_assoc, append-nil, plain-spells))
 
   fraction : (t : LineThickness) {a b : List ℕ} → AreElements strict 1 a → AreElements strict 1 b → AreElements strict 1 (codes "<mfrac" ++ (thickness_text t ++ (codes ">" ++ (a ++ (b ++ codes "</mfrac>")))))
-  fraction Thin x y = two (codes "mfrac") (attribute (codes "linethickness") (map plain (codes "thin")) ∷ []) refl (refl, λ parent. exactly 2) x y
-  fraction Medium x y = two (codes "mfrac") [] refl (refl, λ parent. exactly 2) x y
-  fraction Thick x y = two (codes "mfrac") (attribute (codes "linethickness") (map plain (codes "thick")) ∷ []) refl (refl, λ parent. exactly 2) x y
+  fraction Thin x y = two (codes "mfrac") (attribute (codes "linethickness") (map plain (codes "thin")) ∷ []) refl (refl, λ parent ks e. rw e) x y
+  fraction Medium x y = two (codes "mfrac") [] refl (refl, λ parent ks e. rw e) x y
+  fraction Thick x y = two (codes "mfrac") (attribute (codes "linethickness") (map plain (codes "thick")) ∷ []) refl (refl, λ parent ks e. rw e) x y
   fraction (Length l) x y =
       let v = plain_decimal l in
-      respelled (two (codes "mfrac") (attribute (codes "linethickness") v.parts ∷ []) (ap (λ b. b && true) v.are_parts) (refl, λ parent. exactly 2) x y)
+      respelled (two (codes "mfrac") (attribute (codes "linethickness") v.parts ∷ []) (ap (λ b. b && true) v.are_parts) (refl, λ parent ks e. rw e) x y)
       (simp (append_assoc, append-nil, v.spelled))
 
   abbrev fence : List ℕ → List Attribute
@@ -223,16 +219,16 @@ module _ (strict : Bool) where
     elements (applied name x) h =
         let whole = respelled (both (identifier name) (both (application) (elements x (λ e. absurd (h e))))) (simp append_assoc) in
         record { names = whole.names; counted = λ e. absurd (h e); leads = whole.leads }
-    elements (subscript a b) h = two (codes "msub") [] refl (refl, λ parent. exactly 2) (elements a (λ e. (h e).0)) (elements b (λ e. (h e).1))
-    elements (superscript a b) h = two (codes "msup") [] refl (refl, λ parent. exactly 2) (elements a (λ e. (h e).0)) (elements b (λ e. (h e).1))
-    elements (sub_sup a b c) h = three (codes "msubsup") (refl, λ parent. exactly 3) (elements a (λ e. (h e).0)) (elements b (λ e. (h e).1)) (elements c (λ e. (h e).2))
-    elements (over_op c k x) h = accented (codes "mover") (refl, λ parent. exactly 2) c k (elements x h)
-    elements (under_op c k x) h = accented (codes "munder") (refl, λ parent. exactly 2) c k (elements x h)
-    elements (overset a b) h = two (codes "mover") [] refl (refl, λ parent. exactly 2) (elements b (λ e. (h e).1)) (elements a (λ e. (h e).0))
-    elements (underset a b) h = two (codes "munder") [] refl (refl, λ parent. exactly 2) (elements b (λ e. (h e).1)) (elements a (λ e. (h e).0))
-    elements (under a b) h = two (codes "munder") [] refl (refl, λ parent. exactly 2) (elements a (λ e. (h e).0)) (elements b (λ e. (h e).1))
-    elements (under_over a b c) h = three (codes "munderover") (refl, λ parent. exactly 3) (elements a (λ e. (h e).0)) (elements b (λ e. (h e).1)) (elements c (λ e. (h e).2))
-    elements (root d x) h = two (codes "mroot") [] refl (refl, λ parent. exactly 2) (elements x (λ e. (h e).1)) (elements d (λ e. (h e).0))
+    elements (subscript a b) h = two (codes "msub") [] refl (refl, λ parent ks e. rw e) (elements a (λ e. (h e).0)) (elements b (λ e. (h e).1))
+    elements (superscript a b) h = two (codes "msup") [] refl (refl, λ parent ks e. rw e) (elements a (λ e. (h e).0)) (elements b (λ e. (h e).1))
+    elements (sub_sup a b c) h = three (codes "msubsup") (refl, λ parent ks e. rw e) (elements a (λ e. (h e).0)) (elements b (λ e. (h e).1)) (elements c (λ e. (h e).2))
+    elements (over_op c k x) h = accented (codes "mover") (refl, λ parent ks e. rw e) c k (elements x h)
+    elements (under_op c k x) h = accented (codes "munder") (refl, λ parent ks e. rw e) c k (elements x h)
+    elements (overset a b) h = two (codes "mover") [] refl (refl, λ parent ks e. rw e) (elements b (λ e. (h e).1)) (elements a (λ e. (h e).0))
+    elements (underset a b) h = two (codes "munder") [] refl (refl, λ parent ks e. rw e) (elements b (λ e. (h e).1)) (elements a (λ e. (h e).0))
+    elements (under a b) h = two (codes "munder") [] refl (refl, λ parent ks e. rw e) (elements a (λ e. (h e).0)) (elements b (λ e. (h e).1))
+    elements (under_over a b c) h = three (codes "munderover") (refl, λ parent ks e. rw e) (elements a (λ e. (h e).0)) (elements b (λ e. (h e).1)) (elements c (λ e. (h e).2))
+    elements (root d x) h = two (codes "mroot") [] refl (refl, λ parent ks e. rw e) (elements x (λ e. (h e).1)) (elements d (λ e. (h e).0))
     elements (sqrt x) h = within (codes "msqrt") [] refl (refl, λ parent ks e. refl) (elements x h)
     elements (frac a b t) h = fraction t (elements a (λ e. (h e).0)) (elements b (λ e. (h e).1))
     elements (row members) h = let some = all_elements members h in within (codes "mrow") [] refl (refl, λ parent ks e. refl) some.1

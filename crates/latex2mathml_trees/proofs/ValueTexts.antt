@@ -27,9 +27,6 @@ beside x y = record {
   spelled = rw (flat_map-append spell_part, x.spelled, y.spelled) refl;
 }
 
-pub plain_before : (b : ℕ) {bs : List ℕ} → IsTrue (is_part (plain b)) → IsValue bs → IsValue (b ∷ bs)
-plain_before b h x = beside (one_part (plain b) h) x
-
 -- Escaped texts
 
 -- what a byte of contents is within a value
@@ -67,7 +64,7 @@ module _ (passes : ℕ → Bool) (digit_passes : (d : ℕ) → d < 10 → IsTrue
   width_passes point minus (pos n) = thousandths_pass point (thousandths n)
   width_passes point minus (negsuc n) = ap (λ b. b && list_all passes (thousandths_text (thousandths (suc n)))) minus ∙ thousandths_pass point (thousandths (suc n))
 
-plain_text : (bs : List ℕ) → IsTrue (list_all (λ b. is_part (plain b)) bs) → IsValue bs
+pub plain_text : (bs : List ℕ) → IsTrue (list_all (λ b. is_part (plain b)) bs) → IsValue bs
 plain_text bs h = record { parts = map plain bs; are_parts = list_all-map is_part plain bs ∙ h; spelled = plain-spells bs }
 
 plain_digit : (d : ℕ) → d < 10 → IsTrue (is_part (plain (48 + d)))
