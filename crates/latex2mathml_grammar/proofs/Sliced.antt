@@ -76,16 +76,12 @@ mutual
   part_by_slices (single_read (part_refused d)) = single_refuses (part_by_slices d)
   part_by_slices (node_read (part_read d (sign_stands p (part_read {m = f} e rule_gives)))) =
       let u = part_by_slices d in
-      let v = part_by_slices e in
-      let behind = p ∙ ap (λ k. Underscore ∷ k) v.1 in
-      (_, joined u.0 (Underscore ∷ v.0) f u.1 behind, with_subscript refl (part_before behind u.2) v.2)
+      let v = part_by_slices e in (_, joined u.0 (Underscore ∷ v.0) f u.1 (rw v.1 at p), with_subscript refl (part_before (rw v.1 at p) u.2) v.2)
   part_by_slices (node_read (part_read d (sign_stands p (part_refused e)))) =
       let u = part_by_slices d in subscript_refuses (u.1 ∙ ap (λ k. u.0 ++ k) p) (part_before p u.2) (part_by_slices e)
   part_by_slices (node_read (part_read d (sign_missing h (sign_stands p (part_read {m = f} e rule_gives))))) =
       let u = part_by_slices d in
-      let v = part_by_slices e in
-      let behind = p ∙ ap (λ k. Circumflex ∷ k) v.1 in
-      (_, joined u.0 (Circumflex ∷ v.0) f u.1 behind, with_superscript refl (part_before behind u.2) v.2)
+      let v = part_by_slices e in (_, joined u.0 (Circumflex ∷ v.0) f u.1 (rw v.1 at p), with_superscript refl (part_before (rw v.1 at p) u.2) v.2)
   part_by_slices (node_read (part_read d (sign_missing h (sign_stands p (part_refused e))))) =
       let u = part_by_slices d in superscript_refuses (u.1 ∙ ap (λ k. u.0 ++ k) p) (part_before p u.2) (part_by_slices e)
   part_by_slices (node_read (part_read d (sign_missing h (sign_missing k rule_gives)))) = (let u = part_by_slices d in (u.0, u.1, without_script u.2 h k))

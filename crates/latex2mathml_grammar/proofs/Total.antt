@@ -1,5 +1,5 @@
 -- Each list of tokens has exactly one outcome, and so one reading or one refusal.
-use Rattle.std.proofs.Common.{arith, ◌≡◌, ℕ, List, [], ◌∷◌, Option, Some, refl, sym, ap, subst, zero, suc, ◌-◌, ◌<◌, ◌≤◌, ◌≢◌, inl, inr, length, None}
+use Rattle.std.proofs.Common.{arith, ◌≡◌, ℕ, List, [], ◌∷◌, Option, Some, refl, sym, ap, zero, suc, ◌-◌, ◌<◌, ◌≤◌, ◌≢◌, inl, inr, length, None}
 use Rattle.latex2mathml_grammar.specs.Grammar.{Sort, Rule, Outcome, Read, first, first_letter, AreLetters, Reads, core_at_end, core_begun, single_read, node_read, ReadsRule, rule_gives, rule_refuses, part_read, part_refused, members_read, members_refused, sign_stands, sign_missing, token_taken, token_at_end, token_seen, letters_taken, ReadsAll, formula_ends, group_ends, never_closed, member_read, later_refused, member_refused, core, single, node, gives, refuses, reads_part, reads_members, reads_sign, takes_token, sees_token, takes_letters, rule, Refused, first_or_end, letter_of, ReadsFormula, Refuses}
 use Rattle.latex2mathml_trees.specs.Tree.{Tree}
 use Rattle.latex2mathml_tokens.specs.{Discreteness.tok-discrete, Refusal.Refusal, Tok.Tok, Tok.EOF}
@@ -18,10 +18,7 @@ one_run : (cs ds : List ℕ) (l m n : List Tok) → AreLetters cs l m → AreLet
 one_run [] [] l m n p q = cc (p.0, q.0)
 one_run [] (d ∷ ds) l m n p q = cc (p.0, p.1, q.1.2, ap first_letter q.1.1)
 one_run (c ∷ cs) [] l m n p q = cc (q.0, q.1, p.1.2, ap first_letter p.1.1)
-one_run (c ∷ cs) (d ∷ ds) l m n p q =
-    let same_rest : q.1.0 ≡ p.1.0 = cc (p.1.1, q.1.1) in
-    let later = one_run cs ds p.1.0 m n p.1.3 (subst (λ k. AreLetters ds k n) same_rest q.1.3) in
-    cc (p.1.1, q.1.1, p.1.2, q.1.2, later)
+one_run (c ∷ cs) (d ∷ ds) l m n p q = grind (arith, one_run cs ds p.1.0 m n p.1.3)
 
 -- a group ends where its end token is
 at_end : {end : Tok} {l m : List Tok} {o : Outcome (List Tree)} → l ≡ end ∷ m → ReadsAll (Some end) l o → o ≡ Read [] m
