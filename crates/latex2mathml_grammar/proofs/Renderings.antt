@@ -11,7 +11,7 @@ use Rattle.latex2mathml_grammar.proofs.{OneList.at_most_one, OneList.some_list, 
 
 -- two token lists of a text have one outcome
 one_outcome : {text : List ℕ} {ts us : List Tok} {o p : Outcome (List Tree)} → HasTokens None text ts → ReadsAll None ts o → HasTokens None text us → ReadsAll None us p → o ≡ p
-one_outcome {text} {ts} {us} {o} h d k e = one_all (subst (λ l. ReadsAll None l o) (at_most_one None text ts us h k) d) e
+one_outcome {text} {ts} {us} {o} h d k e = one_all (subst (λ l. ReadsAll None l o) (at_most_one None text ts us h k) d) _ e
 
 pub has_one_rendering : (text : List ℕ) (display : DisplayStyle) → HasOneRendering text display
 unfolding IsRendering IsFormulaRefusal ReadsFormula Refuses

@@ -5,14 +5,6 @@ use Rattle.latex2mathml_trees.specs.Tree.{Tree}
 use Rattle.latex2mathml_tokens.specs.{Discreteness.tok-discrete, Refusal.Refusal, Tok.Tok, Tok.EOF}
 use Rattle.latex2mathml_grammar.specs.Laws.{HasOneReading}
 
--- what follows one outcome of a part also follows the other, which is equal
-moved_rule : {A : Type 0} (then : A → Rule) {x y : A} {m n : List Tok} {o : Outcome Tree} → Read x m ≡ Read y n → ReadsRule (then y) n o → ReadsRule (then x) m o
-moved_rule then {x} {y} {m} {n} e d = (let p : y ≡ x = cc in let q : n ≡ m = cc in rw q at (rw p at d))
-
--- the members after one outcome of a member also follow the other
-moved_all : {end : Option Tok} {x y : Tree} {m n : List Tok} {o : Outcome (List Tree)} → Read x m ≡ Read y n → ReadsAll end n o → ReadsAll end m o
-moved_all {m = m} {n = n} e d = (let q : n ≡ m = cc in rw q at d)
-
 -- there is only one longest run of letters
 one_run : (cs ds : List ℕ) (l m n : List Tok) → AreLetters cs l m → AreLetters ds l n → Read cs m ≡ Read ds n
 one_run [] [] l m n p q = cc (p.0, q.0)
@@ -26,48 +18,48 @@ at_end p d = grind arith
 
 mutual
   -- a core, a single or a node has only one outcome
-  pub one : {s : Sort} {l : List Tok} {o p : Outcome Tree} → Reads s l o → Reads s l p → o ≡ p
-  one core_at_end core_at_end = refl
-  one (core_begun d) (core_begun e) = one_rule d e
-  one (single_read d) (single_read e) = one_rule d e
-  one (node_read d) (node_read e) = one_rule d e
+  one : {s : Sort} {l : List Tok} {o : Outcome Tree} → Reads s l o → (p : Outcome Tree) → Reads s l p → o ≡ p
+  one core_at_end p core_at_end = refl
+  one (core_begun d) p (core_begun e) = one_rule d p e
+  one (single_read d) p (single_read e) = one_rule d p e
+  one (node_read d) p (node_read e) = one_rule d p e
 
   -- a rule has only one outcome
-  one_rule : {r : Rule} {l : List Tok} {o p : Outcome Tree} → ReadsRule r l o → ReadsRule r l p → o ≡ p
-  one_rule rule_gives rule_gives = refl
-  one_rule rule_refuses rule_refuses = refl
-  one_rule (part_read {then = then} d ds) (part_read e es) = one_rule ds (moved_rule then (one d e) es)
-  one_rule (part_read d ds) (part_refused e) = cc (one d e)
-  one_rule (part_refused d) (part_read e es) = cc (one d e)
-  one_rule (part_refused d) (part_refused e) = one d e
-  one_rule (members_read {then = then} d ds) (members_read e es) = one_rule ds (moved_rule then (one_all d e) es)
-  one_rule (members_read d ds) (members_refused e) = cc (one_all d e)
-  one_rule (members_refused d) (members_read e es) = cc (one_all d e)
-  one_rule (members_refused d) (members_refused e) = cc (one_all d e)
-  one_rule (sign_stands {m = m} p d) (sign_stands {m = n} q e) = (let same : n ≡ m = cc in one_rule d (rw same at e))
-  one_rule (sign_stands p d) (sign_missing h e) = absurd (h (ap first p))
-  one_rule (sign_missing h d) (sign_stands p e) = absurd (h (ap first p))
-  one_rule (sign_missing h d) (sign_missing k e) = one_rule d e
-  one_rule (token_taken d) (token_taken e) = one_rule d e
-  one_rule (token_at_end d) (token_at_end e) = one_rule d e
-  one_rule (token_seen d) (token_seen e) = one_rule d e
-  one_rule (letters_taken cs {then = then} p d) (letters_taken ds q e) = one_rule d (moved_rule then (one_run cs ds _ _ _ p q) e)
+  one_rule : {r : Rule} {l : List Tok} {o : Outcome Tree} → ReadsRule r l o → (p : Outcome Tree) → ReadsRule r l p → o ≡ p
+  one_rule rule_gives p rule_gives = refl
+  one_rule rule_refuses p rule_refuses = refl
+  one_rule (part_read d ds) p (part_read e es) = grind (arith, one d _ e, one_rule ds)
+  one_rule (part_read d ds) p (part_refused e) = cc (one d _ e)
+  one_rule (part_refused d) p (part_read e es) = cc (one d _ e)
+  one_rule (part_refused d) p (part_refused e) = one d p e
+  one_rule (members_read d ds) p (members_read e es) = grind (arith, one_all d _ e, one_rule ds)
+  one_rule (members_read d ds) p (members_refused e) = cc (one_all d _ e)
+  one_rule (members_refused d) p (members_read e es) = cc (one_all d _ e)
+  one_rule (members_refused d) p (members_refused e) = cc (one_all d _ e)
+  one_rule (sign_stands q d) p (sign_stands k e) = grind (arith, one_rule d)
+  one_rule (sign_stands q d) p (sign_missing h e) = absurd (h (ap first q))
+  one_rule (sign_missing h d) p (sign_stands q e) = absurd (h (ap first q))
+  one_rule (sign_missing h d) p (sign_missing k e) = one_rule d p e
+  one_rule (token_taken d) p (token_taken e) = one_rule d p e
+  one_rule (token_at_end d) p (token_at_end e) = one_rule d p e
+  one_rule (token_seen d) p (token_seen e) = one_rule d p e
+  one_rule (letters_taken cs q d) p (letters_taken ds k e) = grind (arith, one_run cs ds _ _ _ q k, one_rule d)
 
   -- consecutive nodes have only one outcome
-  pub one_all : {end : Option Tok} {l : List Tok} {o p : Outcome (List Tree)} → ReadsAll end l o → ReadsAll end l p → o ≡ p
-  one_all formula_ends formula_ends = refl
-  one_all never_closed never_closed = refl
-  one_all (group_ends p) e = sym (at_end p e)
-  one_all d (group_ends p) = at_end p d
-  one_all (member_read h d ds) (member_read k e es) = cc (one d e, one_all ds (moved_all (one d e) es))
-  one_all (member_read h d ds) (later_refused k e es) = cc (one_all ds (moved_all (one d e) es))
-  one_all (member_read h d ds) (member_refused k e) = cc (one d e)
-  one_all (later_refused h d ds) (member_read k e es) = cc (one_all ds (moved_all (one d e) es))
-  one_all (later_refused h d ds) (later_refused k e es) = one_all ds (moved_all (one d e) es)
-  one_all (later_refused h d ds) (member_refused k e) = cc (one d e)
-  one_all (member_refused h d) (member_read k e es) = cc (one d e)
-  one_all (member_refused h d) (later_refused k e es) = cc (one d e)
-  one_all (member_refused h d) (member_refused k e) = cc (one d e)
+  pub one_all : {end : Option Tok} {l : List Tok} {o : Outcome (List Tree)} → ReadsAll end l o → (p : Outcome (List Tree)) → ReadsAll end l p → o ≡ p
+  one_all formula_ends p formula_ends = refl
+  one_all never_closed p never_closed = refl
+  one_all (group_ends q) p e = sym (at_end q e)
+  one_all d p (group_ends q) = at_end q d
+  one_all (member_read h d ds) p (member_read k e es) = grind (arith, one d _ e, one_all ds)
+  one_all (member_read h d ds) p (later_refused k e es) = grind (arith, one d _ e, one_all ds)
+  one_all (member_read h d ds) p (member_refused k e) = cc (one d _ e)
+  one_all (later_refused h d ds) p (member_read k e es) = grind (arith, one d _ e, one_all ds)
+  one_all (later_refused h d ds) p (later_refused k e es) = grind (arith, one d _ e, one_all ds)
+  one_all (later_refused h d ds) p (member_refused k e) = cc (one d _ e)
+  one_all (member_refused h d) p (member_read k e es) = cc (one d _ e)
+  one_all (member_refused h d) p (later_refused k e es) = cc (one d _ e)
+  one_all (member_refused h d) p (member_refused k e) = cc (one d _ e)
 
 -- there is an outcome, which leaves at most k tokens
 data Comes (A : Type 0) (reads : Outcome A → Type 0) (k : ℕ) : Type 0 where
@@ -185,7 +177,7 @@ has_one_reading l = record {
     | comes_to xs m fits d ↦ inl (xs, rw (nothing_left d) at d)
     | is_refused r d ↦ inr (r, d)
   ];
-  one_reading = λ xs ys d e. (let same = one_all d e in cc same);
-  one_refusal = λ r q d e. (let same = one_all d e in cc same);
-  never_both = λ xs r d e. (let same = one_all d e in cc same);
+  one_reading = λ xs ys d e. (let same = one_all d _ e in cc same);
+  one_refusal = λ r q d e. (let same = one_all d _ e in cc same);
+  never_both = λ xs r d e. (let same = one_all d _ e in cc same);
 }
