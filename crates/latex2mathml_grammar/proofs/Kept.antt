@@ -1,22 +1,71 @@
 -- Reading tokens whose sizes hold no dollar sign gives a tree in which no function has an argument and whose print holds
 -- no dollar sign, or a refusal that is not for dollar signs. Only `keeps` names tokens: it has a line for each rule that
 -- `search` does not find to be kept.
-use Rattle.std.proofs.Common.{arith, ◌≢◌, ℕ, List, [], ◌∷◌, Option, Some, None, refl, subst}
-use Rattle.std.proofs.lemmas.List.Folds.{list_all-append}
-use Rattle.std.specs.Str.{chars, encode_utf8_all}
-use Rattle.latex2mathml_trees.specs.{Arguments.HasNoArgument, Arguments.HaveNoArgument, Style.styled, Style.all_styled}
-use Rattle.latex2mathml_trees.specs.Productions.{environment_tree, fence_of, matrix_of, matrix_members, group_tree}
-use Rattle.latex2mathml_trees.specs.Tree.{Tree, Trees, row, no_trees, more_trees, trees_of}
-use Rattle.latex2mathml_grammar.specs.{Dollars.IsDollarFree, Dollars.free_both, Rendering.IsFormulaRefusal, Rendering.IsRendering}
-use Rattle.latex2mathml_grammar.specs.Grammar.{environment, with_fence, Sort, Rule, gives, refuses, reads_part, reads_members, reads_sign, takes_token, sees_token, takes_letters, rule, Outcome, Read, Refused, first_or_end, AreLetters, Reads, core_at_end, core_begun, single_read, node_read, ReadsRule, rule_gives, rule_refuses, part_read, part_refused, members_read, members_refused, sign_stands, sign_missing, token_taken, token_at_end, token_seen, letters_taken, ReadsAll, formula_ends, group_ends, never_closed, member_read, later_refused, member_refused, Refuses, ReadsFormula}
-use Rattle.latex2mathml_grammar.specs.{RenderingLaws.IsNeverForDollars, RenderingLaws.ReadsNoArgument, RenderingLaws.RendersDollarFree, Spelling.HasTokens}
-use Rattle.latex2mathml_tokens.specs.{Refusal.InvalidNumberOfDollarSigns, declared.attribute.Variant.Variant}
+use Rattle.std.proofs.Common.{arith, ◌≢◌, ℕ, List, [], ◌∷◌, Option, Some, None, refl, subst, ◌≡◌, ℤ, ◌+◌, ◌<◌, true, ◌++◌}
+use Rattle.std.proofs.lemmas.{Bool.Decides.nat_tests, List.Folds.list_all-append}
+use Rattle.std.specs.{Fmt.decimal, Str.chars, Str.encode_utf8_all}
+use Rattle.latex2mathml_tokens.specs.{Attributes.display_text, Attributes.accent_text, Escape.content, Escape.content_byte, Escape.value, Refusal.InvalidNumberOfDollarSigns, declared.attribute.Accent.Accent, declared.attribute.Variant.Variant}
 use Rattle.latex2mathml_tokens.specs.Tok.{Tok, EOF, Begin, LBrace, Left, Right, Middle, Sqrt, Style, Big, Binom}
 use Rattle.latex2mathml_tokens.specs.declared.attribute.ColumnAlign.TheVariants as align
+use Rattle.latex2mathml_trees.specs.{Arguments.HasNoArgument, Arguments.HaveNoArgument, Style.styled, Style.all_styled, Width.width_text}
+use Rattle.latex2mathml_trees.specs.Print.{print, prints, members_print, style_open, letter_print, operator_print, slashed_print, member_print}
+use Rattle.latex2mathml_trees.specs.Productions.{environment_tree, fence_of, matrix_of, matrix_members, group_tree}
+use Rattle.latex2mathml_trees.specs.Tree.{Tree, Trees, row, no_trees, more_trees, trees_of}
+use Rattle.latex2mathml_trees.proofs.ValueTexts.{decimal_passes, width_passes}
+use Rattle.latex2mathml_grammar.specs.{Dollars.IsDollarFree, Dollars.free_both, Dollars.is_other, Rendering.IsFormulaRefusal, Rendering.IsRendering, RenderingLaws.IsNeverForDollars, RenderingLaws.ReadsNoArgument, RenderingLaws.RendersDollarFree, Spelling.HasTokens}
+use Rattle.latex2mathml_grammar.specs.Grammar.{environment, with_fence, Sort, Rule, gives, refuses, reads_part, reads_members, reads_sign, takes_token, sees_token, takes_letters, rule, Outcome, Read, Refused, first_or_end, AreLetters, Reads, core_at_end, core_begun, single_read, node_read, ReadsRule, rule_gives, rule_refuses, part_read, part_refused, members_read, members_refused, sign_stands, sign_missing, token_taken, token_at_end, token_seen, letters_taken, ReadsAll, formula_ends, group_ends, never_closed, member_read, later_refused, member_refused, Refuses, ReadsFormula}
 use Rattle.latex2mathml_grammar.proofs.PlainTokens.{IsFree, AreFree, free_tokens}
-use Rattle.latex2mathml_grammar.proofs.DollarTexts.{free_content, free_decimal, free_letter, free_members, free_operator, free_parts, free_pieces, free_value}
-use Rattle.latex2mathml_tokens.specs.Attributes.{display_text}
-use Rattle.latex2mathml_trees.specs.Print.{print, prints, members_print, style_open}
+
+-- Texts that hold no dollar sign: escaped texts, numbers, and the prints of trees.
+
+-- Contents escape the dollar sign.
+free_content : (bs : List ℕ) → IsDollarFree (content bs)
+free_content [] = refl
+free_content (b ∷ bs) = free_both (content_byte b) _ (grind arith) (free_content bs)
+
+-- Values keep it.
+free_value : (bs : List ℕ) → IsDollarFree bs → IsDollarFree (value bs)
+free_value [] h = refl
+free_value (b ∷ bs) h = grind (arith, list_all-append, free_value bs)
+
+-- Numbers and widths hold no dollar sign.
+other_digit : (d : ℕ) → d < 10 → is_other (48 + d) ≡ true
+other_digit d h = grind (arith, nat_tests)
+
+free_decimal : (n : ℕ) → IsDollarFree (decimal n)
+free_decimal = decimal_passes is_other other_digit
+
+free_width : (n : ℤ) → IsDollarFree (width_text n)
+free_width = width_passes is_other other_digit refl refl
+
+-- Prints. A literal at the front of a text computes away, so what is proved names only what is between literals.
+free_accent : (accent : Accent) → IsDollarFree (accent_text accent)
+free_accent accent = grind arith
+
+free_letter : (c : ℕ) (variant : Variant) → IsDollarFree (letter_print c variant)
+free_letter c variant = grind (arith, list_all-append, free_content)
+
+free_operator : (c : ℕ) → IsDollarFree (operator_print c)
+free_operator c = grind (arith, list_all-append, free_content)
+
+free_slashed : (x : Tree) (own : List ℕ) → IsDollarFree own → IsDollarFree (slashed_print x own)
+free_slashed x own h = grind (arith, list_all-append, free_content)
+
+-- what is between literals in the prints of most trees
+ruleset free_pieces = (free_both, free_content, free_width, free_accent, free_letter, free_operator, free_slashed)
+
+-- the two parts of a text without a dollar sign
+free_parts : (a b : List ℕ) → IsDollarFree (a ++ b) → IsDollarFree a × IsDollarFree b
+free_parts a b h = grind (arith, list_all-append)
+
+-- the members of a matrix, which are elsewhere printed next to each other
+free_members : (xs : Trees) → IsDollarFree (prints xs) → IsDollarFree (members_print xs)
+free_members no_trees h = refl
+free_members (more_trees x rest) h =
+    let each = free_parts (print x) (prints rest) h in
+    free_both (member_print x (print x)) _ (grind (arith, each.0)) (free_members rest each.1)
+
+-- Rules that keep it so
 
 abbrev IsKept : Tree → Type 0
 IsKept x = HasNoArgument x × IsDollarFree (print x)

@@ -1,5 +1,4 @@
 pub mod Counting
-pub mod DollarTexts
 pub mod FirstSlices
 pub mod Kept
 pub mod MathElements

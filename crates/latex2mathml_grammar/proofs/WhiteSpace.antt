@@ -137,22 +137,18 @@ has_places text = λ earlier later last next h.
       space,
       behind,
       whole ∙ ap (λ x. front ++ x) gap,
-      λ left right e. (
-        record {
-          front = front;
-          left = left;
-          earlier = earlier;
-          last = last;
-          right = right;
-          next = next;
-          rest = rest;
-          before_is = refl;
-          after_is = refl;
-          slices = subst (λ x. AreSlices false front x (earlier ++ last ∷ [])) (gap ∙ ap (λ x. x ++ behind) e ∙ append_assoc left right behind) slices;
-          space = subst (AllPass is_space) e white;
-          spells = subst (λ x. SpellsAt (takes_digit (Some last.token) && is_empty x) next.text (head rest) next.token) e spells;
-        },
-        refl,
-        refl,
-      ),
+      λ left right e. (let place : IsBetweenTokens (front ++ left) (right ++ behind) = record {
+        front = front;
+        left = left;
+        earlier = earlier;
+        last = last;
+        right = right;
+        next = next;
+        rest = rest;
+        before_is = refl;
+        after_is = refl;
+        slices = subst (λ x. AreSlices false front x (earlier ++ last ∷ [])) (gap ∙ ap (λ x. x ++ behind) e ∙ append_assoc left right behind) slices;
+        space = subst (AllPass is_space) e white;
+        spells = subst (λ x. SpellsAt (takes_digit (Some last.token) && is_empty x) next.text (head rest) next.token) e spells;
+      } in (place, refl, refl)),
     )
