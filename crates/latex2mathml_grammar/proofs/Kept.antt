@@ -89,9 +89,7 @@ keeps_group xs none free = grind (arith, list_all-append)
 
 mutual
   keeps_style : (v : Variant) (x : Tree) → HasNoArgument x → IsDollarFree (print x) → IsKept (styled v x)
-  keeps_style v (row members) none free =
-      let each = keeps_styles v members none (free_parts (prints members) _ free).0 in
-      (each.0, free_both (prints (all_styled v members)) _ each.1 refl)
+  keeps_style v (row members) none free = grind (arith, list_all-append, keeps_styles v members none)
   keeps_style v x none free = grind (arith, free_letter)
 
   keeps_styles : (v : Variant) (xs : Trees) → HaveNoArgument xs → IsDollarFree (prints xs) → AreKept (all_styled v xs)
