@@ -1,10 +1,10 @@
 -- Markup on top of other markup: what runs alone runs wherever it is placed, so balanced markup stays balanced.
 use Rattle.std.proofs.Common.{◌≡◌, ℕ, Bool, true, false, not, ◌&&◌, ◌||◌, cond, IsTrue, List, [], ◌∷◌, ◌++◌, Option, Some, None, option_and_then, refl, ap, ◌∙◌, arith, codes}
-use Rattle.std.specs.{Str.bytes_eq, List.list_all, Option.option_or}
+use Rattle.std.specs.{List.list_all, Option.option_or}
 use Rattle.std.proofs.{lemmas.Grind.common_steps, lemmas.Option.option_and_then_some}
-use Rattle.latex2mathml_trees.specs.Markup.{Name, Attribute, Event, open_tag, close_tag, OpenElements, lowest, above, at_start, add, mark, name_of, Schema, any_element, step, run, Runs, IsBalanced, spell_event, is_attribute, is_name}
-use Rattle.latex2mathml_trees.specs.MathSchema.{IsMathElement, child_table, holding, holding_table, holds, is_parent}
-use Rattle.latex2mathml_trees.specs.Pages.{IsPage, JoinsMarkup, is_in_table, page_schema, takes_math}
+use Rattle.latex2mathml_trees.specs.Markup.{Name, Attribute, Event, open_tag, close_tag, OpenElements, lowest, above, at_start, add, mark, name_of, Schema, any_element, step, run, Runs, spell_event, is_attribute, is_name}
+use Rattle.latex2mathml_trees.specs.MathSchema.{IsMathElement, child_table, holding, holding_table, holds, is_outermost, may_be_in}
+use Rattle.latex2mathml_trees.specs.Pages.{JoinsMarkup, is_in_table, page_schema, takes_math}
 use Rattle.latex2mathml_trees.proofs.Runs.{ending_as, joined, more, obeying, single, staying}
 
 -- levels on top of others: the lowest level becomes part of the highest of the others
@@ -54,25 +54,21 @@ within_element schema name attributes markup fits free valid valids (children, (
     let closes = obeying schema name (children ++ []) met below valid (free (children ++ []) met) in
     (name ∷ [], (false, joined opens (joined on closes)))
 
--- The child table in a page. What the table says of an element that it names, a page says too: of a row, of a cell, of
--- `math`, and of what it may hold.
-in_page : (named fit row cell math r c m r' c' m' : Bool) → (IsTrue r → IsTrue r') → (IsTrue c → IsTrue c') → (IsTrue m → IsTrue m') → IsTrue (cond row r (cond cell c (cond math m true)) && fit) → IsTrue (cond named (cond row r' (cond cell c' (cond math m' true)) && fit) true)
-in_page named fit row cell math r c m r' c' m' i j k h = grind (arith, common_steps)
+-- The child table in a page. What the table says of an element that it names, a page says too.
+in_page : (named may may' fit : Bool) → (IsTrue may → IsTrue may') → IsTrue (may && fit) → IsTrue (cond named (may' && fit) true)
+in_page named may may' fit h k = grind (arith, common_steps)
+
+place_fits : (base : Option Name) → IsTrue (takes_math base) → (parent : Option Name) (name : Name) → IsTrue (may_be_in is_outermost parent name) → IsTrue (may_be_in takes_math (option_or parent base) name)
+place_fits base takes parent name h = grind (arith, common_steps)
 
 table_fits : (base : Option Name) → IsTrue (takes_math base) → Fits child_table page_schema base
-table_fits base takes None name children met h =
-    in_page (is_in_table name) (holds (holding holding_table name) children met) (bytes_eq (codes "mtr") name) (bytes_eq (codes "mtd") name) (bytes_eq (codes "math") name) false false true (is_parent (codes "mtable") base) (is_parent (codes "mtr") base) (takes_math base) (λ no. cc) (λ no. cc) (λ yes. takes) h
-table_fits base takes (Some parent) name children met h =
-    in_page (is_in_table name) (holds (holding holding_table name) children met) (bytes_eq (codes "mtr") name) (bytes_eq (codes "mtd") name) (bytes_eq (codes "math") name) (bytes_eq (codes "mtable") parent) (bytes_eq (codes "mtr") parent) false _ _ (takes_math (Some parent)) (λ row. row) (λ cell. cell) (λ no. cc) h
+table_fits base takes parent name children met h =
+    in_page (is_in_table name) _ _ (holds (holding holding_table name) children met) (place_fits base takes parent name) h
 
 -- a `math` element on top of any levels
 math_onto : (other : Schema) (base : OpenElements) (markup : List ℕ) → Fits child_table other (name_of base) → IsMathElement markup → Runs other markup base (add (codes "math") base)
 unfolding IsMathElement
 math_onto other base markup fits m = ending_as (grind (arith, common_steps)) (adds_to child_table other base fits markup (codes "math" ∷ []) false m)
-
-page_balanced : (markup : List ℕ) → IsPage markup → IsBalanced markup
-page_balanced markup (children, (met, m)) =
-    (children ++ [], (met, adds_to page_schema any_element at_start (λ parent child names met h. refl) markup children met m))
 
 -- a page fits itself where `math` may be
 page_fits : (base : Option Name) → IsTrue (takes_math base) → Fits page_schema page_schema base
@@ -91,7 +87,7 @@ joins_markup = record {
     nothing = ([], (false, staying));
     joined = λ markup other m n. one_after_other any_element markup other (λ parent child names met h. refl) m n;
     wrapped = λ name attributes markup valid valids m. within_element any_element name attributes markup (λ parent child names met h. refl) (λ children met. refl) valid valids m;
-    page = page_balanced;
+    page = λ markup m. (m.0 ++ [], (m.1.0, adds_to page_schema any_element at_start (λ parent child names met h. refl) markup m.0 m.1.0 m.1.1));
     inserted = λ markup levels m. math_onto any_element levels markup (λ parent child names met h. refl) m;
   };
   pages = record {
