@@ -1,9 +1,9 @@
 //! How the rule of each lexeme begins.
 
-ghost use Rattle.std.specs.Prelude.{◌≡◌, ◌≢◌, IfOk, IfSome, List, MatchOption, None, Some};
+ghost use Rattle.std.specs.Prelude.{◌≡◌, ◌≢◌, IfOk, List, MatchOption, None, Some};
 ghost use Rattle.latex2mathml_grammar.specs.Openers.{opens};
 ghost use Rattle.latex2mathml_grammar.specs.Grammar.{a_root, error_rule, rule, sized, takes_token};
-ghost use Rattle.latex2mathml_parser.specs.Beginnings.{IsBeginningOf, IsLeafOf, IsSpecial};
+ghost use Rattle.latex2mathml_parser.specs.Beginnings.{IsBeginningOf, IsSpecial};
 ghost use Rattle.latex2mathml_parser.specs.Claims.{Proceeds, limited};
 ghost use Rattle.latex2mathml_parser.specs.Steps.{Counted, GoesOnBy, HasTrees, IsStep, IsStretched};
 ghost use Rattle.latex2mathml_trees.specs.{Productions.fence_of};
@@ -22,29 +22,16 @@ use latex2mathml_tokens::token::Token;
 use std::alloc::AllocError;
 
 impl<'a> Parser<'a> {
-    /// Begins the rule of a lexeme that was taken where a core is due. Most are leaves, which need no look at the other
-    /// rules.
+    /// Begins the rule of a lexeme that was taken where a core is due.
     #[inline(always)]
     pub(crate) fn begin_any(&mut self, lexeme: &Lexeme<'a>) -> Result<State, AllocError>
         requires { HasTrees 0 self.old }
         ensures holds { Proceeds (rule (lexeme_tok lexeme.now)) 0 self.old self.new result }
         ensures step { IsStep (opens (lexeme_tok lexeme.now)) 13 self.old self.new result }
     {
-        match symbol(lexeme) {
-            Some(leaf) => self.put_leaf(leaf),
-            None => self.begin(lexeme),
-        }
-    }
-
-    /// Begins the rule of a lexeme that was taken where a core is due.
-    fn begin(&mut self, lexeme: &Lexeme<'a>) -> Result<State, AllocError>
-        requires { HasTrees 0 self.old }
-        ensures holds { Proceeds (rule (lexeme_tok lexeme.now)) 0 self.old self.new result }
-        ensures step { IsStep (opens (lexeme_tok lexeme.now)) 13 self.old self.new result }
-    {
         match *lexeme {
             Lexeme::Middle => self.begin_stretched(),
-            _ => self.begin_other(lexeme),
+            _ => self.begin_core(lexeme),
         }
     }
 
@@ -63,7 +50,7 @@ impl<'a> Parser<'a> {
                 return self.error(&begun);
             }
         }
-        self.begin_other(&begun)
+        self.begin_core(&begun)
     }
 
     /// Opens the frame of a stretched operator, and takes the lexeme that it begins with.
@@ -79,35 +66,23 @@ impl<'a> Parser<'a> {
         Ok(got)
     }
 
-    /// Begins the rule of a lexeme that is not `\middle`. Most of these are groups.
+    /// Begins the rule of a lexeme that is not `\middle`. Most are leaves and groups.
     #[inline(always)]
-    fn begin_other(&mut self, lexeme: &Lexeme<'a>) -> Result<State, AllocError>
-        requires other { lexeme.now ≢ Lexeme.Middle }
+    fn begin_core(&mut self, lexeme: &Lexeme<'a>) -> Result<State, AllocError>
+        requires middle { lexeme.now ≢ Lexeme.Middle }
         requires trees { HasTrees 0 self.old }
         ensures holds { Proceeds (rule (lexeme_tok lexeme.now)) 0 self.old self.new result }
         ensures step { IsStep (opens (lexeme_tok lexeme.now)) 13 self.old self.new result }
     {
-        match *lexeme {
-            Lexeme::LBrace => self.open(Frame::Members(Group::Brace, 0)),
-            _ => self.begin_rule(*lexeme),
-        }
-    }
-
-    /// Does the same, whatever the rule is.
-    fn begin_rule(&mut self, lexeme: Lexeme<'a>) -> Result<State, AllocError>
-        requires middle { lexeme ≢ Lexeme.Middle }
-        requires trees { HasTrees 0 self.old }
-        ensures holds { Proceeds (rule (lexeme_tok lexeme.entry)) 0 self.old self.new result }
-        ensures step { IsStep (opens (lexeme_tok lexeme.entry)) 13 self.old self.new result }
-    {
-        match Beginning::of(&lexeme) {
-            Some(Beginning::Leaf(kind)) => self.put(kind),
+        match Beginning::of(lexeme) {
+            Some(Beginning::Leaf(kind)) => self.put_leaf(kind),
             Some(Beginning::Frame(frame)) => self.open(frame),
-            None => self.begin_special(lexeme),
+            None => self.begin_special(*lexeme),
         }
     }
 
     /// Begins a rule that takes more than its token before it waits for a part, or marks a lexeme that begins no rule.
+    #[inline(never)]
     fn begin_special(&mut self, lexeme: Lexeme<'a>) -> Result<State, AllocError>
         requires special { IsSpecial lexeme }
         requires middle { lexeme ≢ Lexeme.Middle }
@@ -289,7 +264,7 @@ pub(crate) enum Beginning<'a> {
 impl<'a> Beginning<'a> {
     /// Returns how the rule of a lexeme begins, unless it takes more than its token first.
     #[inline(always)]
-    fn of(lexeme: &Lexeme<'a>) -> Option<Beginning<'a>>
+    pub(crate) fn of(lexeme: &Lexeme<'a>) -> Option<Beginning<'a>>
         ensures { MatchOption result (IsSpecial lexeme.now) (IsBeginningOf lexeme.now) }
     {
         match *lexeme {
@@ -317,21 +292,5 @@ impl<'a> Beginning<'a> {
             Lexeme::Underbrace(c) => Some(Beginning::Frame(Frame::Single(Pair::Underbrace(c)))),
             _ => None,
         }
-    }
-}
-
-/// Returns what a lexeme of the most frequent kinds makes, which are cores by themselves.
-#[inline(always)]
-pub(crate) fn symbol<'a>(lexeme: &Lexeme<'a>) -> Option<Kind<'a>>
-    ensures { IfSome result (IsLeafOf lexeme.now) }
-{
-    match *lexeme {
-        Lexeme::Number(digits) => Some(Kind::Number(digits)),
-        Lexeme::Letter(c, variant) => Some(Kind::Letter(c, variant)),
-        Lexeme::Operator(c) => Some(Kind::Operator(c)),
-        Lexeme::Paren(paren) => Some(Kind::Paren(paren)),
-        Lexeme::Space(width) => Some(Kind::Space(width)),
-        Lexeme::Function(name) => Some(Kind::Function(name)),
-        _ => None,
     }
 }
