@@ -64,6 +64,7 @@ pub struct Steps {
 
 /// Returns the `math` element of a formula, as [`latex_to_mathml`] does, and how many steps the reading took. The steps are those
 /// up to an `Err`, if there is one.
+#[tactic(auto, using(crate::proofs::Accounts::refused, crate::proofs::Accounts::refusal_count))]
 pub fn latex_to_mathml_counted(
     alloc: Global,
     latex: &str,
