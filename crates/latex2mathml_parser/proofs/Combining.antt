@@ -1,10 +1,10 @@
 -- Trees that are made of the last trees, and where they lead.
 use Rattle.std.proofs.Common.{◌≡◌, ℕ, ◌+◌, ◌-◌, ◌≤◌, List, [], ◌∷◌, ◌++◌, length, drop, drop-drop, take, reverse, refl, sym, ap, ◌∙◌, arith, add-one, append_assoc, append-nil}
 use Rattle.std.proofs.{lemmas.List.reverse-append}
-use Rattle.latex2mathml_parser.specs.Frames.{after_members, end_of, innermost, inside, one_of_pair, standing_of, tree_count, two_of_pair, within}
+use Rattle.latex2mathml_parser.specs.Frames.{after_members, end_of, innermost, inside, one_of_pair, script, standing_of, tree_count, two_of_pair, within}
 use Rattle.latex2mathml_grammar.specs.Grammar.{core, gives, Read, group_ends}
 use Rattle.latex2mathml_parser.specs.Levels.{Accepts, end_token, Leads, Made, remaining, RuleLeads}
-use Rattle.latex2mathml_parser.specs.{Steps.GoesOnBy, Steps.GoesOnIn, Steps.last_tree_read, declared.parse.Parser.Parser}
+use Rattle.latex2mathml_parser.specs.{Steps.GoesOnBy, Steps.GoesOnIn, Steps.last_tree, Steps.last_tree_read, Steps.level, declared.lexer.mark.Sign.Sign, declared.parse.Parser.Parser}
 use Rattle.latex2mathml_trees.specs.Tree.{Tree}
 use Rattle.latex2mathml_parts.specs.{Forests.trees_in, Parts.arity, Parts.put, Parts.top, declared.kind.Kind.Kind}
 use Rattle.latex2mathml_parts.specs.declared.kind.Kind.TheVariants as kind
@@ -14,7 +14,7 @@ use Rattle.latex2mathml_parser.specs.{declared.parse.frames.Frame.Frame, declare
 use Rattle.latex2mathml_parser.specs.declared.parse.frames.Frame.TheVariants as frame
 use Rattle.latex2mathml_parser.specs.declared.parse.frames.Group.TheVariants as group
 use Rattle.latex2mathml_parser.specs.{declared.parse.frames.GroupEnd.GroupEnd, declared.parse.frames.Pair.Pair}
-use Rattle.latex2mathml_parser.proofs.{Levels.group_grown, Stacks.innermost_push, Stacks.inside_push}
+use Rattle.latex2mathml_parser.proofs.{Levels.group_grown, Levels.node_due, Stacks.innermost_push, Stacks.inside_push}
 
 -- Operands. A part needs no more of the trees before it than these operands.
 
@@ -43,8 +43,14 @@ first_read input p k fits m =
     let two : arity k ≡ 2 = omega arith in
     rw two (simp (← first_operand) at m)
 
--- an operand is read
-pub ruleset operand_read = (first_read, last_read)
+-- the script of a base, which is the tree before it, is read
+pub script_read : (input : List Tok) (p : Parser) (sign : Sign) → Accepts (within input p.frames.stack.items (frame.Script sign) (drop 1 (trees_in p.parts))) (last_tree_read p) → Accepts (level 2 input p) (Read (script sign (top (drop 1 (trees_in p.parts))) (last_tree p)) p.lexer.list)
+script_read input p sign m =
+    let ts = trees_in p.parts in
+    rw (drop_from_one 2 ts (omega arith)) (node_due (inside input p.frames.stack.items (drop 1 (drop 1 ts))) (script sign (top (drop 1 ts)) (top ts)) p.lexer.list m)
+
+-- what a frame waited for is read
+pub ruleset part_delivered = (first_read, last_read, script_read)
 
 -- One single, or two.
 

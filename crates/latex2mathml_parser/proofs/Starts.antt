@@ -1,6 +1,6 @@
 -- What the lexer takes from the slices that are left of a text, and what it leaves where it only looks.
 use Rattle.std.proofs.Common.{◌≡◌, ◌≢◌, ℕ, ◌+◌, ◌-◌, ◌*◌, ◌^◌, ◌<◌, ◌≤◌, Bool, true, false, not, ◌||◌, List, [], ◌∷◌, ◌++◌, drop, drop-drop, eqb, length, refl, sym, ap, subst, ◌∙◌, Some, if◌then◌else◌, arith, rules}
-use Rattle.std.proofs.lemmas.Bool.{and_right, cond_both, not-true, or_parts}
+use Rattle.std.proofs.lemmas.Bool.{and_right, not-true, or_parts}
 use Rattle.std.proofs.{lemmas.Bool.Decides.nat_tests, lemmas.List.Elements.All-cons, lemmas.List.Elements.All-nil, lemmas.List.Sums.sum_by-cons}
 use Rattle.std.proofs.lemmas.Str.{encodes-chars, length-le-encodes}
 use Rattle.std.specs.Char.{is_ascii_alphabetic, is_ascii_digit}
@@ -91,11 +91,11 @@ taken_uncounted takes alone text start c after t rest starts e dark begins no_di
 letter_token : (c : ℕ) → is_ascii_alphabetic c ≡ true → Letter c Italic ≡ character_token c
 letter_token c h = grind (arith, nat_tests)
 
-dark_letter : (c : ℕ) → is_ascii_alphabetic c ≡ true → (begins_longer c ≡ false) × (is_space c ≡ false)
-dark_letter c h = (grind (arith, nat_tests), grind (arith, nat_tests))
+lone_letter : (c : ℕ) → is_ascii_alphabetic c ≡ true → not (begins_longer c || is_space c) ≡ true
+lone_letter c h = grind (arith, nat_tests)
 
 dark_digit : (c : ℕ) → is_ascii_digit c ≡ true → (is_space c ≡ false) × (c ≢ byte "\\")
-dark_digit c h = (grind (arith, nat_tests), λ e. absurd (let digit : is_ascii_digit (byte "\\") ≡ true = subst (λ x. is_ascii_digit x ≡ true) e h in cc))
+dark_digit c h = (grind (arith, nat_tests), λ e. grind (arith, nat_tests))
 
 -- a slice that is one character, a token by itself, is taken
 pub taken_character : (takes : Bool) (text : List ℕ) (c : ℕ) (after : List ℕ) (t : Tok) → text ≡ c ∷ after → not (begins_longer c || is_space c) ≡ true → t ≡ character_token c → takes_digit (Some t) ≡ false → IsTaken takes text t 0 false after
@@ -106,21 +106,13 @@ taken_character takes text c after t e alone f no_digit =
 -- a letter is taken
 pub taken_letter : (takes : Bool) (text : List ℕ) (c : ℕ) (after : List ℕ) → text ≡ c ∷ after → is_ascii_alphabetic c ≡ true → IsTaken takes text (Letter c Italic) 0 false after
 taken_letter takes text c after e letter =
-    taken_character takes text c after (Letter c Italic) e (rw ((dark_letter c letter).0, (dark_letter c letter).1) refl) (letter_token c letter) refl
+    taken_character takes text c after (Letter c Italic) e (lone_letter c letter) (letter_token c letter) refl
 
 -- a digit that is a number by itself is taken
 pub taken_digit : (takes : Bool) (text : List ℕ) (c : ℕ) (after bs : List ℕ) → text ≡ c ∷ after → is_ascii_digit c ≡ true → is_lone takes after ≡ true → ((w : List ℕ) → text ≡ w ++ after → bs ≡ encode_utf8_all w) → IsTaken takes text (Number bs) 0 false after
 taken_digit takes text c after bs e d lone bytes =
     let dark : (is_space c ≡ false) × (c ≢ byte "\\") = dark_digit c d in
     taken_uncounted takes takes text text c after (Number bs) after (starts_here takes text c after e dark.0) e dark.1 (lone_digit takes text c after bs e d lone bytes) refl
-
--- a command is taken, for which 1 to 9 names were compared
-pub command_taken : (takes alone takes' : Bool) (text start : List ℕ) (c : ℕ) (after : List ℕ) (t : Tok) (rest : List ℕ) (comparisons comparisons' : ℕ) → IsStart takes text start alone → start ≡ c ∷ after → c ≡ byte "\\" → ((alone : Bool) → BeginsWith alone (byte "\\" ∷ after) t rest) → takes' ≡ takes_digit (Some t) → comparisons + 1 ≤ comparisons' → comparisons' ≤ comparisons + 9 → (n : ℕ) × IsTaken takes text t n takes' rest × (comparisons' ≡ comparisons + n)
-command_taken takes alone takes' text start c after t rest comparisons comparisons' starts e backslash begins f least most =
-    let whole : start ≡ byte "\\" ∷ after = e ∙ ap (λ x. x ∷ after) backslash in
-    let one : backslash_count start ≡ 1 = ap backslash_count whole in
-    let n = comparisons' - comparisons in
-    (n, taken takes alone takes' text start t n rest starts (subst (λ s. BeginsWith alone s t rest) (sym whole) (begins alone)) f (omega arith) (omega arith), omega arith)
 
 -- the token of the slice is taken
 pub token_taken : (takes : Bool) (text : List ℕ) (t : Tok) (n : ℕ) (takes' : Bool) (rest : List ℕ) (tokens tokens' comparisons comparisons' : ℕ) → IsTaken takes text t n takes' rest → t ≢ EOF → tokens' ≡ tokens + 1 → comparisons' ≡ comparisons + n → Takes t (unread_in (slices_of takes text) tokens comparisons) (unread_in (slices_of takes' rest) tokens' comparisons')
@@ -144,14 +136,15 @@ token_taken takes text t n takes' rest tokens tokens' comparisons comparisons' h
       };
     }
 
--- the counts stay below what their types hold
-
-pub fits_taken : (takes : Bool) (text : List ℕ) (t : Tok) (n : ℕ) (takes' : Bool) (rest : List ℕ) (tokens comparisons comparisons' : ℕ) → IsTaken takes text t n takes' rest → comparisons' ≡ comparisons + n → tokens + length text < 2 ^ 64 → comparisons + 9 * length text < 2 ^ 68 → (tokens + 1 + length rest < 2 ^ 64) × (comparisons' + 9 * length rest < 2 ^ 68)
-fits_taken takes text t n takes' rest tokens comparisons comparisons' h e k l =
+-- a command is taken, for which 1 to 9 names were compared, and the counts stay below what their types hold
+pub command_taken : (takes alone takes' : Bool) (text start : List ℕ) (c : ℕ) (after : List ℕ) (t : Tok) (rest : List ℕ) (tokens comparisons comparisons' : ℕ) → IsStart takes text start alone → start ≡ c ∷ after → c ≡ byte "\\" → ((alone : Bool) → BeginsWith alone (byte "\\" ∷ after) t rest) → takes' ≡ takes_digit (Some t) → t ≢ EOF → comparisons + 1 ≤ comparisons' → comparisons' ≤ comparisons + 9 → (tokens + length text < 2 ^ 64) × (comparisons + 9 * length text < 2 ^ 68) → ((tokens + 1 + length rest < 2 ^ 64) × (comparisons' + 9 * length rest < 2 ^ 68)) × Takes t (unread_in (slices_of takes text) tokens comparisons) (unread_in (slices_of takes' rest) (tokens + 1) comparisons')
+command_taken takes alone takes' text start c after t rest tokens comparisons comparisons' starts e backslash begins f no_end least most fits =
+    let whole : start ≡ byte "\\" ∷ after = e ∙ ap (λ x. x ∷ after) backslash in
+    let one : backslash_count start ≡ 1 = ap backslash_count whole in
+    let n = comparisons' - comparisons in
+    let h = taken takes alone takes' text start t n rest starts (subst (λ s. BeginsWith alone s t rest) (sym whole) (begins alone)) f (omega arith) (omega arith) in
     let shorter : length rest < length text = h.4 in
-    let most : n ≤ 9 * backslash_count h.0 = h.3 in
-    let one : backslash_count h.0 ≤ 1 = cond_both (begins_with_backslash h.0) 1 0 (λ k. k ≤ 1) (λ _. omega arith) (λ _. omega arith) in
-    (omega arith, omega arith)
+    ((omega arith, omega arith), token_taken takes text t n takes' rest tokens (tokens + 1) comparisons comparisons' h no_end refl (omega arith))
 
 -- a text whose length fits a machine's word
 pub fits : (text : List ℕ) → IsUtf8 text → length text < 2 ^ 64 → (0 + length (chars text) < 2 ^ 64) × (0 + 9 * length (chars text) < 2 ^ 68)

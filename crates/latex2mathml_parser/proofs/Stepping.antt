@@ -9,8 +9,8 @@ use Rattle.latex2mathml_parser.specs.{declared.parse.Parser.Parser, declared.par
 use Rattle.latex2mathml_parser.proofs.{Levels.unprimed, Levels.unscripted, Progress.GoesOn-trans, Progress.OpensFor-one}
 
 -- what is counted from step to step
-pub counted_on : (m n : ℕ) (p q r : Parser) → Counted m p q → Counted n q r → Counted (m + n) p r
-counted_on m n p q r h i = record {
+pub counted_on : (p q r : Parser) → Counted 0 p q → Counted 0 q r → Counted 0 p r
+counted_on p q r h i = record {
   counts = GoesOn-trans _ _ _ h.counts i.counts;
   frames = record { taken = omega arith; openers = omega arith };
 }

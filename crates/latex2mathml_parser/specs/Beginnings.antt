@@ -1,13 +1,12 @@
 -- How the rule of a lexeme begins.
 use Rattle.std.specs.Prelude.{◌≡◌, ◌≤◌, List}
-use Rattle.latex2mathml_grammar.specs.{Grammar.core, Grammar.gives, Grammar.rule, Openers.opens}
+use Rattle.latex2mathml_grammar.specs.{Grammar.Rule, Grammar.core, Grammar.error_rule, Grammar.gives, Grammar.reads_members, Grammar.reads_part, Grammar.rule, Openers.opens}
 use Rattle.latex2mathml_parser.specs.{Frames.sort_made, Frames.standing_of, Frames.tree_count, Frames.unfit, Levels.remaining, Steps.frame_weight}
 use Rattle.latex2mathml_parser.specs.declared.parse.begin.Beginning.{Beginning}
 use Rattle.latex2mathml_parser.specs.declared.parse.begin.Beginning.TheVariants as beginning
 use Rattle.latex2mathml_parser.specs.declared.parse.frames.Frame.{Frame}
 use Rattle.latex2mathml_parts.specs.{Parts.arity, Parts.put, Parts.top, declared.kind.Kind.Kind}
-use Rattle.latex2mathml_tokens.specs.{Lexemes.lexeme_tok, declared.lexeme.Lexeme.Lexeme}
-use Rattle.latex2mathml_tokens.specs.declared.lexeme.Lexeme.TheVariants as lexeme
+use Rattle.latex2mathml_tokens.specs.{Lexemes.lexeme_tok, Tok.Tok, declared.lexeme.Lexeme.Lexeme}
 use Rattle.latex2mathml_trees.specs.Tree.{Tree}
 
 -- the lexeme is a core by itself: a part of this kind, which has no operands
@@ -28,25 +27,12 @@ abbrev pub IsBeginningOf : Lexeme → Beginning → Type 0
 IsBeginningOf t (beginning.Leaf k) = IsLeafOf t k
 IsBeginningOf t (beginning.Frame f) = IsFrameOf t f
 
--- the rule of the lexeme takes more than its token before it waits for a part, or the lexeme begins no rule
+-- the rule of this token takes more than the token before it waits for a part, or the token begins no rule
+abbrev pub TakesMore : Tok → Rule → Type 0
+TakesMore t (gives x) = gives x ≡ error_rule t
+TakesMore t (reads_part s then) = ⊥
+TakesMore t (reads_members end then) = ⊥
+TakesMore t r = Unit {0}
+
 abbrev pub IsSpecial : Lexeme → Type 0
-IsSpecial lexeme.Sqrt = Unit {0}
-IsSpecial (lexeme.BigOp c) = Unit {0}
-IsSpecial (lexeme.Integral c) = Unit {0}
-IsSpecial (lexeme.Lim name) = Unit {0}
-IsSpecial (lexeme.Big size) = Unit {0}
-IsSpecial lexeme.Text = Unit {0}
-IsSpecial lexeme.OperatorName = Unit {0}
-IsSpecial lexeme.Slashed = Unit {0}
-IsSpecial lexeme.Left = Unit {0}
-IsSpecial lexeme.Middle = Unit {0}
-IsSpecial lexeme.Begin = Unit {0}
-IsSpecial (lexeme.Illegal c) = Unit {0}
-IsSpecial lexeme.EOF = Unit {0}
-IsSpecial lexeme.End = Unit {0}
-IsSpecial lexeme.Right = Unit {0}
-IsSpecial lexeme.RBrace = Unit {0}
-IsSpecial lexeme.Underscore = Unit {0}
-IsSpecial lexeme.Circumflex = Unit {0}
-IsSpecial (lexeme.Command name) = Unit {0}
-IsSpecial t = ⊥
+IsSpecial t = TakesMore (lexeme_tok t) (rule (lexeme_tok t))

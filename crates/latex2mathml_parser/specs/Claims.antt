@@ -5,7 +5,7 @@ use Rattle.std.specs.Prelude.{codes, drop, reverse, string_bytes, take}
 use Rattle.std.specs.declared.alloc.AllocError.{AllocError}
 use Rattle.std.specs.declared.alloc.Global.{Global}
 use Rattle.latex2mathml_grammar.specs.Grammar.{ReadsFormula, Read, Reads, Refused, Refuses, Rule, first, gives, node}
-use Rattle.latex2mathml_grammar.specs.Grammar.{single as a_single, stretched_or_refused}
+use Rattle.latex2mathml_grammar.specs.Grammar.{single as a_single}
 use Rattle.latex2mathml_grammar.specs.Rendering.{math_print}
 use Rattle.latex2mathml_parser.specs.Beginnings.{IsLeafOf}
 use Rattle.latex2mathml_parser.specs.Frames.{after_first, after_members, tree_count, with_limits, within}
@@ -21,7 +21,7 @@ use Rattle.latex2mathml_parser.specs.{declared.parse.frames.GroupEnd.GroupEnd, d
 use Rattle.latex2mathml_parts.specs.{Forests.trees_in, Parts.arity, Parts.put, Parts.top, declared.kind.Kind.Kind}
 use Rattle.latex2mathml_tokens.specs.{Attributes.display_text, Lexemes.lexeme_tok, Refusal.MissingParensethis, Refusal.refusal_of, Tok.Tok, Tok.tok}
 use Rattle.latex2mathml_tokens.specs.{declared.DisplayStyle.DisplayStyle, declared.lexeme.Lexeme.Lexeme, declared.token.Token.Token}
-use Rattle.latex2mathml_trees.specs.{Productions.stretched_operator, Print.print, Tree.Tree}
+use Rattle.latex2mathml_trees.specs.{Print.print, Tree.Tree}
 
 -- what the state claims before the call, the answer claims after it
 abbrev pub Keeps : State → Parser → Parser → Result State AllocError → Type 0
@@ -80,10 +80,6 @@ limited c below above p = with_limits c below above (trees_in p.parts)
 -- what follows the last tree, which is the first single of a pair
 abbrev pub after_single : Pair → Parser → Rule
 after_single pair p = after_first pair (drop 1 (trees_in p.parts)) (last_tree p)
-
--- what follows the last tree, which is to be stretched
-abbrev pub after_operator : Lexeme → Parser → Rule
-after_operator got p = stretched_or_refused (lexeme_tok got) (stretched_operator (last_tree p))
 
 -- the lexeme is a node by itself: a part of this kind, with no mark after it
 abbrev pub IsLoneLeaf : Lexeme → List Tok → Kind → Type 0

@@ -25,10 +25,6 @@ abbrev pub script : Sign → Tree → Tree → Tree
 script Sub x y = subscript x y
 script Sup x y = superscript x y
 
--- the trees, with the last as the script of the one before it
-abbrev pub with_script : Sign → List Tree → List Tree
-with_script sign ts = script sign (top (drop 1 ts)) (top ts) ∷ drop 2 ts
-
 -- the end of a group
 abbrev pub end_of : Group → GroupEnd
 end_of group.Brace = group_end.Brace

@@ -11,7 +11,7 @@ ghost use Rattle.latex2mathml_tokens.specs.{Lexemes.lexeme_tok, Refusal.IfRefuse
 ghost use Rattle.latex2mathml_trees.specs.Tree.{Tree};
 
 use crate::lexer::Lexer;
-use crate::parse::begin::symbol;
+use crate::parse::begin::Beginning;
 use crate::parse::{Parser, State};
 use latex2mathml_parts::kind::Kind;
 use latex2mathml_parts::write::write_leaf;
@@ -110,7 +110,7 @@ fn append_node<'a>(
         return Ok(true);
     }
     parser.parts.make_room(&mut parser.works)?;
-    let state = parser.begin_any(lexeme)?;
+    let state = parser.begin(lexeme)?;
     append_rest(parser, state, markup)
 }
 
@@ -121,7 +121,9 @@ fn lone_leaf<'a>(lexer: &mut Lexer<'a>, lexeme: &Lexeme<'a>) -> Option<Kind<'a>>
     ensures list { lexer.new.list ≡ lexer.old.list }
     ensures counts { GoesOn lexer.old lexer.new }
 {
-    let leaf = symbol(lexeme)?;
+    let Some(Beginning::Leaf(leaf)) = Beginning::of(lexeme) else {
+        return None;
+    };
     match lexer.mark() {
         None => Some(leaf),
         Some(_) => None,

@@ -56,7 +56,8 @@ pub fn latex_to_mathml(
 pub struct Steps {
     /// How many tokens were taken from the text: at most as many as it has bytes.
     pub tokens: u128,
-    /// How many names of the command table were compared, for all commands that were taken.
+    /// How many names of the command table were compared, for all commands that were taken. A look at the command after `\middle`,
+    /// before it is taken, is not counted.
     pub comparisons: u128,
     /// The greatest number of frames that the parser's stack held at once.
     pub frames: u128,
@@ -64,6 +65,7 @@ pub struct Steps {
 
 /// Returns the `math` element of a formula, as [`latex_to_mathml`] does, and how many steps the reading took. The steps are those
 /// up to an `Err`, if there is one.
+#[tactic(auto, using(crate::proofs::Accounts::refused, crate::proofs::Accounts::refusal_count))]
 pub fn latex_to_mathml_counted(
     alloc: Global,
     latex: &str,

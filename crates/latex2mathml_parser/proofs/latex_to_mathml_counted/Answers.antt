@@ -1,6 +1,6 @@
 use Rattle.std.proofs.lemmas.Result.{IfOk-weaker}
 use Rattle.std.specs.Prelude.{string_bytes}
-use Rattle.latex2mathml_parser.proofs.Accounts.{comparison_count, frame_count, refusal_count, refused, refused_so, rendering, token_count, tokens_within_text}
+use Rattle.latex2mathml_parser.proofs.Accounts.{comparison_count, frame_count, refused, refused_so, rendering, token_count, tokens_within_text}
 use Rattle.latex2mathml_grammar.proofs.{Kept.never_dollars, MathElements.rendering_is_math}
 use Rattle.latex2mathml_parser.proofs.latex_to_mathml_counted.Goals as goal
 
@@ -12,17 +12,11 @@ returns-clause-element c =
     let rendered = IfOk-weaker c.math-result.result _ _ (λ markup. rendering c.args.latex.now c.args.display c.new-parser.ensures.list) c.math-result.ensures.rendering in
     IfOk-weaker c.math-result.result _ _ (λ markup. rendering_is_math c.args.latex.now c.args.display (string_bytes markup)) rendered
 
-pub returns-clause-refusal : goal.returns-clause-refusal
-returns-clause-refusal c = refused c.args.latex.now c.math-result.result c.new-parser.ensures.list c.math-result.ensures.refused
-
 pub returns-clause-dollars : goal.returns-clause-dollars
 returns-clause-dollars c = refused_so c.math-result.result (refused c.args.latex.now c.math-result.result c.new-parser.ensures.list c.math-result.ensures.refused) (never_dollars c.args.latex.now)
 
 pub returns-clause-tokens : goal.returns-clause-tokens
 returns-clause-tokens c = token_count c.math-result.result c.new-parser.ensures.list c.new-parser.ensures.tokens c.math-result.ensures.counted.counts c.math-result.ensures.all c.steps.ensures.tokens
-
-pub returns-clause-refused_within : goal.returns-clause-refused_within
-returns-clause-refused_within c = refusal_count _ c.math-result.result c.new-parser.ensures.list c.new-parser.ensures.tokens c.math-result.ensures.counted.counts c.math-result.ensures.within c.steps.ensures.tokens
 
 pub returns-clause-length : goal.returns-clause-length
 returns-clause-length c = tokens_within_text c.args.latex.now _ _ c.utf8.latex (token_count c.math-result.result c.new-parser.ensures.list c.new-parser.ensures.tokens c.math-result.ensures.counted.counts c.math-result.ensures.all c.steps.ensures.tokens)

@@ -1,15 +1,15 @@
 //! How the rule of each lexeme begins.
 
-ghost use Rattle.std.specs.Prelude.{◌≡◌, ◌≢◌, IfOk, IfSome, List, MatchOption, None, Some};
+ghost use Rattle.std.specs.Prelude.{◌≡◌, MatchOption, None, Some};
 ghost use Rattle.latex2mathml_grammar.specs.Openers.{opens};
 ghost use Rattle.latex2mathml_grammar.specs.Grammar.{a_root, error_rule, rule, sized, takes_token};
-ghost use Rattle.latex2mathml_parser.specs.Beginnings.{IsBeginningOf, IsLeafOf, IsSpecial};
+ghost use Rattle.latex2mathml_parser.specs.Beginnings.{IsBeginningOf, IsSpecial};
 ghost use Rattle.latex2mathml_parser.specs.Claims.{Proceeds, limited};
-ghost use Rattle.latex2mathml_parser.specs.Steps.{Counted, GoesOnBy, HasTrees, IsStep, IsStretched};
+ghost use Rattle.latex2mathml_parser.specs.Steps.{HasTrees, IsStep};
 ghost use Rattle.latex2mathml_trees.specs.{Productions.fence_of};
 ghost use Rattle.latex2mathml_parts.specs.Parts.{fence_text};
 ghost use Rattle.latex2mathml_tokens.specs.{Lexemes.lexeme_tok, Names.limit_text, Names.size_text};
-ghost use Rattle.latex2mathml_tokens.specs.Tok.{Tok, Begin, Left, Lim, Middle, OperatorName, Slashed, Text};
+ghost use Rattle.latex2mathml_tokens.specs.Tok.{Begin, Left, Lim, Middle, OperatorName, Slashed, Text};
 
 use crate::lexer::mark::Sign;
 use crate::parse::frames::{Frame, Group, Pair};
@@ -22,95 +22,24 @@ use latex2mathml_tokens::token::Token;
 use std::alloc::AllocError;
 
 impl<'a> Parser<'a> {
-    /// Begins the rule of a lexeme that was taken where a core is due. Most are leaves, which need no look at the other
-    /// rules.
+    /// Begins the rule of a lexeme that was taken where a core is due. Most are leaves and groups.
     #[inline(always)]
-    pub(crate) fn begin_any(&mut self, lexeme: &Lexeme<'a>) -> Result<State, AllocError>
+    pub(crate) fn begin(&mut self, lexeme: &Lexeme<'a>) -> Result<State, AllocError>
         requires { HasTrees 0 self.old }
         ensures holds { Proceeds (rule (lexeme_tok lexeme.now)) 0 self.old self.new result }
         ensures step { IsStep (opens (lexeme_tok lexeme.now)) 13 self.old self.new result }
     {
-        match symbol(lexeme) {
-            Some(leaf) => self.put_leaf(leaf),
-            None => self.begin(lexeme),
-        }
-    }
-
-    /// Begins the rule of a lexeme that was taken where a core is due.
-    fn begin(&mut self, lexeme: &Lexeme<'a>) -> Result<State, AllocError>
-        requires { HasTrees 0 self.old }
-        ensures holds { Proceeds (rule (lexeme_tok lexeme.now)) 0 self.old self.new result }
-        ensures step { IsStep (opens (lexeme_tok lexeme.now)) 13 self.old self.new result }
-    {
-        match *lexeme {
-            Lexeme::Middle => self.begin_stretched(),
-            _ => self.begin_other(lexeme),
-        }
-    }
-
-    /// Begins a stretched operator with the lexeme after `\middle`, which the frame keeps, because a refusal names it. This may be
-    /// another `\middle`.
-    #[inline(never)]
-    fn begin_stretched(&mut self) -> Result<State, AllocError>
-        requires { HasTrees 0 self.old }
-        ensures holds { Proceeds (rule Middle) 0 self.old self.new result }
-        ensures step { IsStep (opens Middle) 13 self.old self.new result }
-    {
-        let mut begun = Lexeme::Middle;
-        'middles: while let Lexeme::Middle = begun {
-            begun = self.stretch()?;
-            if let Lexeme::EOF = begun {
-                return self.error(&begun);
-            }
-        }
-        self.begin_other(&begun)
-    }
-
-    /// Opens the frame of a stretched operator, and takes the lexeme that it begins with.
-    fn stretch(&mut self) -> Result<Lexeme<'a>, AllocError>
-        requires { HasTrees 0 self.old }
-        ensures holds { (input : List Tok) → GoesOnBy (rule Middle) 0 input self.old
-            → IfOk result (λ got. GoesOnBy (rule (lexeme_tok got)) 0 input self.new) }
-        ensures counted { Counted 1 self.old self.new }
-        ensures taken { IfOk result (IsStretched self.old self.new) }
-    {
-        let got = self.lexer.take();
-        self.frames.open(Frame::Stretch(got))?;
-        Ok(got)
-    }
-
-    /// Begins the rule of a lexeme that is not `\middle`. Most of these are groups.
-    #[inline(always)]
-    fn begin_other(&mut self, lexeme: &Lexeme<'a>) -> Result<State, AllocError>
-        requires other { lexeme.now ≢ Lexeme.Middle }
-        requires trees { HasTrees 0 self.old }
-        ensures holds { Proceeds (rule (lexeme_tok lexeme.now)) 0 self.old self.new result }
-        ensures step { IsStep (opens (lexeme_tok lexeme.now)) 13 self.old self.new result }
-    {
-        match *lexeme {
-            Lexeme::LBrace => self.open(Frame::Members(Group::Brace, 0)),
-            _ => self.begin_rule(*lexeme),
-        }
-    }
-
-    /// Does the same, whatever the rule is.
-    fn begin_rule(&mut self, lexeme: Lexeme<'a>) -> Result<State, AllocError>
-        requires middle { lexeme ≢ Lexeme.Middle }
-        requires trees { HasTrees 0 self.old }
-        ensures holds { Proceeds (rule (lexeme_tok lexeme.entry)) 0 self.old self.new result }
-        ensures step { IsStep (opens (lexeme_tok lexeme.entry)) 13 self.old self.new result }
-    {
-        match Beginning::of(&lexeme) {
-            Some(Beginning::Leaf(kind)) => self.put(kind),
+        match Beginning::of(lexeme) {
+            Some(Beginning::Leaf(kind)) => self.put_leaf(kind),
             Some(Beginning::Frame(frame)) => self.open(frame),
-            None => self.begin_special(lexeme),
+            None => self.begin_special(*lexeme),
         }
     }
 
     /// Begins a rule that takes more than its token before it waits for a part, or marks a lexeme that begins no rule.
+    #[inline(never)]
     fn begin_special(&mut self, lexeme: Lexeme<'a>) -> Result<State, AllocError>
         requires special { IsSpecial lexeme }
-        requires middle { lexeme ≢ Lexeme.Middle }
         requires trees { HasTrees 0 self.old }
         ensures holds { Proceeds (rule (lexeme_tok lexeme.entry)) 0 self.old self.new result }
         ensures step { IsStep (opens (lexeme_tok lexeme.entry)) 13 self.old self.new result }
@@ -133,6 +62,7 @@ impl<'a> Parser<'a> {
             Lexeme::OperatorName => self.function(),
             Lexeme::Slashed => self.slash(),
             Lexeme::Left => self.open_fence(),
+            Lexeme::Middle => self.stretch(),
             Lexeme::Begin => self.begin_environment(),
             _ => self.error(&lexeme),
         }
@@ -253,6 +183,16 @@ impl<'a> Parser<'a> {
         self.open(Frame::Members(Group::Fence(opening), 0))
     }
 
+    /// Begins a stretched operator. Its frame keeps the lexeme that comes next, because a refusal names it.
+    fn stretch(&mut self) -> Result<State, AllocError>
+        requires { HasTrees 0 self.old }
+        ensures holds { Proceeds (rule Middle) 0 self.old self.new result }
+        ensures step { IsStep 1 13 self.old self.new result }
+    {
+        let got = self.lexer.peek();
+        self.open(Frame::Stretch(got))
+    }
+
     /// Begins an environment: its name, and the members after it.
     fn begin_environment(&mut self) -> Result<State, AllocError>
         requires { HasTrees 0 self.old }
@@ -289,7 +229,7 @@ pub(crate) enum Beginning<'a> {
 impl<'a> Beginning<'a> {
     /// Returns how the rule of a lexeme begins, unless it takes more than its token first.
     #[inline(always)]
-    fn of(lexeme: &Lexeme<'a>) -> Option<Beginning<'a>>
+    pub(crate) fn of(lexeme: &Lexeme<'a>) -> Option<Beginning<'a>>
         ensures { MatchOption result (IsSpecial lexeme.now) (IsBeginningOf lexeme.now) }
     {
         match *lexeme {
@@ -317,21 +257,5 @@ impl<'a> Beginning<'a> {
             Lexeme::Underbrace(c) => Some(Beginning::Frame(Frame::Single(Pair::Underbrace(c)))),
             _ => None,
         }
-    }
-}
-
-/// Returns what a lexeme of the most frequent kinds makes, which are cores by themselves.
-#[inline(always)]
-pub(crate) fn symbol<'a>(lexeme: &Lexeme<'a>) -> Option<Kind<'a>>
-    ensures { IfSome result (IsLeafOf lexeme.now) }
-{
-    match *lexeme {
-        Lexeme::Number(digits) => Some(Kind::Number(digits)),
-        Lexeme::Letter(c, variant) => Some(Kind::Letter(c, variant)),
-        Lexeme::Operator(c) => Some(Kind::Operator(c)),
-        Lexeme::Paren(paren) => Some(Kind::Paren(paren)),
-        Lexeme::Space(width) => Some(Kind::Space(width)),
-        Lexeme::Function(name) => Some(Kind::Function(name)),
-        _ => None,
     }
 }

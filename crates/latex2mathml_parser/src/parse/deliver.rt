@@ -1,13 +1,11 @@
 //! How parsing goes on after a part, and after the end of a group.
 
-ghost use Rattle.std.specs.Prelude.{◌≡◌, ◌+◌, ◌<◌, List, vec_len};
-ghost use Rattle.latex2mathml_grammar.specs.Grammar.{under_slash};
-ghost use Rattle.latex2mathml_parser.specs.Frames.{IsInnermost, IsNoGroup, tree_count, unfit, with_script};
+ghost use Rattle.std.specs.Prelude.{◌≡◌, ◌+◌, ◌<◌, vec_len};
+ghost use Rattle.latex2mathml_parser.specs.Frames.{IsNoGroup, tree_count, unfit};
 ghost use Rattle.latex2mathml_parser.specs.Claims.{Delivers, EndsGroup, EndsInnermost, Keeps};
-ghost use Rattle.latex2mathml_parser.specs.Claims.{Proceeds, Puts, after_operator, after_single};
-ghost use Rattle.latex2mathml_parser.specs.Steps.{HasTrees, IsStep, due_in, frame_weight, last_tree};
-ghost use Rattle.latex2mathml_trees.specs.{Tree.Tree};
-ghost use Rattle.latex2mathml_parts.specs.Parts.{arity, put};
+ghost use Rattle.latex2mathml_parser.specs.Claims.{Proceeds, Puts, after_single};
+ghost use Rattle.latex2mathml_parser.specs.Steps.{HasTrees, IsStep, due_in, frame_weight};
+ghost use Rattle.latex2mathml_parts.specs.Parts.{arity};
 ghost use Rattle.latex2mathml_parser.specs.{declared.parse.frames.Due.Due, declared.parse.frames.GroupEnd.GroupEnd};
 
 use crate::lexer::mark::Sign;
@@ -32,7 +30,12 @@ impl<'a> Parser<'a> {
             return Ok(State::End);
         };
         match *frame {
-            Frame::Members(group, count) => self.end_member(group, count),
+            Frame::Members(group, count) => {
+                // All members are among the parts, so their number fits in a `usize`.
+                let _ = self.parts.len();
+                self.frames.replace(Frame::Members(group, count + 1));
+                Ok(State::Next)
+            }
             frame => {
                 self.frames.drop_last();
                 self.deliver(frame)
@@ -40,22 +43,8 @@ impl<'a> Parser<'a> {
         }
     }
 
-    /// Counts the last tree as a member of the innermost group, in place. The next member, or the end, is then due.
-    #[inline(always)]
-    fn end_member(&mut self, group: Group, count: usize) -> Result<State, AllocError>
-        requires trees { HasTrees 1 self.old }
-        requires innermost { IsInnermost (Frame.Members group count) self.old.frames.stack.items }
-        ensures holds { Keeps State.Part self.old self.new result }
-        ensures step { IsStep 0 3 self.old self.new result }
-    {
-        // All members are among the parts, so their number fits in a `usize`.
-        let _ = self.parts.len();
-        self.frames.replace(Frame::Members(group, count + 1));
-        Ok(State::Next)
-    }
-
     /// Gives a frame, which was taken off the stack and is no group, the part that it waits for.
-    #[tactic(auto, using(crate::proofs::Combining::operand_read))]
+    #[tactic(auto, using(crate::proofs::Combining::part_delivered))]
     fn deliver(&mut self, frame: Frame<'a>) -> Result<State, AllocError>
         requires fit { unfit frame ≡ 0 }
         requires other { IsNoGroup frame }
@@ -74,21 +63,26 @@ impl<'a> Parser<'a> {
                 Ok(State::Core)
             }
             Frame::Single(pair) => self.after_first(pair),
-            Frame::Slashed => self.end_slash(),
-            Frame::Stretch(got) => self.end_stretch(got),
-            Frame::Script(sign) => self.end_script(sign),
+            Frame::Slashed => {
+                // The lexeme after what is struck through is skipped.
+                self.lexer.skip();
+                self.parts.slash()?;
+                Ok(State::Core)
+            }
+            Frame::Stretch(got) => {
+                if self.parts.stretch() {
+                    return Ok(State::Core);
+                }
+                self.refuse_fence(Token::Middle, got)
+            }
+            Frame::Script(sign) => {
+                match sign {
+                    Sign::Sub => self.parts.put(Kind::Sub)?,
+                    Sign::Sup => self.parts.put(Kind::Sup)?,
+                }
+                Ok(State::Part)
+            }
         }
-    }
-
-    /// Gives a base, which is the last tree but one, its script.
-    #[inline(always)]
-    fn end_script(&mut self, sign: Sign) -> Result<State, AllocError>
-        requires { HasTrees 2 self.old }
-        ensures holds { Delivers (Frame.Script sign) self.old self.new result }
-        ensures step { IsStep 0 5 self.old self.new result }
-    {
-        self.parts.put(script(sign))?;
-        Ok(State::Part)
     }
 
     /// Puts a part without operands, and goes on after it.
@@ -124,29 +118,6 @@ impl<'a> Parser<'a> {
             return self.put_back(Frame::Last(pair.two()));
         }
         self.put(pair.one())
-    }
-
-    /// Strikes through the last tree. The lexeme after it is skipped.
-    fn end_slash(&mut self) -> Result<State, AllocError>
-        requires { HasTrees 1 self.old }
-        ensures holds { Proceeds (under_slash (last_tree self.old)) 1 self.old self.new result }
-        ensures step { IsStep 0 5 self.old self.new result }
-    {
-        self.lexer.skip();
-        self.parts.slash()?;
-        Ok(State::Core)
-    }
-
-    /// Stretches the operator that is the last tree, or refuses the lexeme that followed `\middle`.
-    fn end_stretch(&mut self, got: Lexeme<'a>) -> Result<State, AllocError>
-        requires { HasTrees 1 self.old }
-        ensures holds { Proceeds (after_operator got.entry self.old) 1 self.old self.new result }
-        ensures step { IsStep 0 5 self.old self.new result }
-    {
-        if self.parts.stretch() {
-            return Ok(State::Core);
-        }
-        self.refuse_fence(Token::Middle, got)
     }
 
     /// Ends the innermost group, whose end was taken.
@@ -212,16 +183,5 @@ impl<'a> Parser<'a> {
         }
         let name = String::from_str(self.alloc, self.parts.name(count))?;
         Ok(self.refuse(LatexError::UnknownEnvironment(name)))
-    }
-}
-
-/// Returns the part that a script of this sign makes.
-fn script<'a>(sign: Sign) -> Kind<'a>
-    ensures arity { arity result ≡ 2 }
-    ensures trees { (ts : List Tree) → put result ts ≡ with_script sign ts }
-{
-    match sign {
-        Sign::Sub => Kind::Sub,
-        Sign::Sup => Kind::Sup,
     }
 }

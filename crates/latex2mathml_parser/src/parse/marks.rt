@@ -19,12 +19,10 @@ impl<'a> Parser<'a> {
         ensures holds { Keeps State.Core self.old self.new result }
         ensures step { IsStep 0 4 self.old self.new result }
     {
-        let Some(mark) = self.lexer.mark() else {
-            return self.after_part();
-        };
-        match mark {
-            Mark::Prime => self.after_prime(),
-            Mark::Script(sign) => self.after_sign(sign),
+        match self.lexer.mark() {
+            None => self.after_part(),
+            Some(Mark::Prime) => self.after_prime(),
+            Some(Mark::Script(sign)) => self.after_sign(sign),
         }
     }
 
@@ -50,12 +48,9 @@ impl<'a> Parser<'a> {
         ensures holds { FollowsSingle self.old self.new result }
         ensures step { IsStep 0 4 self.old self.new result }
     {
-        let Some(mark) = self.lexer.mark() else {
-            return Ok(State::Part);
-        };
-        match mark {
-            Mark::Prime => Ok(State::Part),
-            Mark::Script(sign) => self.after_sign(sign),
+        match self.lexer.mark() {
+            Some(Mark::Script(sign)) => self.after_sign(sign),
+            _ => Ok(State::Part),
         }
     }
 

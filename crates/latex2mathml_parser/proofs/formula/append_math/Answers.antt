@@ -20,19 +20,19 @@ nodes-preserved c =
     record {
       closed = read.0;
       nodes = one_node found read.1.1 read.1.2 c.nodes.invariant.nodes;
-      counted = counted_on 0 0 _ _ _ c.nodes.invariant.counted (counted_taken _ c.nodes.parser _ _ found c.take_into.ensures.counts refl c.in_ok-is_read.ensures.counted);
+      counted = counted_on _ _ _ c.nodes.invariant.counted (counted_taken _ c.nodes.parser _ _ found c.take_into.ensures.counts refl c.in_ok-is_read.ensures.counted);
     }
 
 pub returns-in_err-is_read-clause-counted : goal.returns-in_err-is_read-clause-counted
 returns-in_err-is_read-clause-counted c =
     let found = stood _ _ _ c.in_default.not-EOF c.take_into.ensures.token c.take_into.ensures.list in
-    counted_on 0 0 _ _ _ c.nodes.invariant.counted (counted_taken _ _ _ _ found c.take_into.ensures.counts refl c.in_err-is_read.ensures.counted)
+    counted_on _ _ _ c.nodes.invariant.counted (counted_taken _ _ _ _ found c.take_into.ensures.counts refl c.in_err-is_read.ensures.counted)
 
 pub returns-then-not-is_read : goal.returns-then-not-is_read
 returns-then-not-is_read c =
     let found = stood c.take_into.new.lexeme c.nodes.parser.lexer.list c.take_into.new.self.list c.in_default.not-EOF c.take_into.ensures.token c.take_into.ensures.list in
     let refused = rw c.if-not-is_read.true at (c.in_ok-is_read.ensures.node _ found) in
-    let counted = counted_on 0 0 _ _ _ c.nodes.invariant.counted (counted_taken _ c.nodes.parser _ _ found c.take_into.ensures.counts refl c.in_ok-is_read.ensures.counted) in
+    let counted = counted_on _ _ _ c.nodes.invariant.counted (counted_taken _ c.nodes.parser _ _ found c.take_into.ensures.counts refl c.in_ok-is_read.ensures.counted) in
     record {
       formula = (
         formula_refused _ found refused c.nodes.invariant.nodes,

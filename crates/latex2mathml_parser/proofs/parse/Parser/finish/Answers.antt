@@ -5,7 +5,7 @@ pub steps-preserved : goal.steps-preserved
 steps-preserved c = record {
   trees = c.in_ok-state-in_default.ensures.step.follows.trees;
   holds = λ input k. c.in_ok-state-in_default.ensures.holds input (c.steps.invariant.holds input k);
-  counted = counted_on 0 0 _ _ _ c.steps.invariant.counted c.in_ok-state-in_default.ensures.step.counted;
+  counted = counted_on _ _ _ c.steps.invariant.counted c.in_ok-state-in_default.ensures.step.counted;
 }
 
 pub returns-in-End-clause-node : goal.returns-in-End-clause-node
