@@ -1,17 +1,14 @@
 -- The markup of parts with operands: what precedes the operands, what is between them and what follows them.
-use Rattle.std.specs.Prelude.{◌≡◌, ℕ, ◌+◌, ◌*◌, ◌≤◌, List, ◌++◌, Option, Some, None, codes, drop}
+use Rattle.std.specs.Prelude.{◌≡◌, ℕ, ◌+◌, ◌*◌, ◌≤◌, List, ◌++◌, codes, drop}
 use Rattle.latex2mathml_trees.specs.{Print.print, Tree.Tree, Tree.operator, Tree.sized_paren, Tree.slashed, Weight.weight}
 use Rattle.latex2mathml_tokens.specs.{Attributes.accent_text, Attributes.variant_text, Escape.content, Escape.content_char, Names.paren_text, Names.size_text}
-use Rattle.latex2mathml_tokens.specs.{declared.attribute.Accent.Accent, declared.attribute.Variant.Variant, declared.names.Paren.Paren, declared.names.Size.Size}
-use Rattle.latex2mathml_parts.specs.{Forms.put_form, Parts.arity, Parts.put, Parts.top, declared.form.Form.Form, declared.kind.Kind.Kind}
-use Rattle.latex2mathml_parts.specs.{Tags.ending_text, Tags.opening_text, declared.write.tags.Ending.Ending, declared.write.tags.Opening.Opening}
-use Rattle.latex2mathml_parts.specs.declared.write.shapes.{Operands.Operands, Shape.Shape}
-use Rattle.latex2mathml_parts.specs.declared.kind.Kind.TheVariants as kind
+use Rattle.latex2mathml_tokens.specs.{declared.attribute.Variant.Variant, declared.names.Paren.Paren, declared.names.Size.Size}
+use Rattle.latex2mathml_parts.specs.{Forms.put_form, Parts.arity, Parts.fence_text, Parts.put, Parts.top, declared.form.Form.Form, declared.kind.Kind.Kind}
+use Rattle.latex2mathml_parts.specs.{Tags.ending_text, Tags.opening_text}
+use Rattle.latex2mathml_parts.specs.declared.write.shapes.{After.After, Before.Before, Operands.Operands, Shape.Shape}
+use Rattle.latex2mathml_parts.specs.declared.write.shapes.After.TheVariants as after
+use Rattle.latex2mathml_parts.specs.declared.write.shapes.Before.TheVariants as before
 use Rattle.latex2mathml_parts.specs.declared.write.shapes.Operands.TheVariants as operands
-
--- the sign over or under a tree, and what follows it
-abbrev pub sign_print : ℕ → Accent → List ℕ → List ℕ
-sign_print c accent after = codes "<mo accent=\"" ++ (accent_text accent ++ (codes "\">" ++ (content_char c ++ after)))
 
 -- how much there is to write of a tree: no more than eight works for it, and for each node and list in it
 abbrev pub print_weight : Tree → ℕ
@@ -48,10 +45,18 @@ slashed_print texts f ts = print (slashed (top (put_form texts f ts)))
 abbrev pub HidesSlash : Form → Type 0
 HidesSlash f = (texts : List (List ℕ)) (ts : List Tree) → slashed_print texts f ts ≡ print (top (put_form texts f ts))
 
--- what precedes the first operand
-abbrev pub opening_print : Opening → Option ℕ → List ℕ
-opening_print o None = opening_text o
-opening_print o (Some c) = opening_text o ++ print (operator c)
+-- what precedes the operands
+abbrev pub before_print : Before → List ℕ
+before_print (before.Open o) = opening_text o
+before_print (before.Signed o c) = opening_text o ++ print (operator c)
+before_print (before.Text text) = text.now
+
+-- what follows them
+abbrev pub after_print : After → List ℕ
+after_print (after.Close e) = ending_text e
+after_print (after.Brace c e) = print (operator c) ++ ending_text e
+after_print (after.Sign c accent e) = codes "<mo accent=\"" ++ (accent_text accent ++ (codes "\">" ++ (content_char c ++ (codes "</mo>" ++ ending_text e))))
+after_print (after.Fence fence) = fence_close (fence_text fence)
 
 -- how many operands there are
 abbrev pub count_of : Operands → ℕ
@@ -59,40 +64,19 @@ count_of operands.One = 1
 count_of o = 2
 
 -- the operands, which are the last of these trees, and what follows them
-abbrev pub operands_print : Operands → List ℕ → List Tree → List ℕ → List ℕ
-operands_print operands.One tag ts after = print (top ts) ++ after
-operands_print operands.Two tag ts after = print (top (drop 1 ts)) ++ (print (top ts) ++ after)
-operands_print operands.Swapped tag ts after = print (top ts) ++ (print (top (drop 1 ts)) ++ after)
-operands_print (operands.Labelled c) tag ts after = print (top (drop 1 ts)) ++ (tag ++ (print (operator c) ++ (print (top ts) ++ after)))
+abbrev pub operands_print : Operands → List Tree → List ℕ → List ℕ
+operands_print operands.One ts end = print (top ts) ++ end
+operands_print operands.Two ts end = print (top (drop 1 ts)) ++ (print (top ts) ++ end)
+operands_print operands.Swapped ts end = print (top ts) ++ (print (top (drop 1 ts)) ++ end)
+operands_print (operands.Labelled o c) ts end = print (top (drop 1 ts)) ++ (opening_text o ++ (print (operator c) ++ (print (top ts) ++ end)))
 
 -- how much there is to write of the operands
 abbrev pub operands_weight : Operands → List Tree → ℕ
 operands_weight operands.One ts = print_weight (top ts)
 operands_weight o ts = print_weight (top (drop 1 ts)) + print_weight (top ts)
 
--- a part of this kind has more to write than its operands
-abbrev pub WeighsLess : Operands → Kind → Type 0
-WeighsLess o kind = (ts : List Tree) → operands_weight o ts + 4 ≤ print_weight (top (put kind ts))
-
-abbrev pub shape_with : Opening → Option ℕ → Operands → Ending → Shape
-shape_with o sign operands e = record { opening = o; sign = sign; operands = operands; ending = e }
-
--- the operands of a shape, with what is before and after them
-abbrev pub shape_print : Shape → List Tree → List ℕ
-shape_print s ts = opening_print s.opening s.sign ++ operands_print s.operands (opening_text s.opening) ts (ending_text s.ending)
-
--- a part of this kind has the shape
+-- a part of this kind has the shape, and more to write than its operands
 pub record IsShapeOf (k : Kind) (s : Shape) : Type 0 where
-  pub count : count_of s.operands ≡ arity k
-  pub markup : (ts : List Tree) → shape_print s ts ≡ print (top (put k ts))
-  pub weighs : WeighsLess s.operands k
-
--- a part of this kind has one operand, and no shape
-abbrev pub HasSurroundings : Kind → Type 0
-HasSurroundings (kind.LimitUnder name) = Unit {0}
-HasSurroundings (kind.Fenced opening close) = Unit {0}
-HasSurroundings (kind.Over c accent) = Unit {0}
-HasSurroundings (kind.Under c accent) = Unit {0}
-HasSurroundings (kind.Overbrace c) = Unit {0}
-HasSurroundings (kind.Underbrace c) = Unit {0}
-HasSurroundings k = ⊥
+  pub count : count_of s.1 ≡ arity k
+  pub markup : (ts : List Tree) → before_print s.0 ++ operands_print s.1 ts (after_print s.2) ≡ print (top (put k ts))
+  pub weighs : (ts : List Tree) → operands_weight s.1 ts + 4 ≤ print_weight (top (put k ts))

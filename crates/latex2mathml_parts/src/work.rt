@@ -1,8 +1,8 @@
 //! What is still to be written.
 
-use crate::write::tags::{Ending, Opening};
-use latex2mathml_tokens::attribute::{Accent, Variant};
-use latex2mathml_tokens::names::Paren;
+use crate::write::shapes::After;
+use crate::write::tags::Opening;
+use latex2mathml_tokens::attribute::Variant;
 use std::alloc::Global;
 
 /// Room for what is still to be written, which one formula leaves to the next.
@@ -27,17 +27,8 @@ pub(crate) enum Work {
     Tree(usize),
     /// The same, in a style.
     Styled(Variant, usize),
-    End(Ending),
-    /// The closing fence, and the end of its element.
-    Fence(Option<Paren>),
     /// What opens an element, and the brace in it.
     Brace(Opening, char),
-    /// The brace over a tree, and the end of its element.
-    BraceOver(char),
-    /// The brace under a tree, and the end of its element.
-    BraceUnder(char),
-    /// The sign over a tree, and the end of its element.
-    SignOver(char, Accent),
-    /// The sign under a tree, and the end of its element.
-    SignUnder(char, Accent),
+    /// What follows operands or members.
+    After(After),
 }

@@ -10,7 +10,7 @@ mod fences;
 mod groups;
 mod leaves;
 mod operands;
-mod shapes;
+pub(crate) mod shapes;
 mod tables;
 pub(crate) mod tags;
 
@@ -18,14 +18,13 @@ use crate::form::Form;
 use crate::kind::Kind;
 use crate::parts::Parts;
 use crate::work::{Work, Works};
-use crate::write::fences::{closing_markup, stretched_markup};
+use crate::write::fences::stretched_markup;
 use crate::write::groups::Group;
 use crate::write::leaves::{
-    write_brace, write_char, write_letter, write_number, write_operator, write_sign, write_slashed,
-    write_text,
+    write_char, write_letter, write_number, write_operator, write_slashed, write_text,
 };
+use crate::write::shapes::Before::Signed;
 use latex2mathml_tokens::attribute::Variant;
-use latex2mathml_tokens::names::Paren;
 use latex2mathml_trees::append::append_undefined;
 pub use leaves::write_leaf;
 use std::alloc::AllocError;
@@ -70,16 +69,8 @@ impl Parts<'_> {
         match work {
             Work::Tree(end) => return Ok(Some(end)),
             Work::Styled(variant, end) => return self.write_styled(variant, end, works, out),
-            Work::End(ending) => ending.append(out)?,
-            Work::Fence(fence) => write_fence(fence, out)?,
-            Work::Brace(opening, c) => {
-                opening.append(out)?;
-                write_operator(c, out)?
-            }
-            Work::BraceOver(c) => write_brace(c, "</mover>", out)?,
-            Work::BraceUnder(c) => write_brace(c, "</munder>", out)?,
-            Work::SignOver(c, accent) => write_sign(c, accent, "</mo></mover>", out)?,
-            Work::SignUnder(c, accent) => write_sign(c, accent, "</mo></munder>", out)?,
+            Work::Brace(opening, c) => Signed(opening, c).append(out)?,
+            Work::After(after) => after.append(out)?,
         }
         Ok(None)
     }
@@ -222,12 +213,4 @@ impl Parts<'_> {
         }
         Ok(Some(end))
     }
-}
-
-/// Writes a closing fence, and the end of its element.
-#[inline(never)]
-fn write_fence(fence: Option<Paren>, out: &mut String) -> Result<(), AllocError>
-    ensures { Appends out.old out.new (fence_close (fence_text fence)) result }
-{
-    out.push_str(closing_markup(fence))
 }

@@ -4,7 +4,7 @@ ghost use Rattle.latex2mathml_trees.specs.{Print.print, Texts.Appends};
 ghost use Rattle.latex2mathml_trees.specs.Tree.{Tree, letter, number, operator, space};
 ghost use Rattle.latex2mathml_parts.specs.{Parts.arity, Parts.put, Parts.top};
 ghost use Rattle.latex2mathml_parts.specs.Plain.{IsPlain, plain_print};
-ghost use Rattle.latex2mathml_parts.specs.Shapes.{HidesSlash, sign_print, sized_print};
+ghost use Rattle.latex2mathml_parts.specs.Shapes.{HidesSlash, sized_print};
 ghost use Rattle.latex2mathml_parts.specs.Shapes.{slashed_print, styled_print, upright_print};
 ghost use Rattle.latex2mathml_tokens.specs.{Escape.content, Escape.content_char};
 ghost use Rattle.latex2mathml_tokens.specs.declared.attribute.Variant.TheVariants.{Italic};
@@ -180,29 +180,6 @@ pub(crate) fn write_slashed(form: Form, out: &mut String) -> Result<bool, AllocE
             Ok(true)
         }
         _ => Ok(false),
-    }
-}
-
-/// Writes the brace over a tree or under it, and what follows it.
-pub(crate) fn write_brace(c: char, after: &'static str, out: &mut String) -> Result<(), AllocError>
-    ensures { Appends out.old out.new (print (operator c) ++ after.now) result }
-{
-    write_operator(c, out)?;
-    out.push_str(after)
-}
-
-/// Writes the sign over a tree or under it, and what follows it.
-pub(crate) fn write_sign(
-    c: char,
-    accent: Accent,
-    after: &'static str,
-    out: &mut String,
-) -> Result<(), AllocError>
-    ensures { Appends out.old out.new (sign_print c accent after.now) result }
-{
-    match accent {
-        Accent::True => write_char("<mo accent=\"true\">", c, after, out),
-        Accent::False => write_char("<mo accent=\"false\">", c, after, out),
     }
 }
 

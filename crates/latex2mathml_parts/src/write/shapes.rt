@@ -1,18 +1,29 @@
 //! What surrounds the operands of a part, by its kind.
-ghost use Rattle.std.specs.Prelude.{◌≡◌, ◌<◌, ◌++◌, List, MatchOption, None, Some};
-ghost use Rattle.latex2mathml_trees.specs.{Print.print, Tree.Tree};
-ghost use Rattle.latex2mathml_parts.specs.{Parts.arity, Parts.put, Parts.top};
-ghost use Rattle.latex2mathml_parts.specs.Forests.{Forest};
-ghost use Rattle.latex2mathml_parts.specs.Works.{IsIn, work_print, work_weight};
-ghost use Rattle.latex2mathml_parts.specs.Shapes.{HasSurroundings, IsShapeOf, WeighsLess, shape_with};
-ghost use Rattle.latex2mathml_parts.specs.declared.write.shapes.Operands.TheVariants.{One};
+ghost use Rattle.std.specs.Prelude.{◌<◌};
+ghost use Rattle.latex2mathml_trees.specs.Texts.{Appends};
+ghost use Rattle.latex2mathml_parts.specs.{Parts.arity, Shapes.IsShapeOf, Shapes.after_print, Shapes.before_print};
 
 use crate::kind::Kind;
-use crate::work::Work;
-use crate::write::fences::opening_markup;
-use crate::write::tables::limited_markup;
+use crate::write::fences::{closing_markup, opening_markup};
+use crate::write::leaves::{write_char, write_operator};
+use crate::write::shapes::After::{Brace, Close, Fence, Sign};
+use crate::write::shapes::Before::{Open, Signed, Text};
+use crate::write::shapes::Operands::{Labelled, One, Swapped, Two};
+use crate::write::tables::{limited_markup, sign_open};
 use crate::write::tags::{Ending, Opening};
 use latex2mathml_tokens::DisplayStyle;
+use latex2mathml_tokens::attribute::Accent;
+use latex2mathml_tokens::names::Paren;
+use std::alloc::AllocError;
+
+/// What precedes the operands of a part.
+#[derive(Clone, Copy)]
+pub(crate) enum Before {
+    Open(Opening),
+    /// A tag and an operator.
+    Signed(Opening, char),
+    Text(&'static str),
+}
 
 /// The operands of a part, and their order in the markup.
 #[derive(Clone, Copy)]
@@ -21,121 +32,123 @@ pub(crate) enum Operands {
     Two,
     /// The last one, and then the one before it.
     Swapped,
-    /// The first of two, and then a brace with the last one as its label.
-    Labelled(char),
+    /// The first of two, a tag and a brace, and then the last one, which is the brace's label.
+    Labelled(Opening, char),
 }
 
-/// What surrounds the operands of a part.
+/// What follows the operands of a part.
 #[derive(Clone, Copy)]
-pub(crate) struct Shape {
-    pub(crate) opening: Opening,
-    /// An operator that follows.
-    pub(crate) sign: Option<char>,
-    pub(crate) operands: Operands,
-    pub(crate) ending: Ending,
+pub(crate) enum After {
+    Close(Ending),
+    /// A brace and a tag.
+    Brace(char, Ending),
+    /// A sign and a tag.
+    Sign(char, Accent, Ending),
+    /// The closing fence, and the end of its element.
+    Fence(Option<Paren>),
 }
 
-/// What surrounds the only operand of a part that has no shape.
+/// The operands of a part, and what surrounds them.
 #[derive(Clone, Copy)]
-pub(crate) struct Surroundings {
-    pub(crate) before: &'static str,
-    pub(crate) after: Work,
+pub(crate) struct Shape(pub(crate) Before, pub(crate) Operands, pub(crate) After);
+
+impl Before {
+    /// Writes it.
+    #[inline(always)]
+    pub(crate) fn append(self, out: &mut String) -> Result<(), AllocError>
+        ensures { Appends out.old out.new (before_print self) result }
+    {
+        match self {
+            Open(opening) => opening.append(out),
+            Signed(opening, c) => {
+                opening.append(out)?;
+                write_operator(c, out)
+            }
+            Text(text) => out.push_str(text),
+        }
+    }
 }
 
-/// Returns the shape of a part that has operands, if it has one.
+impl After {
+    /// Writes it.
+    #[inline(always)]
+    pub(crate) fn append(self, out: &mut String) -> Result<(), AllocError>
+        ensures { Appends out.old out.new (after_print self) result }
+    {
+        match self {
+            Close(ending) => ending.append(out),
+            Brace(c, ending) => {
+                write_operator(c, out)?;
+                ending.append(out)
+            }
+            Sign(c, accent, ending) => {
+                write_char(sign_open(accent), c, "</mo>", out)?;
+                ending.append(out)
+            }
+            Fence(fence) => out.push_str(closing_markup(fence)),
+        }
+    }
+}
+
+/// Returns the shape of a part that has operands.
 #[inline(always)]
 #[tactic(auto, using(crate::proofs::Markups::binom_shapes))]
-pub(crate) fn shape_of(kind: Kind) -> Option<Shape>
+pub(crate) fn shape_of(kind: Kind) -> Shape
     requires { 0 < arity kind }
-    ensures { MatchOption result (HasSurroundings kind.entry) (IsShapeOf kind.entry) }
+    ensures { IsShapeOf kind.entry result }
 {
     match kind {
-        Kind::Primed => around(Opening::Sup, Operands::One, Ending::Prime),
-        Kind::Sqrt => around(Opening::Sqrt, Operands::One, Ending::Sqrt),
-        Kind::LimitBelow(c) => signed(Opening::Under, c, Operands::One, Ending::Under),
-        Kind::LimitAbove(c) => signed(Opening::Over, c, Operands::One, Ending::Over),
-        Kind::LimitSub(c) => signed(Opening::Sub, c, Operands::One, Ending::Sub),
-        Kind::LimitSup(c) => signed(Opening::Sup, c, Operands::One, Ending::Sup),
-        Kind::LimitsBelowAbove(c) => {
-            signed(Opening::UnderOver, c, Operands::Two, Ending::UnderOver)
-        }
-        Kind::LimitsAboveBelow(c) => {
-            signed(Opening::UnderOver, c, Operands::Swapped, Ending::UnderOver)
-        }
-        Kind::LimitsSubSup(c) => signed(Opening::SubSup, c, Operands::Two, Ending::SubSup),
-        Kind::LimitsSupSub(c) => signed(Opening::SubSup, c, Operands::Swapped, Ending::SubSup),
-        Kind::Sub => around(Opening::Sub, Operands::Two, Ending::Sub),
-        Kind::Sup => around(Opening::Sup, Operands::Two, Ending::Sup),
-        Kind::Frac => around(Opening::Frac, Operands::Two, Ending::Frac),
-        Kind::Binom(None) => around(Opening::Binom, Operands::Two, Ending::Binom),
-        Kind::Binom(Some(DisplayStyle::Block)) => {
-            around(Opening::BlockBinom, Operands::Two, Ending::StyledBinom)
-        }
-        Kind::Binom(Some(DisplayStyle::Inline)) => {
-            around(Opening::InlineBinom, Operands::Two, Ending::StyledBinom)
-        }
-        Kind::Overset => around(Opening::Over, Operands::Swapped, Ending::Over),
-        Kind::Underset => around(Opening::Under, Operands::Swapped, Ending::Under),
-        Kind::Root => around(Opening::Root, Operands::Swapped, Ending::Root),
-        Kind::OverbraceWith(c) => around(Opening::Over, Operands::Labelled(c), Ending::TwoOver),
-        Kind::UnderbraceWith(c) => around(Opening::Under, Operands::Labelled(c), Ending::TwoUnder),
-        Kind::LimitUnder(_) | Kind::Fenced(_, _) | Kind::Over(_, _) => None,
-        Kind::Under(_, _) | Kind::Overbrace(_) | Kind::Underbrace(_) => None,
+        Kind::Primed => Shape(Open(Opening::Sup), One, Close(Ending::Prime)),
+        Kind::Over(c, accent) => Shape(Open(Opening::Over), One, Sign(c, accent, Ending::Over)),
+        Kind::Under(c, accent) => Shape(Open(Opening::Under), One, Sign(c, accent, Ending::Under)),
+        Kind::Sqrt => Shape(Open(Opening::Sqrt), One, Close(Ending::Sqrt)),
+        Kind::Overbrace(c) => Shape(Open(Opening::Over), One, Brace(c, Ending::Over)),
+        Kind::Underbrace(c) => Shape(Open(Opening::Under), One, Brace(c, Ending::Under)),
+        Kind::LimitBelow(c) => Shape(Signed(Opening::Under, c), One, Close(Ending::Under)),
+        Kind::LimitAbove(c) => Shape(Signed(Opening::Over, c), One, Close(Ending::Over)),
+        Kind::LimitSub(c) => Shape(Signed(Opening::Sub, c), One, Close(Ending::Sub)),
+        Kind::LimitSup(c) => Shape(Signed(Opening::Sup, c), One, Close(Ending::Sup)),
+        Kind::LimitUnder(name) => Shape(Text(limited_markup(name)), One, Close(Ending::Under)),
+        Kind::Fenced(opening, close) => Shape(Text(opening_markup(opening)), One, Fence(close)),
+        Kind::Sub => Shape(Open(Opening::Sub), Two, Close(Ending::Sub)),
+        Kind::Sup => Shape(Open(Opening::Sup), Two, Close(Ending::Sup)),
+        Kind::Frac => Shape(Open(Opening::Frac), Two, Close(Ending::Frac)),
+        Kind::Binom(None) => Shape(Open(Opening::Binom), Two, Close(Ending::Binom)),
+        Kind::Binom(Some(DisplayStyle::Block)) => Shape(
+            Open(Opening::BlockBinom),
+            Two,
+            Close(Ending::StyledBinom),
+        ),
+        Kind::Binom(Some(DisplayStyle::Inline)) => Shape(
+            Open(Opening::InlineBinom),
+            Two,
+            Close(Ending::StyledBinom),
+        ),
+        Kind::Overset => Shape(Open(Opening::Over), Swapped, Close(Ending::Over)),
+        Kind::Underset => Shape(Open(Opening::Under), Swapped, Close(Ending::Under)),
+        Kind::Root => Shape(Open(Opening::Root), Swapped, Close(Ending::Root)),
+        Kind::OverbraceWith(c) => Shape(
+            Open(Opening::Over),
+            Labelled(Opening::Over, c),
+            Close(Ending::TwoOver),
+        ),
+        Kind::UnderbraceWith(c) => Shape(
+            Open(Opening::Under),
+            Labelled(Opening::Under, c),
+            Close(Ending::TwoUnder),
+        ),
+        Kind::LimitsBelowAbove(c) => Shape(
+            Signed(Opening::UnderOver, c),
+            Two,
+            Close(Ending::UnderOver),
+        ),
+        Kind::LimitsAboveBelow(c) => Shape(
+            Signed(Opening::UnderOver, c),
+            Swapped,
+            Close(Ending::UnderOver),
+        ),
+        Kind::LimitsSubSup(c) => Shape(Signed(Opening::SubSup, c), Two, Close(Ending::SubSup)),
+        Kind::LimitsSupSub(c) => Shape(Signed(Opening::SubSup, c), Swapped, Close(Ending::SubSup)),
         _ => unreachable!(),
     }
-}
-
-/// Returns what surrounds the only operand of a part that has no shape.
-#[inline(always)]
-pub(crate) fn surroundings_of(kind: Kind) -> Surroundings
-    requires { HasSurroundings kind }
-    ensures after { (f : Forest) → IsIn f result.after × (work_weight f result.after ≡ 1) }
-    ensures print { (f : Forest) (ts : List Tree) → result.before.now
-        ++ (print (top ts) ++ work_print f result.after) ≡ print (top (put kind.entry ts)) }
-    ensures weight { WeighsLess One kind.entry }
-{
-    match kind {
-        Kind::LimitUnder(name) => surrounded(limited_markup(name), Work::End(Ending::Under)),
-        Kind::Fenced(opening, close) => surrounded(opening_markup(opening), Work::Fence(close)),
-        Kind::Over(c, accent) => surrounded("<mover>", Work::SignOver(c, accent)),
-        Kind::Under(c, accent) => surrounded("<munder>", Work::SignUnder(c, accent)),
-        Kind::Overbrace(c) => surrounded("<mover>", Work::BraceOver(c)),
-        Kind::Underbrace(c) => surrounded("<munder>", Work::BraceUnder(c)),
-        _ => unreachable!(),
-    }
-}
-
-/// Returns what is before an operand and after it.
-#[inline(always)]
-fn surrounded(before: &'static str, after: Work) -> Surroundings
-    ensures before { result.before ≡ before.entry }
-    ensures after { result.after ≡ after }
-{
-    Surroundings { before, after }
-}
-
-/// Returns the shape of operands between two tags.
-#[inline(always)]
-fn around(opening: Opening, operands: Operands, ending: Ending) -> Option<Shape>
-    ensures { result ≡ Some (shape_with opening None operands ending) }
-{
-    Some(Shape {
-        opening,
-        sign: None,
-        operands,
-        ending,
-    })
-}
-
-/// Returns the shape of operands between two tags, with an operator before the operands.
-#[inline(always)]
-fn signed(opening: Opening, sign: char, operands: Operands, ending: Ending) -> Option<Shape>
-    ensures { result ≡ Some (shape_with opening (Some sign) operands ending) }
-{
-    Some(Shape {
-        opening,
-        sign: Some(sign),
-        operands,
-        ending,
-    })
 }

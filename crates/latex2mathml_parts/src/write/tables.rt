@@ -2,11 +2,11 @@
 ghost use Rattle.std.specs.Prelude.{◌≡◌, ◌++◌, IfSome, codes};
 ghost use Rattle.latex2mathml_trees.specs.Print.{print};
 ghost use Rattle.latex2mathml_trees.specs.Tree.{function, letter, space};
-ghost use Rattle.latex2mathml_tokens.specs.{Attributes.variant_text, Escape.value};
+ghost use Rattle.latex2mathml_tokens.specs.{Attributes.accent_text, Attributes.variant_text, Escape.value};
 ghost use Rattle.latex2mathml_tokens.specs.Names.{function_text, limit_text, size_text};
 ghost use Rattle.latex2mathml_tokens.specs.declared.attribute.Variant.TheVariants.{Italic};
 
-use latex2mathml_tokens::attribute::Variant;
+use latex2mathml_tokens::attribute::{Accent, Variant};
 use latex2mathml_tokens::names::{FunctionName, LimitName, Size};
 
 /// The element of a character or a number between two texts, if it is one of these. Some are written as another text.
@@ -61,6 +61,16 @@ pub(crate) fn letter_open(variant: Variant) -> &'static str
         BoldSansSerif => "bold-sans-serif", SansSerifItalic => "sans-serif-italic",
         SansSerifBoldItalic => "sans-serif-bold-italic", Monospace => "monospace",
     )
+}
+
+/// Returns the tag before a sign over a tree or under it.
+pub(crate) fn sign_open(accent: Accent) -> &'static str
+    ensures { result.now ≡ codes "<mo accent=\"" ++ (accent_text accent ++ codes "\">") }
+{
+    match accent {
+        Accent::True => "<mo accent=\"true\">",
+        Accent::False => "<mo accent=\"false\">",
+    }
 }
 
 /// Returns the tag before a parenthesis of this size.
