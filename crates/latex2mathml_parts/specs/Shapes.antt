@@ -1,8 +1,8 @@
 -- The markup of parts with operands: what precedes the operands, what is between them and what follows them.
 use Rattle.std.specs.Prelude.{◌≡◌, ℕ, ◌+◌, ◌*◌, ◌≤◌, List, ◌++◌, codes, drop}
 use Rattle.latex2mathml_trees.specs.{Print.print, Tree.Tree, Tree.operator, Tree.sized_paren, Tree.slashed, Weight.weight}
-use Rattle.latex2mathml_tokens.specs.{Attributes.accent_text, Attributes.variant_text, Escape.content, Escape.content_char, Names.paren_text, Names.size_text}
-use Rattle.latex2mathml_tokens.specs.{declared.attribute.Variant.Variant, declared.names.Paren.Paren, declared.names.Size.Size}
+use Rattle.latex2mathml_tokens.specs.{Attributes.accent_text, Escape.content, Escape.content_char, Names.paren_text, Names.size_text}
+use Rattle.latex2mathml_tokens.specs.{declared.names.Paren.Paren, declared.names.Size.Size}
 use Rattle.latex2mathml_parts.specs.{Forms.put_form, Parts.arity, Parts.fence_text, Parts.put, Parts.top, declared.form.Form.Form, declared.kind.Kind.Kind}
 use Rattle.latex2mathml_parts.specs.{Tags.ending_text, Tags.opening_text}
 use Rattle.latex2mathml_parts.specs.declared.write.shapes.{After.After, Before.Before, Operands.Operands, Shape.Shape}
@@ -24,14 +24,6 @@ fence_open text = codes "<mrow><mo stretchy=\"true\" form=\"prefix\">" ++ (conte
 
 abbrev pub fence_close : List ℕ → List ℕ
 fence_close text = codes "<mo stretchy=\"true\" form=\"postfix\">" ++ (content text ++ codes "</mo></mrow>")
-
--- a letter in a style that is named
-abbrev pub styled_print : ℕ → Variant → List ℕ
-styled_print c variant = codes "<mi mathvariant=\"" ++ (variant_text variant ++ (codes "\">" ++ (content_char c ++ codes "</mi>")))
-
--- an operator that is not in italics
-abbrev pub upright_print : ℕ → List ℕ
-upright_print c = codes "<mo>" ++ (content_char c ++ codes "</mo>")
 
 -- a parenthesis of a size of its own
 abbrev pub sized_print : Size → Paren → List ℕ

@@ -5,7 +5,7 @@ ghost use Rattle.latex2mathml_trees.specs.Tree.{Tree, letter, number, operator, 
 ghost use Rattle.latex2mathml_parts.specs.{Parts.arity, Parts.put, Parts.top};
 ghost use Rattle.latex2mathml_parts.specs.Plain.{IsPlain, plain_print};
 ghost use Rattle.latex2mathml_parts.specs.Shapes.{HidesSlash, sized_print};
-ghost use Rattle.latex2mathml_parts.specs.Shapes.{slashed_print, styled_print, upright_print};
+ghost use Rattle.latex2mathml_parts.specs.Shapes.{slashed_print};
 ghost use Rattle.latex2mathml_tokens.specs.{Escape.content, Escape.content_char};
 ghost use Rattle.latex2mathml_tokens.specs.declared.attribute.Variant.TheVariants.{Italic};
 
@@ -46,48 +46,35 @@ pub fn write_leaf(kind: Kind, out: &mut String) -> Result<(), AllocError>
 pub(crate) fn write_letter(c: char, variant: Variant, out: &mut String) -> Result<(), AllocError>
     ensures { Appends out.old out.new (print (letter c variant)) result }
 {
-    if let Variant::Italic = variant {
-        if is_plain(c) {
-            return write_plain(b'i', c as u8, out);
-        }
-        return write_other_letter(c, out);
+    match variant {
+        Variant::Italic if is_plain(c) => write_plain(b'i', c as u8, out),
+        _ => write_other_letter(c, variant, out),
     }
-    write_variant(c, variant, out)
 }
 
-/// Writes a letter that has a style.
+/// Writes any letter.
 #[inline(never)]
-fn write_variant(c: char, variant: Variant, out: &mut String) -> Result<(), AllocError>
-    ensures { Appends out.old out.new (styled_print c variant) result }
+fn write_other_letter(c: char, variant: Variant, out: &mut String) -> Result<(), AllocError>
+    ensures { Appends out.old out.new (print (letter c variant)) result }
 {
-    write_char(letter_open(variant), c, "</mi>", out)
-}
-
-/// Writes any italic letter.
-#[inline(never)]
-fn write_other_letter(c: char, out: &mut String) -> Result<(), AllocError>
-    ensures { Appends out.old out.new (print (letter c Italic)) result }
-{
-    match greek_markup(c) {
-        Some(markup) => out.push_str(markup),
-        None => write_char("<mi>", c, "</mi>", out),
+    match variant {
+        Variant::Italic => match greek_markup(c) {
+            Some(markup) => out.push_str(markup),
+            None => write_char("<mi>", c, "</mi>", out),
+        },
+        _ => write_char(letter_open(variant), c, "</mi>", out),
     }
 }
 
 /// Writes an operator.
 #[inline(never)]
-#[tactic(auto, unfolding(crate::proofs::Encoding::encode_utf8))]
 pub(crate) fn write_operator(c: char, out: &mut String) -> Result<(), AllocError>
     ensures { Appends out.old out.new (print (operator c)) result }
 {
     if is_plain(c) {
         return write_plain(b'o', c as u8, out);
     }
-    match c {
-        '<' => out.push_str("<mo>&lt;</mo>"),
-        '>' => out.push_str("<mo>&gt;</mo>"),
-        _ => write_other_operator(c, out),
-    }
+    write_other_operator(c, out)
 }
 
 /// Writes any operator.
@@ -97,6 +84,8 @@ fn write_other_operator(c: char, out: &mut String) -> Result<(), AllocError>
     ensures { Appends out.old out.new (print (operator c)) result }
 {
     match c {
+        '<' => out.push_str("<mo>&lt;</mo>"),
+        '>' => out.push_str("<mo>&gt;</mo>"),
         '±' => out.push_str("<mo>±</mo>"),
         '·' => out.push_str("<mo>·</mo>"),
         '×' => out.push_str("<mo>×</mo>"),
@@ -108,18 +97,8 @@ fn write_other_operator(c: char, out: &mut String) -> Result<(), AllocError>
         '≤' => out.push_str("<mo>≤</mo>"),
         '≥' => out.push_str("<mo>≥</mo>"),
         '∂' => out.push_str("<mo mathvariant=\"italic\">∂</mo>"),
-        _ => write_rare_operator(c, out),
+        _ => write_char("<mo>", c, "</mo>", out),
     }
-}
-
-/// Writes any operator that is not in italics.
-#[inline(never)]
-fn write_rare_operator(c: char, out: &mut String) -> Result<(), AllocError>
-    ensures { Appends out.old out.new (upright_print c) result }
-{
-    out.push_str("<mo>")?;
-    append_content_char(c, out)?;
-    out.push_str("</mo>")
 }
 
 /// Writes a number.
