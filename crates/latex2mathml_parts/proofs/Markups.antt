@@ -4,8 +4,6 @@ use Rattle.std.specs.Fmt.{digits}
 use Rattle.latex2mathml_tokens.specs.declared.DisplayStyle.TheVariants.{Block, Inline}
 use Rattle.latex2mathml_parts.specs.Shapes.{IsShapeOf}
 use Rattle.latex2mathml_parts.specs.declared.kind.Kind.TheVariants as kind
-use Rattle.latex2mathml_parts.specs.declared.write.shapes.After.TheVariants as after
-use Rattle.latex2mathml_parts.specs.declared.write.shapes.Before.TheVariants as before
 use Rattle.latex2mathml_parts.specs.declared.write.shapes.Operands.TheVariants as operands
 use Rattle.latex2mathml_parts.specs.declared.write.tags.Ending.TheVariants as ending
 use Rattle.latex2mathml_parts.specs.declared.write.tags.Opening.TheVariants as opening
@@ -15,15 +13,15 @@ pub appended : {T E : Type 0} (r : Result T E) (new a b : List ℕ) → new ≡ 
 appended (Ok x) new a b h = h
 appended (Err e) new a b h = tt
 
-pub binom_shape : IsShapeOf (kind.Binom None) (record { 0 = before.Open opening.Binom; 1 = operands.Two; 2 = after.Close ending.Binom })
+pub binom_shape : IsShapeOf (kind.Binom None) (record { 0 = opening.Binom; 1 = None; 2 = operands.Two; 3 = ending.Binom })
 unfolding digits
 binom_shape = record { count = refl; markup = λ ts. simp append_assoc; weighs = λ ts. omega arith }
 
-pub block_shape : IsShapeOf (kind.Binom (Some Block)) (record { 0 = before.Open opening.BlockBinom; 1 = operands.Two; 2 = after.Close ending.StyledBinom })
+pub block_shape : IsShapeOf (kind.Binom (Some Block)) (record { 0 = opening.BlockBinom; 1 = None; 2 = operands.Two; 3 = ending.StyledBinom })
 unfolding digits
 block_shape = record { count = refl; markup = λ ts. simp append_assoc; weighs = λ ts. omega arith }
 
-pub inline_shape : IsShapeOf (kind.Binom (Some Inline)) (record { 0 = before.Open opening.InlineBinom; 1 = operands.Two; 2 = after.Close ending.StyledBinom })
+pub inline_shape : IsShapeOf (kind.Binom (Some Inline)) (record { 0 = opening.InlineBinom; 1 = None; 2 = operands.Two; 3 = ending.StyledBinom })
 unfolding digits
 inline_shape = record { count = refl; markup = λ ts. simp append_assoc; weighs = λ ts. omega arith }
 

@@ -1,8 +1,8 @@
 //! What is still to be written.
 
-use crate::write::shapes::After;
-use crate::write::tags::Opening;
-use latex2mathml_tokens::attribute::Variant;
+use crate::write::tags::{Ending, Opening};
+use latex2mathml_tokens::attribute::{Accent, Variant};
+use latex2mathml_tokens::names::Paren;
 use std::alloc::Global;
 
 /// Room for what is still to be written, which one formula leaves to the next.
@@ -27,8 +27,13 @@ pub(crate) enum Work {
     Tree(usize),
     /// The same, in a style.
     Styled(Variant, usize),
+    End(Ending),
     /// What opens an element, and the brace in it.
     Brace(Opening, char),
-    /// What follows operands or members.
-    After(After),
+    /// A brace and what ends its element.
+    LastBrace(char, Ending),
+    /// A sign and what ends its element.
+    LastSign(char, Accent, Ending),
+    /// A closing fence and what ends its element.
+    LastFence(Option<Paren>, Ending),
 }

@@ -10,7 +10,7 @@ mod fences;
 mod groups;
 mod leaves;
 mod operands;
-pub(crate) mod shapes;
+mod shapes;
 mod tables;
 pub(crate) mod tags;
 
@@ -18,12 +18,12 @@ use crate::form::Form;
 use crate::kind::Kind;
 use crate::parts::Parts;
 use crate::work::{Work, Works};
-use crate::write::fences::stretched_markup;
+use crate::write::fences::{closing_markup, stretched_markup};
 use crate::write::groups::Group;
 use crate::write::leaves::{
     write_char, write_letter, write_number, write_operator, write_slashed, write_text,
 };
-use crate::write::shapes::Before::Signed;
+use crate::write::tables::sign_open;
 use latex2mathml_tokens::attribute::Variant;
 use latex2mathml_trees::append::append_undefined;
 pub use leaves::write_leaf;
@@ -69,8 +69,23 @@ impl Parts<'_> {
         match work {
             Work::Tree(end) => return Ok(Some(end)),
             Work::Styled(variant, end) => return self.write_styled(variant, end, works, out),
-            Work::Brace(opening, c) => Signed(opening, c).append(out)?,
-            Work::After(after) => after.append(out)?,
+            Work::End(ending) => ending.append(out)?,
+            Work::Brace(opening, c) => {
+                opening.append(out)?;
+                write_operator(c, out)?
+            }
+            Work::LastBrace(c, ending) => {
+                write_operator(c, out)?;
+                ending.append(out)?
+            }
+            Work::LastSign(c, accent, ending) => {
+                write_char(sign_open(accent), c, "</mo>", out)?;
+                ending.append(out)?
+            }
+            Work::LastFence(fence, ending) => {
+                out.push_str(closing_markup(fence))?;
+                ending.append(out)?
+            }
         }
         Ok(None)
     }

@@ -12,7 +12,6 @@ use crate::form::Form;
 use crate::kind::Kind;
 use crate::parts::Parts;
 use crate::work::Work;
-use crate::write::shapes::After::Close;
 use crate::write::tags::{Ending, Opening};
 use latex2mathml_tokens::attribute::{ColumnAlign, Variant};
 use std::alloc::AllocError;
@@ -93,7 +92,7 @@ impl Parts<'_> {
             group.ending().append(out)?;
             return Ok(());
         }
-        self.push_work(Work::After(Close(group.ending())), works)?;
+        self.push_work(Work::End(group.ending()), works)?;
         self.push_members(group, count, style, end, works)?;
         Ok(())
     }
@@ -173,7 +172,7 @@ impl Parts<'_> {
         ensures weight { work_weight self.now result ≤ print_weight (tree_at self.now end) }
     {
         if let Some(ending) = self.mark(group, end) {
-            return Work::After(Close(ending));
+            return Work::End(ending);
         }
         match style {
             None => Work::Tree(end),

@@ -99,26 +99,12 @@ pub(crate) fn function_markup(name: FunctionName) -> &'static str
     )
 }
 
-/// The names of functions that take a limit, between two texts.
-macro_rules! limits {
-    ($name:ident, $before:literal, $after:literal) => {
-        texts!($name, $before, $after, LimitName,
-            Lim => "lim", LimInf => "lim inf", LimSup => "lim sup", Min => "min", Max => "max", Inf => "inf",
-            Sup => "sup",
-        )
-    };
-}
-
 /// Returns the markup of the name of a function that takes a limit.
 pub(crate) fn limit_markup(name: LimitName) -> &'static str
     ensures { result.now ≡ print (function (limit_text name)) }
 {
-    limits!(name, "<mi>", "</mi>")
-}
-
-/// Returns the markup of such a name, and what precedes it where it has a limit.
-pub(crate) fn limited_markup(name: LimitName) -> &'static str
-    ensures { result.now ≡ codes "<munder>" ++ print (function (limit_text name)) }
-{
-    limits!(name, "<munder><mi>", "</mi>")
+    texts!(name, "<mi>", "</mi>", LimitName,
+        Lim => "lim", LimInf => "lim inf", LimSup => "lim sup", Min => "min", Max => "max", Inf => "inf",
+        Sup => "sup",
+    )
 }
