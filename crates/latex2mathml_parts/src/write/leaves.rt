@@ -4,6 +4,7 @@ ghost use Rattle.latex2mathml_trees.specs.{Print.print, Texts.Appends};
 ghost use Rattle.latex2mathml_trees.specs.Tree.{Tree, letter, number, operator, space};
 ghost use Rattle.latex2mathml_parts.specs.{Parts.arity, Parts.put, Parts.top};
 ghost use Rattle.latex2mathml_parts.specs.Plain.{IsPlain, plain_print};
+ghost use Rattle.latex2mathml_parts.specs.Shapes.{styled_print};
 ghost use Rattle.latex2mathml_parts.specs.Shapes.{HidesSlash, sized_print};
 ghost use Rattle.latex2mathml_parts.specs.Shapes.{slashed_print};
 ghost use Rattle.latex2mathml_tokens.specs.{Escape.content, Escape.content_char};
@@ -46,23 +47,31 @@ pub fn write_leaf(kind: Kind, out: &mut String) -> Result<(), AllocError>
 pub(crate) fn write_letter(c: char, variant: Variant, out: &mut String) -> Result<(), AllocError>
     ensures { Appends out.old out.new (print (letter c variant)) result }
 {
-    match variant {
-        Variant::Italic if is_plain(c) => write_plain(b'i', c as u8, out),
-        _ => write_other_letter(c, variant, out),
+    if let Variant::Italic = variant {
+        if is_plain(c) {
+            return write_plain(b'i', c as u8, out);
+        }
+        return write_other_letter(c, out);
     }
+    write_variant(c, variant, out)
 }
 
-/// Writes any letter.
+/// Writes a letter that has a style.
 #[inline(never)]
-fn write_other_letter(c: char, variant: Variant, out: &mut String) -> Result<(), AllocError>
-    ensures { Appends out.old out.new (print (letter c variant)) result }
+fn write_variant(c: char, variant: Variant, out: &mut String) -> Result<(), AllocError>
+    ensures { Appends out.old out.new (styled_print c variant) result }
 {
-    match variant {
-        Variant::Italic => match greek_markup(c) {
-            Some(markup) => out.push_str(markup),
-            None => write_char("<mi>", c, "</mi>", out),
-        },
-        _ => write_char(letter_open(variant), c, "</mi>", out),
+    write_char(letter_open(variant), c, "</mi>", out)
+}
+
+/// Writes any italic letter.
+#[inline(never)]
+fn write_other_letter(c: char, out: &mut String) -> Result<(), AllocError>
+    ensures { Appends out.old out.new (print (letter c Italic)) result }
+{
+    match greek_markup(c) {
+        Some(markup) => out.push_str(markup),
+        None => write_char("<mi>", c, "</mi>", out),
     }
 }
 
