@@ -1,9 +1,9 @@
 -- The markup of parts with operands: what precedes the operands, what is between them and what follows them.
 use Rattle.std.specs.Prelude.{◌≡◌, ℕ, ◌+◌, ◌*◌, ◌≤◌, List, ◌++◌, Option, Some, None, codes, drop}
-use Rattle.latex2mathml_trees.specs.{Print.print, Tree.Tree, Tree.function, Tree.operator, Tree.sized_paren, Tree.slashed, Weight.weight}
-use Rattle.latex2mathml_tokens.specs.{Attributes.accent_text, Attributes.variant_text, Escape.content, Escape.content_char, Names.limit_text, Names.paren_text, Names.size_text}
-use Rattle.latex2mathml_tokens.specs.{declared.attribute.Accent.Accent, declared.attribute.Variant.Variant, declared.names.Paren.Paren, declared.names.Size.Size}
-use Rattle.latex2mathml_parts.specs.{Forms.put_form, Parts.arity, Parts.fence_text, Parts.put, Parts.top, declared.form.Form.Form, declared.kind.Kind.Kind}
+use Rattle.latex2mathml_trees.specs.{Print.print, Tree.Tree, Tree.function, Tree.operator, Weight.weight}
+use Rattle.latex2mathml_tokens.specs.{Attributes.accent_text, Attributes.variant_text, Escape.content, Escape.content_char, Names.limit_text}
+use Rattle.latex2mathml_tokens.specs.{declared.attribute.Accent.Accent, declared.attribute.Variant.Variant}
+use Rattle.latex2mathml_parts.specs.{Parts.arity, Parts.fence_text, Parts.put, Parts.top, declared.kind.Kind.Kind}
 use Rattle.latex2mathml_parts.specs.{Tags.ending_text, Tags.opening_text, declared.write.tags.Opening.Opening}
 use Rattle.latex2mathml_parts.specs.declared.write.shapes.{Operands.Operands, Shape.Shape}
 use Rattle.latex2mathml_parts.specs.declared.write.shapes.Operands.TheVariants as operands
@@ -30,18 +30,6 @@ fence_close text = codes "<mo stretchy=\"true\" form=\"postfix\">" ++ (content t
 -- a letter in a style that is named
 abbrev pub styled_print : ℕ → Variant → List ℕ
 styled_print c variant = codes "<mi mathvariant=\"" ++ (variant_text variant ++ (codes "\">" ++ (content_char c ++ codes "</mi>")))
-
--- a parenthesis of a size of its own
-abbrev pub sized_print : Size → Paren → List ℕ
-sized_print size paren = print (sized_paren (size_text size) (paren_text paren))
-
--- the element of this form with a slash through it
-abbrev pub slashed_print : List (List ℕ) → Form → List Tree → List ℕ
-slashed_print texts f ts = print (slashed (top (put_form texts f ts)))
-
--- a slash through an element of this form is not shown
-abbrev pub HidesSlash : Form → Type 0
-HidesSlash f = (texts : List (List ℕ)) (ts : List Tree) → slashed_print texts f ts ≡ print (top (put_form texts f ts))
 
 -- what precedes the first operand
 abbrev pub opening_print : Opening → Option ℕ → List ℕ

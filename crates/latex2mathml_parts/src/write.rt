@@ -20,10 +20,8 @@ use crate::parts::Parts;
 use crate::work::{Work, Works};
 use crate::write::fences::{closing_markup, stretched_markup};
 use crate::write::groups::Group;
-use crate::write::leaves::{
-    write_char, write_letter, write_number, write_operator, write_slashed, write_text,
-};
-use crate::write::tables::sign_open;
+use crate::write::leaves::{write_char, write_letter, write_number, write_operator, write_text};
+use crate::write::tables::{letter_open, sign_open};
 use latex2mathml_tokens::attribute::Variant;
 use latex2mathml_trees::append::append_undefined;
 pub use leaves::write_leaf;
@@ -223,9 +221,13 @@ impl Parts<'_> {
             (begun_weight (slashed (tree_at self.now end)))) }
     {
         let _ = works;
-        if write_slashed(self.part_at(end).form, out)? {
-            return Ok(None);
+        match self.part_at(end).form {
+            Form::Of(Kind::Letter(c, variant)) => {
+                write_char(letter_open(variant), c, "&#x0338;</mi>", out)?
+            }
+            Form::Of(Kind::Operator(c)) => write_char("<mo>", c, "&#x0338;</mo>", out)?,
+            _ => return Ok(Some(end)),
         }
-        Ok(Some(end))
+        Ok(None)
     }
 }

@@ -1,23 +1,19 @@
 //! Leaves, each as one element.
-ghost use Rattle.std.specs.Prelude.{◌≡◌, ◌++◌, ◌<◌, ℕ, List, [], IfOk, IsTrue, MatchBool, string_bytes};
+ghost use Rattle.std.specs.Prelude.{◌≡◌, ◌++◌, ◌<◌, [], IsTrue};
 ghost use Rattle.latex2mathml_trees.specs.{Print.print, Texts.Appends};
-ghost use Rattle.latex2mathml_trees.specs.Tree.{Tree, letter, number, operator, space};
+ghost use Rattle.latex2mathml_trees.specs.Tree.{letter, number, operator};
 ghost use Rattle.latex2mathml_parts.specs.{Parts.arity, Parts.put, Parts.top};
 ghost use Rattle.latex2mathml_parts.specs.Plain.{IsPlain, plain_print};
 ghost use Rattle.latex2mathml_parts.specs.Shapes.{styled_print};
-ghost use Rattle.latex2mathml_parts.specs.Shapes.{HidesSlash, sized_print};
-ghost use Rattle.latex2mathml_parts.specs.Shapes.{slashed_print};
 ghost use Rattle.latex2mathml_tokens.specs.{Escape.content, Escape.content_char};
 ghost use Rattle.latex2mathml_tokens.specs.declared.attribute.Variant.TheVariants.{Italic};
 
-use crate::form::Form;
 use crate::kind::Kind;
 use crate::write::fences::paren_markup;
 use crate::write::tables::{
     function_markup, greek_markup, letter_open, limit_markup, size_open, space_markup,
 };
-use latex2mathml_tokens::attribute::{Accent, Variant};
-use latex2mathml_tokens::names::{Paren, Size};
+use latex2mathml_tokens::attribute::Variant;
 use latex2mathml_trees::append::{append_content, append_content_char, append_space};
 use std::alloc::AllocError;
 
@@ -34,10 +30,15 @@ pub fn write_leaf(kind: Kind, out: &mut String) -> Result<(), AllocError>
         Kind::Paren(paren) => out.push_str(paren_markup(paren)),
         Kind::Ampersand => out.push_str("<mtext>[PARSE ERROR: Ampersand]</mtext>"),
         Kind::NewLine => out.push_str("<mtext>[PARSE ERROR: NewLine]</mtext>"),
-        Kind::Space(width) => write_space(width, out),
+        Kind::Space(width) => match space_markup(width) {
+            Some(markup) => out.push_str(markup),
+            None => append_space(width, out),
+        },
         Kind::Function(name) => out.push_str(function_markup(name)),
         Kind::Limit(name) => out.push_str(limit_markup(name)),
-        Kind::SizedParen(size, paren) => write_sized(size, paren, out),
+        Kind::SizedParen(size, paren) => {
+            write_text(size_open(size), paren.text(), "</mo></mrow>", out)
+        }
         _ => unreachable!(),
     }
 }
@@ -149,44 +150,6 @@ fn write_plain(letter: u8, c: u8, out: &mut String) -> Result<(), AllocError>
 {
     let bytes = [b'<', b'm', letter, b'>', c, b'<', b'/', b'm', letter, b'>'];
     out.push_str(unsafe { str::from_utf8_unchecked(&bytes) })
-}
-
-/// Writes a letter or an operator with a slash through it, and returns whether the form is one.
-pub(crate) fn write_slashed(form: Form, out: &mut String) -> Result<bool, AllocError>
-    ensures print { IfOk result (λ written. MatchBool written
-        ((texts : List (List ℕ)) (ts : List Tree)
-        → string_bytes out.new ≡ string_bytes out.old ++ slashed_print texts form.entry ts)
-        ((string_bytes out.new ≡ string_bytes out.old) × HidesSlash form.entry)) }
-{
-    match form {
-        Form::Of(Kind::Letter(c, variant)) => {
-            write_char(letter_open(variant), c, "&#x0338;</mi>", out)?;
-            Ok(true)
-        }
-        Form::Of(Kind::Operator(c)) => {
-            write_char("<mo>", c, "&#x0338;</mo>", out)?;
-            Ok(true)
-        }
-        _ => Ok(false),
-    }
-}
-
-/// Writes a space of this width, in eighteenths of an em.
-fn write_space(width: i32, out: &mut String) -> Result<(), AllocError>
-    ensures { Appends out.old out.new (print (space width)) result }
-{
-    match space_markup(width) {
-        Some(markup) => out.push_str(markup),
-        None => append_space(width, out),
-    }
-}
-
-/// Writes a parenthesis of a size of its own.
-fn write_sized(size: Size, paren: Paren, out: &mut String) -> Result<(), AllocError>
-    ensures { Appends out.old out.new (sized_print size paren) result }
-{
-    write_text(size_open(size), paren.text(), "</mo></mrow>", out)?;
-    Ok(())
 }
 
 /// Writes a text as contents, between two tags.
