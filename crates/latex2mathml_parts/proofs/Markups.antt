@@ -2,7 +2,7 @@
 use Rattle.std.proofs.Common.{◌≡◌, ℕ, List, append_assoc, arith, refl, None, Some, Result, Ok, Err, OnOk, is_ok, if◌then◌else◌}
 use Rattle.std.specs.Fmt.{digits}
 use Rattle.latex2mathml_tokens.specs.declared.DisplayStyle.TheVariants.{Block, Inline}
-use Rattle.latex2mathml_parts.specs.{Shapes.IsShapeOf, Shapes.shape_with}
+use Rattle.latex2mathml_parts.specs.Shapes.{IsShapeOf}
 use Rattle.latex2mathml_parts.specs.declared.kind.Kind.TheVariants as kind
 use Rattle.latex2mathml_parts.specs.declared.write.shapes.Operands.TheVariants as operands
 use Rattle.latex2mathml_parts.specs.declared.write.tags.Ending.TheVariants as ending
@@ -13,15 +13,15 @@ pub appended : {T E : Type 0} (r : Result T E) (new a b : List ℕ) → new ≡ 
 appended (Ok x) new a b h = h
 appended (Err e) new a b h = tt
 
-pub binom_shape : IsShapeOf (kind.Binom None) (shape_with opening.Binom None operands.Two ending.Binom)
+pub binom_shape : IsShapeOf (kind.Binom None) (record { 0 = opening.Binom; 1 = None; 2 = operands.Two; 3 = ending.Binom })
 unfolding digits
 binom_shape = record { count = refl; markup = λ ts. simp append_assoc; weighs = λ ts. omega arith }
 
-pub block_shape : IsShapeOf (kind.Binom (Some Block)) (shape_with opening.BlockBinom None operands.Two ending.StyledBinom)
+pub block_shape : IsShapeOf (kind.Binom (Some Block)) (record { 0 = opening.BlockBinom; 1 = None; 2 = operands.Two; 3 = ending.StyledBinom })
 unfolding digits
 block_shape = record { count = refl; markup = λ ts. simp append_assoc; weighs = λ ts. omega arith }
 
-pub inline_shape : IsShapeOf (kind.Binom (Some Inline)) (shape_with opening.InlineBinom None operands.Two ending.StyledBinom)
+pub inline_shape : IsShapeOf (kind.Binom (Some Inline)) (record { 0 = opening.InlineBinom; 1 = None; 2 = operands.Two; 3 = ending.StyledBinom })
 unfolding digits
 inline_shape = record { count = refl; markup = λ ts. simp append_assoc; weighs = λ ts. omega arith }
 

@@ -1,17 +1,16 @@
 -- The markup of parts with operands: what precedes the operands, what is between them and what follows them.
 use Rattle.std.specs.Prelude.{◌≡◌, ℕ, ◌+◌, ◌*◌, ◌≤◌, List, ◌++◌, Option, Some, None, codes, drop}
-use Rattle.latex2mathml_trees.specs.{Print.print, Tree.Tree, Tree.operator, Tree.sized_paren, Tree.slashed, Weight.weight}
-use Rattle.latex2mathml_tokens.specs.{Attributes.accent_text, Attributes.variant_text, Escape.content, Escape.content_char, Names.paren_text, Names.size_text}
-use Rattle.latex2mathml_tokens.specs.{declared.attribute.Accent.Accent, declared.attribute.Variant.Variant, declared.names.Paren.Paren, declared.names.Size.Size}
-use Rattle.latex2mathml_parts.specs.{Forms.put_form, Parts.arity, Parts.put, Parts.top, declared.form.Form.Form, declared.kind.Kind.Kind}
-use Rattle.latex2mathml_parts.specs.{Tags.ending_text, Tags.opening_text, declared.write.tags.Ending.Ending, declared.write.tags.Opening.Opening}
+use Rattle.latex2mathml_trees.specs.{Print.print, Tree.Tree, Tree.function, Tree.operator, Weight.weight}
+use Rattle.latex2mathml_tokens.specs.{Attributes.accent_text, Attributes.variant_text, Escape.content, Escape.content_char, Names.limit_text}
+use Rattle.latex2mathml_tokens.specs.{declared.attribute.Accent.Accent, declared.attribute.Variant.Variant}
+use Rattle.latex2mathml_parts.specs.{Parts.arity, Parts.fence_text, Parts.put, Parts.top, declared.kind.Kind.Kind}
+use Rattle.latex2mathml_parts.specs.{Tags.ending_text, Tags.opening_text, declared.write.tags.Opening.Opening}
 use Rattle.latex2mathml_parts.specs.declared.write.shapes.{Operands.Operands, Shape.Shape}
-use Rattle.latex2mathml_parts.specs.declared.kind.Kind.TheVariants as kind
 use Rattle.latex2mathml_parts.specs.declared.write.shapes.Operands.TheVariants as operands
 
--- the sign over or under a tree, and what follows it
-abbrev pub sign_print : ℕ → Accent → List ℕ → List ℕ
-sign_print c accent after = codes "<mo accent=\"" ++ (accent_text accent ++ (codes "\">" ++ (content_char c ++ after)))
+-- a sign over or under a tree
+abbrev pub sign_print : ℕ → Accent → List ℕ
+sign_print c accent = codes "<mo accent=\"" ++ (accent_text accent ++ (codes "\">" ++ (content_char c ++ codes "</mo>")))
 
 -- how much there is to write of a tree: no more than eight works for it, and for each node and list in it
 abbrev pub print_weight : Tree → ℕ
@@ -21,32 +20,16 @@ print_weight x = weight x * 8 + 8
 abbrev pub begun_weight : Tree → ℕ
 begun_weight x = weight x * 8 + 7
 
--- the element of a fence that opens a group, or closes it, with the tag of the row around them
+-- a fence that opens a group, or closes it
 abbrev pub fence_open : List ℕ → List ℕ
-fence_open text = codes "<mrow><mo stretchy=\"true\" form=\"prefix\">" ++ (content text ++ codes "</mo>")
+fence_open text = codes "<mo stretchy=\"true\" form=\"prefix\">" ++ (content text ++ codes "</mo>")
 
 abbrev pub fence_close : List ℕ → List ℕ
-fence_close text = codes "<mo stretchy=\"true\" form=\"postfix\">" ++ (content text ++ codes "</mo></mrow>")
+fence_close text = codes "<mo stretchy=\"true\" form=\"postfix\">" ++ (content text ++ codes "</mo>")
 
 -- a letter in a style that is named
 abbrev pub styled_print : ℕ → Variant → List ℕ
 styled_print c variant = codes "<mi mathvariant=\"" ++ (variant_text variant ++ (codes "\">" ++ (content_char c ++ codes "</mi>")))
-
--- an operator that is not in italics
-abbrev pub upright_print : ℕ → List ℕ
-upright_print c = codes "<mo>" ++ (content_char c ++ codes "</mo>")
-
--- a parenthesis of a size of its own
-abbrev pub sized_print : Size → Paren → List ℕ
-sized_print size paren = print (sized_paren (size_text size) (paren_text paren))
-
--- the element of this form with a slash through it
-abbrev pub slashed_print : List (List ℕ) → Form → List Tree → List ℕ
-slashed_print texts f ts = print (slashed (top (put_form texts f ts)))
-
--- a slash through an element of this form is not shown
-abbrev pub HidesSlash : Form → Type 0
-HidesSlash f = (texts : List (List ℕ)) (ts : List Tree) → slashed_print texts f ts ≡ print (top (put_form texts f ts))
 
 -- what precedes the first operand
 abbrev pub opening_print : Opening → Option ℕ → List ℕ
@@ -55,8 +38,10 @@ opening_print o (Some c) = opening_text o ++ print (operator c)
 
 -- how many operands there are
 abbrev pub count_of : Operands → ℕ
-count_of operands.One = 1
-count_of o = 2
+count_of operands.Two = 2
+count_of operands.Swapped = 2
+count_of (operands.Labelled c) = 2
+count_of o = 1
 
 -- the operands, which are the last of these trees, and what follows them
 abbrev pub operands_print : Operands → List ℕ → List Tree → List ℕ → List ℕ
@@ -64,35 +49,24 @@ operands_print operands.One tag ts after = print (top ts) ++ after
 operands_print operands.Two tag ts after = print (top (drop 1 ts)) ++ (print (top ts) ++ after)
 operands_print operands.Swapped tag ts after = print (top ts) ++ (print (top (drop 1 ts)) ++ after)
 operands_print (operands.Labelled c) tag ts after = print (top (drop 1 ts)) ++ (tag ++ (print (operator c) ++ (print (top ts) ++ after)))
+operands_print (operands.Braced c) tag ts after = print (top ts) ++ (print (operator c) ++ after)
+operands_print (operands.Signed c accent) tag ts after = print (top ts) ++ (sign_print c accent ++ after)
+operands_print (operands.Named name) tag ts after = print (function (limit_text name)) ++ (print (top ts) ++ after)
+operands_print (operands.Fenced opening close) tag ts after = fence_open (fence_text opening) ++ (print (top ts) ++ (fence_close (fence_text close) ++ after))
 
 -- how much there is to write of the operands
 abbrev pub operands_weight : Operands → List Tree → ℕ
-operands_weight operands.One ts = print_weight (top ts)
-operands_weight o ts = print_weight (top (drop 1 ts)) + print_weight (top ts)
-
--- a part of this kind has more to write than its operands
-abbrev pub WeighsLess : Operands → Kind → Type 0
-WeighsLess o kind = (ts : List Tree) → operands_weight o ts + 4 ≤ print_weight (top (put kind ts))
-
-abbrev pub shape_with : Opening → Option ℕ → Operands → Ending → Shape
-shape_with o sign operands e = record { opening = o; sign = sign; operands = operands; ending = e }
+operands_weight operands.Two ts = print_weight (top (drop 1 ts)) + print_weight (top ts)
+operands_weight operands.Swapped ts = print_weight (top (drop 1 ts)) + print_weight (top ts)
+operands_weight (operands.Labelled c) ts = print_weight (top (drop 1 ts)) + print_weight (top ts)
+operands_weight o ts = print_weight (top ts)
 
 -- the operands of a shape, with what is before and after them
 abbrev pub shape_print : Shape → List Tree → List ℕ
-shape_print s ts = opening_print s.opening s.sign ++ operands_print s.operands (opening_text s.opening) ts (ending_text s.ending)
+shape_print s ts = opening_print s.0 s.1 ++ operands_print s.2 (opening_text s.0) ts (ending_text s.3)
 
--- a part of this kind has the shape
+-- a part of this kind has the shape, and more to write than its operands
 pub record IsShapeOf (k : Kind) (s : Shape) : Type 0 where
-  pub count : count_of s.operands ≡ arity k
+  pub count : count_of s.2 ≡ arity k
   pub markup : (ts : List Tree) → shape_print s ts ≡ print (top (put k ts))
-  pub weighs : WeighsLess s.operands k
-
--- a part of this kind has one operand, and no shape
-abbrev pub HasSurroundings : Kind → Type 0
-HasSurroundings (kind.LimitUnder name) = Unit {0}
-HasSurroundings (kind.Fenced opening close) = Unit {0}
-HasSurroundings (kind.Over c accent) = Unit {0}
-HasSurroundings (kind.Under c accent) = Unit {0}
-HasSurroundings (kind.Overbrace c) = Unit {0}
-HasSurroundings (kind.Underbrace c) = Unit {0}
-HasSurroundings k = ⊥
+  pub weighs : (ts : List Tree) → operands_weight s.2 ts + 4 ≤ print_weight (top (put k ts))

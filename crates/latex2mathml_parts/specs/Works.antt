@@ -1,5 +1,5 @@
 -- What is still to be written of a list of parts, as markup. The work that was put last is done first.
-use Rattle.std.specs.Prelude.{◌≡◌, ℕ, ◌+◌, ◌<◌, List, [], ◌++◌, Option, Some, None, String, Vec, codes, reverse, string_bytes, sum_by, take}
+use Rattle.std.specs.Prelude.{◌≡◌, ℕ, ◌+◌, ◌<◌, List, [], ◌++◌, Option, Some, None, String, Vec, reverse, string_bytes, sum_by, take}
 use Rattle.std.specs.declared.alloc.Global.{Global}
 use Rattle.std.specs.{List.All, List.flat_map}
 use Rattle.latex2mathml_trees.specs.{Print.print, Tree.operator}
@@ -12,12 +12,10 @@ abbrev pub work_print : Forest → Work → List ℕ
 work_print f (work.Tree end) = print (tree_at f end)
 work_print f (work.Styled variant end) = print (in_style (Some variant) (tree_at f end))
 work_print f (work.End ending) = ending_text ending
-work_print f (work.Fence fence) = fence_close (fence_text fence)
 work_print f (work.Brace opening c) = opening_text opening ++ print (operator c)
-work_print f (work.BraceOver c) = print (operator c) ++ codes "</mover>"
-work_print f (work.BraceUnder c) = print (operator c) ++ codes "</munder>"
-work_print f (work.SignOver c accent) = sign_print c accent (codes "</mo></mover>")
-work_print f (work.SignUnder c accent) = sign_print c accent (codes "</mo></munder>")
+work_print f (work.LastBrace c ending) = print (operator c) ++ ending_text ending
+work_print f (work.LastSign c accent ending) = sign_print c accent ++ ending_text ending
+work_print f (work.LastFence fence ending) = fence_close (fence_text fence) ++ ending_text ending
 
 abbrev pub due : Forest → List Work → List ℕ
 due f ws = flat_map (work_print f) (reverse ws)

@@ -28,16 +28,12 @@ pub(crate) enum Work {
     /// The same, in a style.
     Styled(Variant, usize),
     End(Ending),
-    /// The closing fence, and the end of its element.
-    Fence(Option<Paren>),
     /// What opens an element, and the brace in it.
     Brace(Opening, char),
-    /// The brace over a tree, and the end of its element.
-    BraceOver(char),
-    /// The brace under a tree, and the end of its element.
-    BraceUnder(char),
-    /// The sign over a tree, and the end of its element.
-    SignOver(char, Accent),
-    /// The sign under a tree, and the end of its element.
-    SignUnder(char, Accent),
+    /// A brace and what ends its element.
+    LastBrace(char, Ending),
+    /// A sign and what ends its element.
+    LastSign(char, Accent, Ending),
+    /// A closing fence and what ends its element.
+    LastFence(Option<Paren>, Ending),
 }

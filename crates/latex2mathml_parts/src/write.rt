@@ -20,12 +20,9 @@ use crate::parts::Parts;
 use crate::work::{Work, Works};
 use crate::write::fences::{closing_markup, stretched_markup};
 use crate::write::groups::Group;
-use crate::write::leaves::{
-    write_brace, write_char, write_letter, write_number, write_operator, write_sign, write_slashed,
-    write_text,
-};
+use crate::write::leaves::{write_char, write_letter, write_number, write_operator, write_text};
+use crate::write::tables::{letter_open, sign_open};
 use latex2mathml_tokens::attribute::Variant;
-use latex2mathml_tokens::names::Paren;
 use latex2mathml_trees::append::append_undefined;
 pub use leaves::write_leaf;
 use std::alloc::AllocError;
@@ -71,15 +68,22 @@ impl Parts<'_> {
             Work::Tree(end) => return Ok(Some(end)),
             Work::Styled(variant, end) => return self.write_styled(variant, end, works, out),
             Work::End(ending) => ending.append(out)?,
-            Work::Fence(fence) => write_fence(fence, out)?,
             Work::Brace(opening, c) => {
                 opening.append(out)?;
                 write_operator(c, out)?
             }
-            Work::BraceOver(c) => write_brace(c, "</mover>", out)?,
-            Work::BraceUnder(c) => write_brace(c, "</munder>", out)?,
-            Work::SignOver(c, accent) => write_sign(c, accent, "</mo></mover>", out)?,
-            Work::SignUnder(c, accent) => write_sign(c, accent, "</mo></munder>", out)?,
+            Work::LastBrace(c, ending) => {
+                write_operator(c, out)?;
+                ending.append(out)?
+            }
+            Work::LastSign(c, accent, ending) => {
+                write_char(sign_open(accent), c, "</mo>", out)?;
+                ending.append(out)?
+            }
+            Work::LastFence(fence, ending) => {
+                out.push_str(closing_markup(fence))?;
+                ending.append(out)?
+            }
         }
         Ok(None)
     }
@@ -217,17 +221,13 @@ impl Parts<'_> {
             (begun_weight (slashed (tree_at self.now end)))) }
     {
         let _ = works;
-        if write_slashed(self.part_at(end).form, out)? {
-            return Ok(None);
+        match self.part_at(end).form {
+            Form::Of(Kind::Letter(c, variant)) => {
+                write_char(letter_open(variant), c, "&#x0338;</mi>", out)?
+            }
+            Form::Of(Kind::Operator(c)) => write_char("<mo>", c, "&#x0338;</mo>", out)?,
+            _ => return Ok(Some(end)),
         }
-        Ok(Some(end))
+        Ok(None)
     }
-}
-
-/// Writes a closing fence, and the end of its element.
-#[inline(never)]
-fn write_fence(fence: Option<Paren>, out: &mut String) -> Result<(), AllocError>
-    ensures { Appends out.old out.new (fence_close (fence_text fence)) result }
-{
-    out.push_str(closing_markup(fence))
 }

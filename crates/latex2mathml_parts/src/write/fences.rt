@@ -41,32 +41,24 @@ pub(crate) fn stretched_markup(paren: Paren) -> &'static str
     between!(paren, "<mo stretchy=\"true\">", "</mo>")
 }
 
-/// Returns an opening fence, which may be missing, and what precedes it.
+/// Returns an opening fence, which may be missing.
 #[tactic(auto, unfolding(crate::proofs::Encoding::encode_utf8))]
 pub(crate) fn opening_markup(fence: Option<Paren>) -> &'static str
     ensures { result.now ≡ fence_open (fence_text fence) }
 {
     match fence {
-        None => "<mrow><mo stretchy=\"true\" form=\"prefix\"></mo>",
-        Some(paren) => between!(
-            paren,
-            "<mrow><mo stretchy=\"true\" form=\"prefix\">",
-            "</mo>"
-        ),
+        None => "<mo stretchy=\"true\" form=\"prefix\"></mo>",
+        Some(paren) => between!(paren, "<mo stretchy=\"true\" form=\"prefix\">", "</mo>"),
     }
 }
 
-/// Returns a closing fence, which may be missing, and what follows it.
+/// Returns a closing fence, which may be missing.
 #[tactic(auto, unfolding(crate::proofs::Encoding::encode_utf8))]
 pub(crate) fn closing_markup(fence: Option<Paren>) -> &'static str
     ensures { result.now ≡ fence_close (fence_text fence) }
 {
     match fence {
-        None => "<mo stretchy=\"true\" form=\"postfix\"></mo></mrow>",
-        Some(paren) => between!(
-            paren,
-            "<mo stretchy=\"true\" form=\"postfix\">",
-            "</mo></mrow>"
-        ),
+        None => "<mo stretchy=\"true\" form=\"postfix\"></mo>",
+        Some(paren) => between!(paren, "<mo stretchy=\"true\" form=\"postfix\">", "</mo>"),
     }
 }

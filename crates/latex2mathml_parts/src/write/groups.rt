@@ -1,7 +1,7 @@
 //! Groups of trees: rows and matrices.
 ghost use Rattle.std.specs.Prelude.{◌≡◌, ◌+◌, ◌-◌, ◌≤◌, ◌<◌, ℕ, true, OnOk, drop, length, MatchOption, None};
 ghost use Rattle.latex2mathml_trees.specs.{Print.print, Texts.Appends};
-ghost use Rattle.latex2mathml_parts.specs.Forests.{AreLeaves, IsLeaf, IsPlace, members_at, tree_at, trees_at};
+ghost use Rattle.latex2mathml_parts.specs.Forests.{AreLeaves, IsPlace, members_at, tree_at, trees_at};
 ghost use Rattle.latex2mathml_parts.specs.Groups.{IsMark, IsNoMark, group_at, group_close, group_open, names_of};
 ghost use Rattle.latex2mathml_parts.specs.{Groups.member_in, Groups.members_in, Shapes.begun_weight, Shapes.print_weight};
 ghost use Rattle.latex2mathml_parts.specs.Tags.{ending_text, opening_text};
@@ -116,22 +116,12 @@ impl Parts<'_> {
         let mut place = end - count;
         'members: while place < end {
             place += 1;
-            self.write_member(group, place, out)?;
+            match self.mark(group, place) {
+                Some(ending) => ending.append(out)?,
+                None => self.write_leaf_at(place, out)?,
+            }
         }
         Ok(())
-    }
-
-    /// Writes a member of a group, which is a leaf.
-    #[inline(always)]
-    fn write_member(&self, group: Group, end: usize, out: &mut String) -> Result<(), AllocError>
-        requires place { IsPlace self.now end }
-        requires leaf { IsLeaf self.now end }
-        ensures { Appends out.old out.new (member_in group None (tree_at self.now end)) result }
-    {
-        match self.mark(group, end) {
-            Some(ending) => ending.append(out),
-            None => self.write_leaf_at(end, out),
-        }
     }
 
     /// Pushes `count` members of a group onto the list, with the first on top.

@@ -1,22 +1,19 @@
 //! Leaves, each as one element.
-ghost use Rattle.std.specs.Prelude.{◌≡◌, ◌++◌, ◌<◌, ℕ, List, [], IfOk, IsTrue, MatchBool, string_bytes};
+ghost use Rattle.std.specs.Prelude.{◌≡◌, ◌++◌, ◌<◌, [], IsTrue};
 ghost use Rattle.latex2mathml_trees.specs.{Print.print, Texts.Appends};
-ghost use Rattle.latex2mathml_trees.specs.Tree.{Tree, letter, number, operator, space};
+ghost use Rattle.latex2mathml_trees.specs.Tree.{letter, number, operator};
 ghost use Rattle.latex2mathml_parts.specs.{Parts.arity, Parts.put, Parts.top};
 ghost use Rattle.latex2mathml_parts.specs.Plain.{IsPlain, plain_print};
-ghost use Rattle.latex2mathml_parts.specs.Shapes.{HidesSlash, sign_print, sized_print};
-ghost use Rattle.latex2mathml_parts.specs.Shapes.{slashed_print, styled_print, upright_print};
+ghost use Rattle.latex2mathml_parts.specs.Shapes.{styled_print};
 ghost use Rattle.latex2mathml_tokens.specs.{Escape.content, Escape.content_char};
 ghost use Rattle.latex2mathml_tokens.specs.declared.attribute.Variant.TheVariants.{Italic};
 
-use crate::form::Form;
 use crate::kind::Kind;
 use crate::write::fences::paren_markup;
 use crate::write::tables::{
     function_markup, greek_markup, letter_open, limit_markup, size_open, space_markup,
 };
-use latex2mathml_tokens::attribute::{Accent, Variant};
-use latex2mathml_tokens::names::{Paren, Size};
+use latex2mathml_tokens::attribute::Variant;
 use latex2mathml_trees::append::{append_content, append_content_char, append_space};
 use std::alloc::AllocError;
 
@@ -33,10 +30,15 @@ pub fn write_leaf(kind: Kind, out: &mut String) -> Result<(), AllocError>
         Kind::Paren(paren) => out.push_str(paren_markup(paren)),
         Kind::Ampersand => out.push_str("<mtext>[PARSE ERROR: Ampersand]</mtext>"),
         Kind::NewLine => out.push_str("<mtext>[PARSE ERROR: NewLine]</mtext>"),
-        Kind::Space(width) => write_space(width, out),
+        Kind::Space(width) => match space_markup(width) {
+            Some(markup) => out.push_str(markup),
+            None => append_space(width, out),
+        },
         Kind::Function(name) => out.push_str(function_markup(name)),
         Kind::Limit(name) => out.push_str(limit_markup(name)),
-        Kind::SizedParen(size, paren) => write_sized(size, paren, out),
+        Kind::SizedParen(size, paren) => {
+            write_text(size_open(size), paren.text(), "</mo></mrow>", out)
+        }
         _ => unreachable!(),
     }
 }
@@ -76,18 +78,13 @@ fn write_other_letter(c: char, out: &mut String) -> Result<(), AllocError>
 
 /// Writes an operator.
 #[inline(never)]
-#[tactic(auto, unfolding(crate::proofs::Encoding::encode_utf8))]
 pub(crate) fn write_operator(c: char, out: &mut String) -> Result<(), AllocError>
     ensures { Appends out.old out.new (print (operator c)) result }
 {
     if is_plain(c) {
         return write_plain(b'o', c as u8, out);
     }
-    match c {
-        '<' => out.push_str("<mo>&lt;</mo>"),
-        '>' => out.push_str("<mo>&gt;</mo>"),
-        _ => write_other_operator(c, out),
-    }
+    write_other_operator(c, out)
 }
 
 /// Writes any operator.
@@ -97,6 +94,8 @@ fn write_other_operator(c: char, out: &mut String) -> Result<(), AllocError>
     ensures { Appends out.old out.new (print (operator c)) result }
 {
     match c {
+        '<' => out.push_str("<mo>&lt;</mo>"),
+        '>' => out.push_str("<mo>&gt;</mo>"),
         '±' => out.push_str("<mo>±</mo>"),
         '·' => out.push_str("<mo>·</mo>"),
         '×' => out.push_str("<mo>×</mo>"),
@@ -108,18 +107,8 @@ fn write_other_operator(c: char, out: &mut String) -> Result<(), AllocError>
         '≤' => out.push_str("<mo>≤</mo>"),
         '≥' => out.push_str("<mo>≥</mo>"),
         '∂' => out.push_str("<mo mathvariant=\"italic\">∂</mo>"),
-        _ => write_rare_operator(c, out),
+        _ => write_char("<mo>", c, "</mo>", out),
     }
-}
-
-/// Writes any operator that is not in italics.
-#[inline(never)]
-fn write_rare_operator(c: char, out: &mut String) -> Result<(), AllocError>
-    ensures { Appends out.old out.new (upright_print c) result }
-{
-    out.push_str("<mo>")?;
-    append_content_char(c, out)?;
-    out.push_str("</mo>")
 }
 
 /// Writes a number.
@@ -161,67 +150,6 @@ fn write_plain(letter: u8, c: u8, out: &mut String) -> Result<(), AllocError>
 {
     let bytes = [b'<', b'm', letter, b'>', c, b'<', b'/', b'm', letter, b'>'];
     out.push_str(unsafe { str::from_utf8_unchecked(&bytes) })
-}
-
-/// Writes a letter or an operator with a slash through it, and returns whether the form is one.
-pub(crate) fn write_slashed(form: Form, out: &mut String) -> Result<bool, AllocError>
-    ensures print { IfOk result (λ written. MatchBool written
-        ((texts : List (List ℕ)) (ts : List Tree)
-        → string_bytes out.new ≡ string_bytes out.old ++ slashed_print texts form.entry ts)
-        ((string_bytes out.new ≡ string_bytes out.old) × HidesSlash form.entry)) }
-{
-    match form {
-        Form::Of(Kind::Letter(c, variant)) => {
-            write_char(letter_open(variant), c, "&#x0338;</mi>", out)?;
-            Ok(true)
-        }
-        Form::Of(Kind::Operator(c)) => {
-            write_char("<mo>", c, "&#x0338;</mo>", out)?;
-            Ok(true)
-        }
-        _ => Ok(false),
-    }
-}
-
-/// Writes the brace over a tree or under it, and what follows it.
-pub(crate) fn write_brace(c: char, after: &'static str, out: &mut String) -> Result<(), AllocError>
-    ensures { Appends out.old out.new (print (operator c) ++ after.now) result }
-{
-    write_operator(c, out)?;
-    out.push_str(after)
-}
-
-/// Writes the sign over a tree or under it, and what follows it.
-pub(crate) fn write_sign(
-    c: char,
-    accent: Accent,
-    after: &'static str,
-    out: &mut String,
-) -> Result<(), AllocError>
-    ensures { Appends out.old out.new (sign_print c accent after.now) result }
-{
-    match accent {
-        Accent::True => write_char("<mo accent=\"true\">", c, after, out),
-        Accent::False => write_char("<mo accent=\"false\">", c, after, out),
-    }
-}
-
-/// Writes a space of this width, in eighteenths of an em.
-fn write_space(width: i32, out: &mut String) -> Result<(), AllocError>
-    ensures { Appends out.old out.new (print (space width)) result }
-{
-    match space_markup(width) {
-        Some(markup) => out.push_str(markup),
-        None => append_space(width, out),
-    }
-}
-
-/// Writes a parenthesis of a size of its own.
-fn write_sized(size: Size, paren: Paren, out: &mut String) -> Result<(), AllocError>
-    ensures { Appends out.old out.new (sized_print size paren) result }
-{
-    write_text(size_open(size), paren.text(), "</mo></mrow>", out)?;
-    Ok(())
 }
 
 /// Writes a text as contents, between two tags.

@@ -2,11 +2,11 @@
 ghost use Rattle.std.specs.Prelude.{◌≡◌, ◌++◌, IfSome, codes};
 ghost use Rattle.latex2mathml_trees.specs.Print.{print};
 ghost use Rattle.latex2mathml_trees.specs.Tree.{function, letter, space};
-ghost use Rattle.latex2mathml_tokens.specs.{Attributes.variant_text, Escape.value};
+ghost use Rattle.latex2mathml_tokens.specs.{Attributes.accent_text, Attributes.variant_text, Escape.value};
 ghost use Rattle.latex2mathml_tokens.specs.Names.{function_text, limit_text, size_text};
 ghost use Rattle.latex2mathml_tokens.specs.declared.attribute.Variant.TheVariants.{Italic};
 
-use latex2mathml_tokens::attribute::Variant;
+use latex2mathml_tokens::attribute::{Accent, Variant};
 use latex2mathml_tokens::names::{FunctionName, LimitName, Size};
 
 /// The element of a character or a number between two texts, if it is one of these. Some are written as another text.
@@ -63,6 +63,16 @@ pub(crate) fn letter_open(variant: Variant) -> &'static str
     )
 }
 
+/// Returns the tag before a sign over a tree or under it.
+pub(crate) fn sign_open(accent: Accent) -> &'static str
+    ensures { result.now ≡ codes "<mo accent=\"" ++ (accent_text accent ++ codes "\">") }
+{
+    match accent {
+        Accent::True => "<mo accent=\"true\">",
+        Accent::False => "<mo accent=\"false\">",
+    }
+}
+
 /// Returns the tag before a parenthesis of this size.
 pub(crate) fn size_open(size: Size) -> &'static str
     ensures { result.now ≡ codes "<mrow><mo maxsize=\"" ++ (value (size_text size)
@@ -89,26 +99,12 @@ pub(crate) fn function_markup(name: FunctionName) -> &'static str
     )
 }
 
-/// The names of functions that take a limit, between two texts.
-macro_rules! limits {
-    ($name:ident, $before:literal, $after:literal) => {
-        texts!($name, $before, $after, LimitName,
-            Lim => "lim", LimInf => "lim inf", LimSup => "lim sup", Min => "min", Max => "max", Inf => "inf",
-            Sup => "sup",
-        )
-    };
-}
-
 /// Returns the markup of the name of a function that takes a limit.
 pub(crate) fn limit_markup(name: LimitName) -> &'static str
     ensures { result.now ≡ print (function (limit_text name)) }
 {
-    limits!(name, "<mi>", "</mi>")
-}
-
-/// Returns the markup of such a name, and what precedes it where it has a limit.
-pub(crate) fn limited_markup(name: LimitName) -> &'static str
-    ensures { result.now ≡ codes "<munder>" ++ print (function (limit_text name)) }
-{
-    limits!(name, "<munder><mi>", "</mi>")
+    texts!(name, "<mi>", "</mi>", LimitName,
+        Lim => "lim", LimInf => "lim inf", LimSup => "lim sup", Min => "min", Max => "max", Inf => "inf",
+        Sup => "sup",
+    )
 }
