@@ -11,7 +11,7 @@ ghost use Rattle.latex2mathml_tokens.specs.{Lexemes.lexeme_tok, Refusal.IfRefuse
 ghost use Rattle.latex2mathml_trees.specs.Tree.{Tree};
 
 use crate::lexer::Lexer;
-use crate::parse::begin::Beginning;
+use crate::parse::begin::symbol;
 use crate::parse::{Parser, State};
 use latex2mathml_parts::kind::Kind;
 use latex2mathml_parts::write::write_leaf;
@@ -121,9 +121,7 @@ fn lone_leaf<'a>(lexer: &mut Lexer<'a>, lexeme: &Lexeme<'a>) -> Option<Kind<'a>>
     ensures list { lexer.new.list ≡ lexer.old.list }
     ensures counts { GoesOn lexer.old lexer.new }
 {
-    let Some(Beginning::Leaf(leaf)) = Beginning::of(lexeme) else {
-        return None;
-    };
+    let leaf = symbol(lexeme)?;
     match lexer.mark() {
         None => Some(leaf),
         Some(_) => None,

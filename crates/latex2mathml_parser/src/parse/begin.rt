@@ -1,9 +1,9 @@
 //! How the rule of each lexeme begins.
 
-ghost use Rattle.std.specs.Prelude.{◌≡◌, MatchOption, None, Some};
+ghost use Rattle.std.specs.Prelude.{◌≡◌, IfSome, MatchOption, None, Some};
 ghost use Rattle.latex2mathml_grammar.specs.Openers.{opens};
 ghost use Rattle.latex2mathml_grammar.specs.Grammar.{a_root, error_rule, rule, sized, takes_token};
-ghost use Rattle.latex2mathml_parser.specs.Beginnings.{IsBeginningOf, IsSpecial};
+ghost use Rattle.latex2mathml_parser.specs.Beginnings.{IsBeginningOf, IsLeafOf, IsSpecial};
 ghost use Rattle.latex2mathml_parser.specs.Claims.{Proceeds, limited};
 ghost use Rattle.latex2mathml_parser.specs.Steps.{HasTrees, IsStep};
 ghost use Rattle.latex2mathml_trees.specs.{Productions.fence_of};
@@ -257,5 +257,22 @@ impl<'a> Beginning<'a> {
             Lexeme::Underbrace(c) => Some(Beginning::Frame(Frame::Single(Pair::Underbrace(c)))),
             _ => None,
         }
+    }
+}
+
+/// Returns what a lexeme of the most frequent kinds makes, which are cores by themselves. Where these are looked for alone, this
+/// takes fewer instructions than the table of all lexemes.
+#[inline(always)]
+pub(crate) fn symbol<'a>(lexeme: &Lexeme<'a>) -> Option<Kind<'a>>
+    ensures { IfSome result (IsLeafOf lexeme.now) }
+{
+    match *lexeme {
+        Lexeme::Number(digits) => Some(Kind::Number(digits)),
+        Lexeme::Letter(c, variant) => Some(Kind::Letter(c, variant)),
+        Lexeme::Operator(c) => Some(Kind::Operator(c)),
+        Lexeme::Paren(paren) => Some(Kind::Paren(paren)),
+        Lexeme::Space(width) => Some(Kind::Space(width)),
+        Lexeme::Function(name) => Some(Kind::Function(name)),
+        _ => None,
     }
 }
