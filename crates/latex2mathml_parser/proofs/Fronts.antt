@@ -1,5 +1,5 @@
 -- The first character of a text, and what precedes its end, byte by byte.
-use Rattle.std.proofs.Common.{◌≡◌, ℕ, ◌+◌, ◌-◌, ◌<◌, ◌≤◌, List, [], ◌∷◌, ◌++◌, take, drop, eqb, length, inl, inr, true, true-eqb, Option, None, Some, refl, sym, ap, ◌∙◌, arith}
+use Rattle.std.proofs.Common.{◌≡◌, ℕ, ◌+◌, ◌-◌, ◌<◌, ◌≤◌, List, [], ◌∷◌, ◌++◌, take, drop, eqb, length, inl, inr, true, false, true-eqb, Option, None, Some, refl, sym, ap, ◌∙◌, arith}
 use Rattle.std.proofs.{Math.Seq.take-append_seam, lemmas.List.length-append, lemmas.Bool.cases_lt, lemmas.Bool.Decides.nat_tests}
 use Rattle.std.proofs.lemmas.Str.{chars_past_char, encode_ascii, encodes-append, encodes-chars, IsCharBoundary-after_ascii, IsCharBoundary-at_seam}
 use Rattle.std.specs.{Char.is_ascii, Prelude.slice_get}
@@ -43,8 +43,26 @@ pub wide_first : (text : List ℕ) → IsUtf8 text → ((b : ℕ) → slice_get 
 wide_first text u wide = wide_of (chars text) text (encodes-chars text u) wide
 
 -- all classes are of ASCII characters
-pub outside : (class : Class) (c : Option ℕ) → Stops is_ascii c → Stops (in_class class) c
+
+below : (class : Class) (c : ℕ) → in_class class c ≡ true → c < 128
+below Space c h = grind (arith, nat_tests)
+below Digit c h = grind (arith, nat_tests)
+below Letter c h = grind (arith, nat_tests)
+
+outside : (class : Class) (c : Option ℕ) → Stops is_ascii c → Stops (in_class class) c
 outside class None h = tt
 outside Space (Some c) h = grind (arith, nat_tests)
 outside Digit (Some c) h = grind (arith, nat_tests)
 outside Letter (Some c) h = grind (arith, nat_tests)
+
+-- a text that begins with a byte of a class may be cut after it, and begins with that character
+pub first_of_class : (class : Class) (text : List ℕ) (b : ℕ) → IsUtf8 text → slice_get text 0 ≡ Some b → in_class class b ≡ true → IsCharBoundary text 1 × (chars text ≡ b ∷ chars (drop 1 text))
+first_of_class class text b u e h = first_byte text b u e (below class b h)
+
+-- a text that does not begin with a byte of a class does not begin with a character of it
+pub none_of_class : (class : Class) (text : List ℕ) → IsUtf8 text → ((b : ℕ) → slice_get text 0 ≡ Some b → in_class class b ≡ false) → Stops (in_class class) (head (chars text))
+none_of_class class [] u others = outside class (head (chars [])) (wide_first [] u (λ b e. absurd cc))
+none_of_class class (x ∷ xs) u others = elim (cases_lt x 128) [
+  | inl h ↦ rw (first_byte (x ∷ xs) x u refl h).1 (others x refl)
+  | inr h ↦ outside class (head (chars (x ∷ xs))) (wide_first (x ∷ xs) u (λ b e. let same : x ≡ b = cc in omega arith))
+]

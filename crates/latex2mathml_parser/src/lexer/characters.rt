@@ -17,14 +17,14 @@ pub(crate) enum Class {
 }
 
 impl Class {
-    /// Whether the character is of this class.
-    fn contains(self, c: char) -> bool
-        ensures { result ≡ in_class self c }
+    /// Whether the byte is a character of this class.
+    fn contains(self, byte: u8) -> bool
+        ensures { result ≡ in_class self byte }
     {
         match self {
-            Class::Space => is_space(c),
-            Class::Digit => c.is_ascii_digit(),
-            Class::Letter => c.is_ascii_alphabetic(),
+            Class::Space => is_space(char::from(byte)),
+            Class::Digit => byte.is_ascii_digit(),
+            Class::Letter => byte.is_ascii_alphabetic(),
         }
     }
 }
@@ -89,13 +89,18 @@ pub(crate) fn after_char(text: &str, c: char) -> Option<&str>
 
 /// Returns what follows the first character, if it is of the class. All classes are of ASCII characters.
 #[inline(always)]
-#[tactic(auto, using(crate::proofs::Fronts::outside))]
 pub(crate) fn after_one(class: Class, text: &str) -> Option<&str>
     ensures { MatchOption result (Stops (in_class class) (head (chars text.now)))
         (λ rest. (c : ℕ) × (chars text.now ≡ c ∷ chars rest.now) × IsTrue (in_class class c)) }
 {
-    let (c, rest) = first_ascii(text)?;
-    if class.contains(c) { Some(rest) } else { None }
+    let Some(&byte) = text.as_bytes().first() else {
+        return None;
+    };
+    if !class.contains(byte) {
+        return None;
+    }
+    let (_, rest) = text.split_at(1);
+    Some(rest)
 }
 
 /// Returns what follows the longest run of characters of a class at the start of the text.
