@@ -47,6 +47,7 @@ size_of size.Biggest = attributes.Biggest
 abbrev pub space_of : Space → attributes.Space
 space_of space.NoSpace = attributes.NoSpace
 space_of space.Narrow = attributes.Narrow
+space_of space.Thick = attributes.Thick
 
 abbrev pub stretch_of : Stretch → attributes.Stretch
 stretch_of stretch.Stretching = attributes.Stretching

@@ -34,6 +34,8 @@ pub enum Space {
     NoSpace,
     /// A twentieth of an em.
     Narrow,
+    /// TeX's thick space: five eighteenths of an em.
+    Thick,
 }
 
 /// The height of a delimiter.
@@ -277,6 +279,7 @@ fn space_text(space: Option<Space>) -> &'static str
         None => "",
         Some(Space::NoSpace) => " lspace=\"0\" rspace=\"0\"",
         Some(Space::Narrow) => " lspace=\"0.05em\" rspace=\"0.05em\"",
+        Some(Space::Thick) => " lspace=\"0.278em\" rspace=\"0.278em\"",
     }
 }
 

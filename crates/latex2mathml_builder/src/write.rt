@@ -69,7 +69,6 @@ impl Builder {
 
     /// Writes settled elements and the end tag after them. If one of them holds no text, this pushes the others on the list,
     /// writes what precedes the children of that one, and goes on with its children.
-    #[inline(always)]
     fn write_run(&self, run: Run, works: &mut Vec<Work>, out: &mut String) -> Result<(), AllocError>
         requires one { run.end ≤ length self.now.settled }
         requires inside { AreIn self.now works.old.items }

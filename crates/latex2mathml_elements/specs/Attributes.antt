@@ -18,10 +18,11 @@ pub data Stretch : Type 0 where
   Stretching : Stretch
   Rigid : Stretch
 
--- the space on both sides of an operator: no space, or a twentieth of an em
+-- the space on both sides of an operator: no space, a twentieth of an em, or TeX's thick space, five eighteenths of an em
 pub data Space : Type 0 where
   NoSpace : Space
   Narrow : Space
+  Thick : Space
 
 -- the height of a delimiter
 pub data Size : Type 0 where

@@ -5,7 +5,7 @@ use Rattle.latex2mathml_elements.specs.Element.{Element}
 use Rattle.latex2mathml_builder.specs.Built.{Built, elements_in}
 use Rattle.latex2mathml_attributes.specs.declared.attributes.Side.{Side}
 use Rattle.latex2mathml_tex_grammar.specs.Atoms.{Atom, Blank, Kind, Nothing, is_parted}
-use Rattle.latex2mathml_tex_grammar.specs.{Rules.gives, Makes.Core, Makes.no_scripts, Makes.takes_limits, Reading.Read, Symbols.Style, Units.Units}
+use Rattle.latex2mathml_tex_grammar.specs.{Rules.gives, Makes.Core, Makes.no_scripts, Makes.takes_limits, Reading.Read, Symbols.InDisplay, Symbols.InScript, Symbols.InText, Symbols.Style, Units.Units}
 use Rattle.latex2mathml_tex_grammar.specs.Rows.{empty_row, operand_of, row_element, single, with_atom}
 use Rattle.latex2mathml_tex.specs.Frames.{ScriptMade, Start, inside, last_count, made_of, primes_put, within}
 use Rattle.latex2mathml_tex.specs.Innermost.{IsInnermost, none_begun, on_top}
@@ -105,9 +105,11 @@ innermost_takes style fs others f c (none_begun h k g) e = let no : ⊥ = rw g a
 innermost_takes style fs others f c (on_top h) e = rw h (subst (λ l. IsTrue (first_accepts operand_made l)) (sym (reverse-append others (f ∷ []))) (takes_operand c f e))
 
 -- nothing separates the first atom of a row from what precedes it
-never_parted : (kind : Kind) → is_parted Nothing kind ≡ false
-never_parted Blank = refl
-never_parted kind = refl
+never_parted : (style : Style) (kind : Kind) → is_parted style Nothing kind ≡ false
+never_parted style Blank = refl
+never_parted InDisplay kind = refl
+never_parted InText kind = refl
+never_parted InScript kind = refl
 
 one_alone : (n : ℕ) (xs : List Element) → n ≡ 1 → n ≤ length xs → row_element (take n xs) ≡ top xs
 one_alone n [] e h = absurd (omega (arith, e, h))
@@ -118,7 +120,7 @@ module _ (style : Style) (x : Atom) (row : CodeRow) (xs ys : List Element) (long
   one : row.count ≡ 1
   one =
       let some = ap (λ r. length r.elements) longer in
-      let none = never_parted x.kind in
+      let none = never_parted style x.kind in
       omega (arith, length-take row.count ys, there, rw none at some)
 
   pub is_single : operand_with (record { class = row.class; high = row.high }) (top ys) ≡ single style x

@@ -158,7 +158,6 @@ impl<'a> Parser<'a> {
 
     /// Does what the state says, and makes it the state after that. All that a step calls writes the next state to where the
     /// loop keeps it: a state is five words long, and returned in a `Result` it would be copied by each function on the way.
-    #[inline(always)]
     fn step(&mut self, state: &mut State) -> Result<(), AllocError>
         requires going_on { ((count : ℕ) → state.old ≢ State.End count)
             × (state.old ≢ State.Refused) }

@@ -3,11 +3,19 @@ use Rattle.std.proofs.Common.{◌≡◌, ℕ, List, [], ◌∷◌, None, Option,
 use Rattle.std.proofs.lemmas.Str.{length-le-encodes}
 use Rattle.std.specs.Str.{encode_utf8_all}
 use Rattle.latex2mathml_elements.specs.Element.{Element}
-use Rattle.latex2mathml_tex_grammar.specs.Makes.{between_any, fenced}
+use Rattle.latex2mathml_tex_grammar.specs.Makes.{between_any, fenced, space_if_none}
 use Rattle.latex2mathml_tex_commands.specs.Delimiters.{delimiter_text}
 
 some_text : (c : ℕ) → encode_utf8_all (c ∷ []) ≡ [] → ⊥
 some_text c e = absurd (omega (arith, length-le-encodes (c ∷ []), ap length e))
+
+spaced : (text : List ℕ) → (text ≡ [] → ⊥) → None ≡ space_if_none text
+spaced [] some = absurd (some refl)
+spaced (c ∷ cs) some = refl
+
+-- a delimiter that is not empty has the space that a browser gives it
+pub some_spaced : (c : ℕ) → None ≡ space_if_none (delimiter_text (Some c))
+some_spaced c = spaced (delimiter_text (Some c)) (some_text c)
 
 between : (opening closing : List ℕ) (x : Element) → (opening ≡ [] → closing ≡ [] → ⊥) → between_any opening closing x ≡ fenced true opening closing x
 between [] [] x some = absurd (some refl refl)

@@ -1,9 +1,9 @@
 -- The top elements changed, and a row with an atom after it.
-use Rattle.std.proofs.Common.{◌≡◌, ℕ, ◌+◌, ◌<◌, ◌≤◌, ◌==◌, ◌&&◌, Bool, false, true, zero, suc, List, [], ◌∷◌, ◌++◌, Option, Some, None, length, take, drop, arith, refl, sym, ap, ◌∙◌}
+use Rattle.std.proofs.Common.{◌≡◌, ℕ, ◌+◌, ◌<◌, ◌≤◌, ◌==◌, Bool, false, true, zero, suc, List, [], ◌∷◌, ◌++◌, Option, Some, None, length, take, drop, arith, pos, refl, sym, ap, ◌∙◌}
 use Rattle.std.proofs.Math.Dec.{eqb-suc-zero}
 use Rattle.std.proofs.lemmas.List.{drop-drop}
-use Rattle.latex2mathml_elements.specs.Attributes.{Attributes}
-use Rattle.latex2mathml_elements.specs.Element.{Element, Mo, Token, token}
+use Rattle.latex2mathml_elements.specs.Attributes.{Attributes, plain}
+use Rattle.latex2mathml_elements.specs.Element.{Element, Mo, Token, space, token}
 use Rattle.latex2mathml_attributes.specs.Names.{token_of}
 use Rattle.latex2mathml_builder.specs.Stacks.{are_tokens, given, joined, token_at, token_of_element, with_attributes}
 use Rattle.latex2mathml_attributes.specs.declared.tag.Token.{Token as CodeToken}
@@ -108,12 +108,12 @@ module _ (tag : CodeToken) (other : tag ≡ code_token.Mo → ⊥) where
   no_operator_alone style class (token Mo b text) a h = absurd (is_operator a b cc)
   no_operator_alone style class x a h = refl
 
--- a sign that has its space in scripts too
-pub spaced_sign : (style : Style) (class : CodeClass) → (class ≡ code_class.Binary → ⊥) → (class ≡ code_class.Relation → ⊥) → (class ≡ code_class.Punctuation → ⊥) → (x : Element) → Atoms.sign_there style (class_of class) x ≡ x
-spaced_sign style code_class.Binary b r p x = absurd (b refl)
-spaced_sign style code_class.Relation b r p x = absurd (r refl)
-spaced_sign style code_class.Punctuation b r p x = absurd (p refl)
-spaced_sign style class b r p x = refl
+-- a sign that keeps its space everywhere
+pub spaced_sign : (style : Style) (first : Bool) (before : Before) (class : CodeClass) → (class ≡ code_class.Binary → ⊥) → (class ≡ code_class.Relation → ⊥) → (class ≡ code_class.Punctuation → ⊥) → (x : Element) → Atoms.element_there style first before (Atoms.SignOf (class_of class)) x ≡ x
+spaced_sign style first before code_class.Binary b r p x = absurd (b refl)
+spaced_sign style first before code_class.Relation b r p x = absurd (r refl)
+spaced_sign style first before code_class.Punctuation b r p x = absurd (p refl)
+spaced_sign style first before class b r p x = refl
 
 -- an element that is neither a binary sign nor a relation
 pub no_base_changed : (style : Style) (class : Class) (own : CodeClass) → (own ≡ code_class.Binary → ⊥) → (own ≡ code_class.Relation → ⊥) → (x : Element) → Atoms.element_as style class (class_of own) x ≡ x
@@ -127,6 +127,11 @@ no_sign style first before (code_kind.SignOf class) s p x = absurd (s class refl
 no_sign style first before code_kind.PlusOrMinus s p x = absurd (p refl)
 no_sign style first before kind s p x = refl
 
+-- what separates an atom that is no space from those before it
+pub parted_there : (style : Style) (before : Before) (kind : CodeKind) → (kind ≡ code_kind.Blank → ⊥) → Atoms.parts style before (Atoms.past before (kind_of kind)) ≡ Atoms.is_parted style before (kind_of kind)
+parted_there style before code_kind.Blank h = absurd (h refl)
+parted_there style before kind h = refl
+
 -- The first elements changed, one after the other
 
 pub mapped_none : (f : Element → Element) (xs : List Element) → xs ≡ mapped_first f 0 xs
@@ -138,27 +143,41 @@ mapped_more f n [] = refl
 mapped_more f zero (x ∷ xs) = ap (λ ys. f x ∷ ys) (mapped_none f xs)
 mapped_more f (suc n) (x ∷ xs) = ap (λ ys. f x ∷ ys) (mapped_more f n xs)
 
--- A word followed by a letter
+-- A text that joins the one before it
 
-lone : (x : Element) → x ∷ [] ≡ Rows.join x []
-lone (token t a text) = refl
-lone x = refl
+module _ (change : Attributes → Attributes) where
+  lone : (x : Element) → x ∷ [] ≡ Rows.join change x []
+  lone (token t a text) = refl
+  lone x = refl
 
-pub word_begun : (xs : List Element) → 1 ≤ length xs → take 1 xs ≡ Rows.join (top xs) []
-word_begun [] h = absurd (omega arith)
-word_begun (x ∷ xs) h = lone x
+  pub text_begun : (xs : List Element) → 1 ≤ length xs → take 1 xs ≡ Rows.join change (top xs) []
+  text_begun [] h = absurd (omega arith)
+  text_begun (x ∷ xs) h = lone x
 
-pub word_apart : (n : ℕ) (xs : List Element) → suc n ≤ length xs → are_tokens xs ≡ false → take (suc n) xs ≡ Rows.join (top xs) (take n (drop 1 xs))
-word_apart n [] enough apart = absurd (omega arith)
-word_apart zero (x ∷ xs) enough apart = lone x
-word_apart (suc n) (x ∷ []) enough apart = absurd (omega arith)
-word_apart (suc n) (token t a letter ∷ token u b word ∷ xs) enough apart = cc
-word_apart (suc n) (x ∷ y ∷ xs) enough apart = refl
+  pub text_apart : (n : ℕ) (xs : List Element) → suc n ≤ length xs → are_tokens xs ≡ false → take (suc n) xs ≡ Rows.join change (top xs) (take n (drop 1 xs))
+  text_apart n [] enough apart = absurd (omega arith)
+  text_apart zero (x ∷ xs) enough apart = lone x
+  text_apart (suc n) (x ∷ []) enough apart = absurd (omega arith)
+  text_apart (suc n) (token t a letter ∷ token u b word ∷ xs) enough apart = cc
+  text_apart (suc n) (x ∷ y ∷ xs) enough apart = refl
 
-pub word_joined : (n : ℕ) (xs : List Element) → 0 < n → are_tokens xs ≡ true → take n (joined xs) ≡ Rows.join (top xs) (take n (drop 1 xs))
+pub word_joined : (n : ℕ) (xs : List Element) → 0 < n → are_tokens xs ≡ true → take n (joined xs) ≡ Rows.join (λ a. plain) (top xs) (take n (drop 1 xs))
 word_joined zero xs some both = absurd (omega arith)
 word_joined (suc n) (token t a letter ∷ token u b word ∷ xs) some both = refl
 word_joined n xs some both = cc
+
+-- the text that is joined keeps its attributes
+pub signs_joined : (n : ℕ) (xs : List Element) (t : Token) (a : Attributes) → 0 < n → are_tokens xs ≡ true → token_at 1 xs ≡ Some (t, a) → take n (given 0 a (joined xs)) ≡ Rows.join (λ b. b) (top xs) (take n (drop 1 xs))
+signs_joined zero xs t a some both found = absurd (omega arith)
+signs_joined (suc n) (token u b sign ∷ token v c signs ∷ xs) t a some both found =
+    let same : ◌≡◌ {A = Token × Attributes} (v, c) (t, a) = cc in
+    ap (λ p. token v p.1 (signs ++ sign) ∷ take n xs) (sym same)
+signs_joined n xs t a some both found = cc
+
+-- an element that no text precedes
+pub no_token_before : (xs : List Element) → token_at 1 xs ≡ None → are_tokens xs ≡ false
+no_token_before (token t a text ∷ token u b before ∷ xs) none = cc
+no_token_before xs none = refl
 
 pub not_joined : (xs : List Element) → are_tokens xs ≡ false → joined xs ≡ xs
 not_joined (token t a letter ∷ token u b word ∷ xs) apart = cc
@@ -171,9 +190,10 @@ length_parted x [] = refl
 length_parted x (y ∷ xs) = refl
 
 -- it does not matter whether the atom is high
-pub put_high : (joins : Bool) (style : Style) (before : Before) (kind : Kind) (high : Bool) (x : Element) (xs : List Element) → Rows.put joins style before (Atoms.atom kind false x) xs ≡ Rows.put joins style before (Atoms.atom kind high x) xs
-put_high true style before kind high x xs = refl
-put_high false style before kind high x xs = refl
+pub put_high : (joining : Rows.Joining) (style : Style) (before : Before) (kind : Kind) (high : Bool) (x : Element) (xs : List Element) → Rows.put joining style before (Atoms.atom kind false x) xs ≡ Rows.put joining style before (Atoms.atom kind high x) xs
+put_high Rows.ToWord style before kind high x xs = refl
+put_high Rows.ToRelations style before kind high x xs = refl
+put_high Rows.Apart style before kind high x xs = refl
 
 -- an atom is the first of a row that has none
 pub begins_row : (n : ℕ) (xs : List Element) → suc n ≤ length xs → Rows.is_empty (take n (drop 1 xs)) ≡ (n == 0)
@@ -183,15 +203,19 @@ begins_row (suc n) (x ∷ []) enough = absurd (omega arith)
 begins_row (suc n) (x ∷ y ∷ xs) enough = sym (eqb-suc-zero n)
 
 -- an atom that no space separates from the row
-pub put_adapted : (n : ℕ) (style : Style) (before : Before) (kind : Kind) (xs : List Element) → suc n ≤ length xs → Atoms.is_parted before kind ≡ false → take (suc n) (changed_at (Atoms.element_there style (n == 0) before kind) 0 xs) ≡ Rows.put false style before (Atoms.atom kind false (top xs)) (take n (drop 1 xs))
+pub put_adapted : (n : ℕ) (style : Style) (before : Before) (kind : Kind) (xs : List Element) → suc n ≤ length xs → Atoms.is_parted style before kind ≡ false → take (suc n) (changed_at (Atoms.element_there style (n == 0) before kind) 0 xs) ≡ Rows.put Rows.Apart style before (Atoms.atom kind false (top xs)) (take n (drop 1 xs))
 put_adapted n style before kind [] enough none = absurd (omega arith)
 put_adapted n style before kind (x ∷ xs) enough none = rw (begins_row n (x ∷ xs) enough, none)
 
+-- an atom that a thin space separates from the row
+pub put_parted : (n : ℕ) (style : Style) (before : Before) (kind : Kind) (xs ys : List Element) → suc n ≤ length xs → Atoms.is_parted style before kind ≡ true → ys ≡ changed_at (Atoms.element_there style (n == 0) before kind) 0 xs → take (suc (suc n)) (take 1 ys ++ (space (pos 3) ∷ drop 1 ys)) ≡ Rows.put Rows.Apart style before (Atoms.atom kind false (top xs)) (take n (drop 1 xs))
+put_parted n style before kind [] ys enough apart is = absurd (omega arith)
+put_parted n style before kind (x ∷ xs) ys enough apart is = rw (is, begins_row n (x ∷ xs) enough, apart) refl
+
 -- an atom that stays as it is, with no space before it
-pub put_as_it_is : (joins : Bool) (n : ℕ) (style : Style) (before : Before) (kind : Kind) (xs : List Element) → suc n ≤ length xs → Atoms.is_letters kind ≡ false → Atoms.is_parted before kind ≡ false → ((x : Element) → Atoms.element_there style (n == 0) before kind x ≡ x) → take (suc n) xs ≡ Rows.put (joins && Atoms.is_letters kind) style before (Atoms.atom kind false (top xs)) (take n (drop 1 xs))
-put_as_it_is joins n style before kind [] enough apart none stays = absurd (omega arith)
-put_as_it_is false n style before kind (x ∷ xs) enough apart none stays = rw (begins_row n (x ∷ xs) enough, none) (ap (λ y. y ∷ take n xs) (sym (stays x)))
-put_as_it_is true n style before kind (x ∷ xs) enough apart none stays = rw (apart, begins_row n (x ∷ xs) enough, none) (ap (λ y. y ∷ take n xs) (sym (stays x)))
+pub put_as_it_is : (joining : Rows.Joining) (n : ℕ) (style : Style) (before : Before) (kind : Kind) (xs : List Element) → suc n ≤ length xs → joining ≡ Rows.Apart → Atoms.is_parted style before kind ≡ false → ((x : Element) → Atoms.element_there style (n == 0) before kind x ≡ x) → take (suc n) xs ≡ Rows.put joining style before (Atoms.atom kind false (top xs)) (take n (drop 1 xs))
+put_as_it_is joining n style before kind [] enough apart none stays = absurd (omega arith)
+put_as_it_is joining n style before kind (x ∷ xs) enough apart none stays = rw (apart, begins_row n (x ∷ xs) enough, none) (ap (λ y. y ∷ take n xs) (sym (stays x)))
 
 pub class_behind : (n : ℕ) (xs : List Element) (kind : Kind) → 0 < n → suc n ≤ length xs → Ordinary ≡ Rows.class_after (take n (drop 1 xs)) kind
 class_behind zero xs kind some enough = absurd (omega arith)
@@ -199,7 +223,7 @@ class_behind (suc n) [] kind some enough = absurd (omega arith)
 class_behind (suc n) (x ∷ []) kind some enough = absurd (omega arith)
 class_behind (suc n) (x ∷ y ∷ xs) kind some enough = refl
 
-pub same_row : (xs ys : List Element) (b c : Before) (v w h i : Bool) (k l : Class) (e f : Option Rows.Restyled) (r u : Option Rows.Upper) → xs ≡ ys → b ≡ c → v ≡ w → h ≡ i → k ≡ l → e ≡ f → r ≡ u → ◌≡◌ {A = Rows.Row} (record { elements = xs; before = b; ends_in_word = v; high = h; class = k; restyled = e; under = r }) (record { elements = ys; before = c; ends_in_word = w; high = i; class = l; restyled = f; under = u })
+pub same_row : (xs ys : List Element) (b c : Before) (v w : Kind) (h i : Bool) (k l : Class) (e f : Option Rows.Restyled) (r u : Option Rows.Upper) → xs ≡ ys → b ≡ c → v ≡ w → h ≡ i → k ≡ l → e ≡ f → r ≡ u → ◌≡◌ {A = Rows.Row} (record { elements = xs; before = b; last = v; high = h; class = k; restyled = e; under = r }) (record { elements = ys; before = c; last = w; high = i; class = l; restyled = f; under = u })
 same_row xs ys b c v w h i k l e f r u p q s t m n o = cc
 
 -- what is below the atoms of a row stays where it is

@@ -14,8 +14,9 @@ use Rattle.latex2mathml_attributes.specs.declared.attributes.Side.{Side}
 use Rattle.latex2mathml_attributes.specs.declared.attributes.Side.TheVariants as side
 use Rattle.latex2mathml_tex_commands.specs.declared.meaning.Class.TheVariants as class
 use Rattle.latex2mathml_tex_commands.specs.declared.meaning.FractionRule.{FractionRule}
-use Rattle.latex2mathml_tex_atoms.specs.declared.atoms.{Before.Before, Context.Context, Core.Core, Kind.Kind, Operand.Operand, Restyled.Restyled, Row.Row, Scripts.Scripts, Words.Words}
+use Rattle.latex2mathml_tex_atoms.specs.declared.atoms.{Before.Before, Context.Context, Core.Core, Joining.Joining, Kind.Kind, Operand.Operand, Restyled.Restyled, Row.Row, Scripts.Scripts, Words.Words}
 use Rattle.latex2mathml_tex_atoms.specs.declared.atoms.Before.TheVariants as before
+use Rattle.latex2mathml_tex_atoms.specs.declared.atoms.Joining.TheVariants as joining
 use Rattle.latex2mathml_tex_atoms.specs.declared.atoms.Kind.TheVariants as kind
 
 abbrev pub kind_of : Kind → atoms.Kind
@@ -27,10 +28,16 @@ kind_of kind.FunctionWord = atoms.FunctionWord
 kind_of kind.Divider = atoms.Divider
 kind_of kind.Blank = atoms.Blank
 
+abbrev pub joining_of : Joining → rows.Joining
+joining_of joining.ToWord = rows.ToWord
+joining_of joining.ToRelations = rows.ToRelations
+joining_of joining.Apart = rows.Apart
+
 abbrev pub before_of : Before → atoms.Before
 before_of before.Nothing = atoms.Nothing
 before_of (before.After class) = atoms.After (class_of class)
 before_of before.AfterName = atoms.AfterName
+before_of before.AfterDots = atoms.AfterDots
 
 abbrev pub context_of : Context → rules.Context
 context_of c = rules.in_context (style_of c.style) (option_map alphabet_of c.alphabet)
@@ -85,13 +92,13 @@ IsFinished row = (row.restyled ≡ None) × (row.under ≡ None)
 
 -- a row without atoms
 abbrev pub empty_row : Row
-empty_row = record { count = 0; before = before.Nothing; ends_in_word = false; high = false; class = class.Ordinary; restyled = None; settled = 0; under = None }
+empty_row = record { count = 0; before = before.Nothing; last = kind.Blank; high = false; class = class.Ordinary; restyled = None; settled = 0; under = None }
 
 abbrev pub row_with : Row → List Element → rows.Row
 row_with row xs = record {
   elements = take row.count xs;
   before = before_of row.before;
-  ends_in_word = row.ends_in_word;
+  last = kind_of row.last;
   high = row.high;
   class = class_of row.class;
   restyled = restyled_with row.restyled row.settled (drop row.count xs);

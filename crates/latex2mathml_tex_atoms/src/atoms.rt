@@ -5,7 +5,7 @@ ghost use Rattle.latex2mathml_tex_grammar.specs.Atoms;
 ghost use Rattle.latex2mathml_tex_grammar.specs.Makes;
 ghost use Rattle.latex2mathml_tex_grammar.specs.Rows;
 ghost use Rattle.latex2mathml_tex_commands.specs.Meanings.{class_of, limit_place_of, style_of};
-ghost use Rattle.latex2mathml_tex_atoms.specs.Models.{IsFinished, has_script, empty_row, before_of, kind_of};
+ghost use Rattle.latex2mathml_tex_atoms.specs.Models.{IsFinished, has_script, empty_row, before_of, joining_of, kind_of};
 ghost use Rattle.latex2mathml_tex_atoms.specs.Adding.{IsAdded};
 
 use crate::signs::is_put_as_it_is;
@@ -48,11 +48,26 @@ pub enum Kind {
     Blank,
 }
 
+/// Whether an atom joins the one directly before it.
+#[derive(Clone, Copy)]
+pub enum Joining {
+    /// An upright letter joins a word.
+    ToWord,
+    /// A relation joins relations: TeX leaves no space between them.
+    ToRelations,
+    Apart,
+}
+
 impl Kind {
-    pub fn is_letters(self) -> bool
-        ensures { result ≡ Atoms.is_letters (kind_of self) }
+    /// Returns what an atom of this kind does directly after one of the kind `last`.
+    pub fn joining(self, last: Kind) -> Joining
+        ensures { joining_of result ≡ Rows.joining (kind_of last) (kind_of self) }
     {
-        matches!(self, Kind::UprightLetters)
+        match (last, self) {
+            (Kind::UprightLetters, Kind::UprightLetters) => Joining::ToWord,
+            (Kind::SignOf(Class::Relation), Kind::SignOf(Class::Relation)) => Joining::ToRelations,
+            _ => Joining::Apart,
+        }
     }
 
     /// Whether the place of the atom's limits can be specified: whether the atom is an operator.
@@ -107,6 +122,7 @@ pub enum Before {
     Nothing,
     After(Class),
     AfterName,
+    AfterDots,
 }
 
 impl Before {
@@ -117,6 +133,7 @@ impl Before {
     {
         match self {
             Before::Nothing | Before::AfterName => true,
+            Before::AfterDots => false,
             Before::After(class) => match class {
                 Class::Operator
                 | Class::Binary
@@ -151,6 +168,7 @@ impl Before {
         ensures { before_of result ≡ Atoms.past (before_of self) (kind_of kind) }
     {
         match kind {
+            Kind::SignOf(Class::Inner) => Before::AfterDots,
             Kind::SignOf(class) => Before::After(self.class_there(class)),
             Kind::PlusOrMinus => Before::After(self.class_there(Class::Binary)),
             Kind::Plain(class) => Before::After(self.class_there(class)),
@@ -162,24 +180,31 @@ impl Before {
     }
 
     /// Whether a thin space precedes an atom of this kind.
-    pub fn is_parted(self, kind: Kind) -> bool
-        ensures { result ≡ Atoms.is_parted (before_of self) (kind_of kind) }
+    pub fn is_parted(self, style: Style, kind: Kind) -> bool
+        ensures { result ≡ Atoms.is_parted (style_of style) (before_of self) (kind_of kind) }
     {
         match kind {
             Kind::Blank => false,
-            kind => parts(self, self.past(kind)),
+            kind => parts(style, self, self.past(kind)),
         }
     }
 }
 
-/// Whether there is a thin space between two atoms. An operator has a space of its own before it.
-fn parts(before: Before, behind: Before) -> bool
-    ensures { result ≡ Atoms.parts (before_of before) (before_of behind) }
+/// Whether there is a thin space between two atoms. An operator and a comma have a space of their own. Dots have none in scripts.
+fn parts(style: Style, before: Before, behind: Before) -> bool
+    ensures { result ≡ Atoms.parts (style_of style) (before_of before) (before_of behind) }
 {
     match (before, behind) {
-        (Before::AfterName, Before::AfterName) => true,
+        (Before::AfterName | Before::AfterDots, Before::AfterName) => true,
+        (Before::AfterName, Before::AfterDots) => true,
         (Before::AfterName, Before::After(Class::Ordinary | Class::Inner)) => true,
         (Before::After(Class::Ordinary | Class::Closing | Class::Inner), Before::AfterName) => true,
+        (Before::AfterDots, Before::AfterDots)
+        | (Before::After(Class::Ordinary | Class::Closing | Class::Inner), Before::AfterDots)
+        | (
+            Before::AfterDots,
+            Before::After(Class::Ordinary | Class::Inner | Class::Opening | Class::Punctuation),
+        ) => !matches!(style, Style::InScript),
         _ => false,
     }
 }
@@ -236,8 +261,8 @@ pub struct Row {
     pub settled: usize,
     /// What precedes the next atom.
     pub before: Before,
-    /// Whether the last element is a word of upright letters.
-    pub ends_in_word: bool,
+    /// What the last atom is, or a space, which nothing joins.
+    pub last: Kind,
     /// Whether any atom is higher than a letter.
     pub high: bool,
     /// The class of the row as the base of a mark.
@@ -256,7 +281,7 @@ impl Row {
         Row {
             count: 0,
             before: Before::Nothing,
-            ends_in_word: false,
+            last: Kind::Blank,
             high: false,
             class: Class::Ordinary,
             restyled: None,
@@ -281,7 +306,7 @@ impl Row {
         ensures added { IsTrue result → IsAdded style core self.old self.new }
         ensures unchanged { result ≡ false → self.new ≡ self.old }
     {
-        if !is_put_as_it_is(style, self.count == 0, self.before, core.kind) {
+        if !is_put_as_it_is(style, self.count == 0, self.before, self.last, core.kind) {
             return false;
         }
         let Some(count) = self.count.checked_add(1) else {
@@ -291,7 +316,7 @@ impl Row {
         self.class = class_after(self.count, core.kind);
         self.count = count;
         self.before = self.before.past(core.kind);
-        self.ends_in_word = false;
+        self.last = core.kind;
         self.high = high;
         true
     }

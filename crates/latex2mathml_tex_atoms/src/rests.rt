@@ -8,7 +8,7 @@ ghost use Rattle.latex2mathml_tex_grammar.specs.Rows;
 ghost use Rattle.latex2mathml_tex_commands.specs.Meanings.{fraction_rule_of, style_of};
 ghost use Rattle.latex2mathml_tex_atoms.specs.Models.{row_count, row_with};
 
-use crate::atoms::{Before, Restyled, Row};
+use crate::atoms::{Before, Kind, Restyled, Row};
 use crate::fractions::{put_fraction, style_attributes};
 use crate::shapes::put_row;
 use latex2mathml_attributes::around::{Around, Color};
@@ -58,7 +58,7 @@ impl Row {
     {
         Row {
             count: 0,
-            ends_in_word: false,
+            last: Kind::Blank,
             high: true,
             restyled: Some(change),
             settled: self.count,
@@ -245,6 +245,7 @@ fn close_fraction(builder: &mut Builder, row: Row) -> Result<Row, AllocError>
     Ok(Row {
         count: 1,
         before: Before::After(Class::Inner),
+        last: Kind::Plain(Class::Inner),
         high: true,
         ..Row::empty()
     })

@@ -3,17 +3,17 @@ ghost use Rattle.std.specs.Prelude.{◌≡◌, ◌+◌, ◌≤◌, ◌&&◌, ◌
 ghost use Rattle.latex2mathml_elements.specs.{Attributes.plain, Element.Element, Element.pair};
 ghost use Rattle.latex2mathml_elements.specs.Attributes as attributes;
 ghost use Rattle.latex2mathml_builder.specs.Built.{Puts, elements_in};
-ghost use Rattle.latex2mathml_attributes.specs.Names.{attributes_of, pair_of, side_of, size_of, space_of, stretch_of};
+ghost use Rattle.latex2mathml_attributes.specs.Names.{attributes_of, form_of, pair_of, side_of, size_of, space_of, stretch_of};
 ghost use Rattle.latex2mathml_tex_grammar.specs.Atoms;
 ghost use Rattle.latex2mathml_tex_grammar.specs.Makes;
 ghost use Rattle.latex2mathml_tex_grammar.specs.Meaning;
 ghost use Rattle.latex2mathml_tex_grammar.specs.Rows;
 ghost use Rattle.latex2mathml_tex_commands.specs.Meanings.{class_of, style_of};
-ghost use Rattle.latex2mathml_tex_atoms.specs.Models.{before_of, core_with, kind_of, row_rest, row_with, top};
+ghost use Rattle.latex2mathml_tex_atoms.specs.Models.{before_of, core_with, joining_of, kind_of, row_rest, row_with, top};
 ghost use Rattle.latex2mathml_tex_atoms.specs.Shapes.{ChangesAt, ReplacesTop, delimiter_element, mapped_first, mark_element};
 ghost use Rattle.latex2mathml_tex_commands.specs.Delimiters.{delimiter_text};
 
-use crate::atoms::{Before, Core, Kind, Row, class_after};
+use crate::atoms::{Before, Core, Joining, Kind, Row, class_after};
 use crate::signs::adapt;
 use latex2mathml_attributes::attributes::{Attributes, Form, Side, Size, Space, Stretch};
 use latex2mathml_attributes::tag::{Container, Pair, Token};
@@ -101,30 +101,39 @@ pub fn enclose(
         (Makes.fenced high (delimiter_text opening) (delimiter_text closing))
         builder.old builder.new) }
 {
+    put_fence(builder, high, Form::Prefix, opening)?;
+    put_fence(builder, high, Form::Postfix, closing)?;
+    builder.fence()
+}
+
+/// Puts an operator that opens or closes, or an empty one, which has no space.
+#[tactic(auto, using(crate::proofs::Outlined::some_spaced))]
+fn put_fence(
+    builder: &mut Builder,
+    high: bool,
+    form: Form,
+    delimiter: Option<char>,
+) -> Result<(), AllocError>
+    ensures { OnOk result (Puts
+        (Makes.delimiter high (form_of form) (delimiter_text delimiter))
+        builder.old builder.new) }
+{
     let stretch = if high {
         Stretch::Stretching
     } else {
         Stretch::Rigid
     };
-    put_delimiter(
-        builder,
-        Attributes {
-            form: Some(Form::Prefix),
-            stretch: Some(stretch),
-            ..Attributes::plain()
-        },
-        opening,
-    )?;
-    put_delimiter(
-        builder,
-        Attributes {
-            form: Some(Form::Postfix),
-            stretch: Some(stretch),
-            ..Attributes::plain()
-        },
-        closing,
-    )?;
-    builder.fence()
+    let space = match delimiter {
+        Some(_) => None,
+        None => Some(Space::NoSpace),
+    };
+    let attributes = Attributes {
+        form: Some(form),
+        stretch: Some(stretch),
+        space,
+        ..Attributes::plain()
+    };
+    put_delimiter(builder, attributes, delimiter)
 }
 
 /// Makes the dividers among the top `count` elements no higher than a letter.
@@ -245,43 +254,45 @@ pub fn with_atom(
     if longer.add(style, core) {
         return Ok(longer);
     }
-    let continues = continues_word(row, core.kind);
-    let count = put_adapted(builder, style, row.count, row.before, continues, core.kind)?;
+    let joining = core.kind.joining(row.last);
+    let count = put_adapted(builder, style, row.count, row.before, joining, core.kind)?;
     Ok(Row {
         count,
         before: row.before.past(core.kind),
-        ends_in_word: core.kind.is_letters(),
+        last: core.kind,
         high: row.high || core.high,
         class: class_after(row.count, core.kind),
         ..row
     })
 }
 
-/// Makes the top element, which continues a word or not, the last one of a row that has `count` elements. Returns how many it
-/// has then.
+/// Makes the top element, which may join the one before it, the last one of a row that has `count` elements. Returns how many
+/// it has then.
 #[inline(never)]
 fn put_adapted(
     builder: &mut Builder,
     style: Style,
     count: usize,
     before: Before,
-    continues: bool,
+    joining: Joining,
     kind: Kind,
 ) -> Result<usize, AllocError>
     requires { count + 1 ≤ length (elements_in builder.old) }
     ensures elements { IfOk result (λ longer. take longer (elements_in builder.new)
-        ≡ Rows.put continues (style_of style) (before_of before)
+        ≡ Rows.put (joining_of joining) (style_of style) (before_of before)
         (Atoms.atom (kind_of kind) false (top (elements_in builder.old)))
         (take count (drop 1 (elements_in builder.old)))) }
     ensures below { IfOk result (λ longer. drop longer (elements_in builder.new)
         ≡ drop (count + 1) (elements_in builder.old)) }
     ensures count { IfOk result (λ longer. longer ≤ length (elements_in builder.new)) }
 {
-    if continues {
-        return Ok(join_word(builder, count));
+    match joining {
+        Joining::ToWord => return Ok(join_word(builder, count)),
+        Joining::ToRelations => return Ok(join_relations(builder, count)),
+        Joining::Apart => {}
     }
     adapt(builder, style, count == 0, before, kind);
-    if before.is_parted(kind) {
+    if before.is_parted(style, kind) {
         builder.space_below(3)?;
         // all elements of a row are among those of the builder, so their number fits in a `usize`
         let _ = builder.len();
@@ -291,25 +302,39 @@ fn put_adapted(
     Ok(count + 1)
 }
 
-/// Whether an atom of this kind forms one word with the last element of a row.
-fn continues_word(row: Row, kind: Kind) -> bool
-    ensures { result ≡ (row.ends_in_word && Atoms.is_letters (kind_of kind)) }
-{
-    row.ends_in_word && kind.is_letters()
-}
-
 /// Joins the top element to the last of the `count` elements below it, if there is one and both hold a text. Returns how many
-/// there are then.
+/// there are then. A word of several letters is upright by itself.
 fn join_word(builder: &mut Builder, count: usize) -> usize
     requires { count + 1 ≤ length (elements_in builder.old) }
     ensures elements { take result (elements_in builder.new)
-        ≡ Rows.join (top (elements_in builder.old))
+        ≡ Rows.join (λ a. plain) (top (elements_in builder.old))
         (take count (drop 1 (elements_in builder.old))) }
     ensures below { drop result (elements_in builder.new)
         ≡ drop (count + 1) (elements_in builder.old) }
     ensures count { result ≤ length (elements_in builder.new) }
 {
     if count > 0 && builder.join() {
+        return count;
+    }
+    let _ = builder.len();
+    count + 1
+}
+
+/// Joins the top element in the same way. The element that it joins keeps its attributes.
+fn join_relations(builder: &mut Builder, count: usize) -> usize
+    requires { count + 1 ≤ length (elements_in builder.old) }
+    ensures elements { take result (elements_in builder.new)
+        ≡ Rows.join (λ a. a) (top (elements_in builder.old))
+        (take count (drop 1 (elements_in builder.old))) }
+    ensures below { drop result (elements_in builder.new)
+        ≡ drop (count + 1) (elements_in builder.old) }
+    ensures count { result ≤ length (elements_in builder.new) }
+{
+    if let Some((_, attributes)) = builder.token_at(1)
+        && count > 0
+        && builder.join()
+    {
+        builder.give(0, attributes);
         return count;
     }
     let _ = builder.len();

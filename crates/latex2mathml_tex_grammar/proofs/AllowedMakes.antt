@@ -7,10 +7,10 @@ use Rattle.latex2mathml_elements.specs.Characters.{is_forbidden, IsAllowed, HasA
 use Rattle.latex2mathml_elements.specs.Element.{Mi, Mn, Mo, Mtext, Element, token, space, rectangle, container, pair, triple, table, children}
 use Rattle.latex2mathml_elements.proofs.{Characters.allowed_both, Characters.allowed_char, Characters.allowed_plain, Characters.plain_is_allowed, Plain.IsPlain, Plain.is_plain}
 use Rattle.latex2mathml_tex_grammar.specs.Alphabets.{in_alphabet}
-use Rattle.latex2mathml_tex_grammar.specs.Atoms.{Atom, Kind, SignOf, PlusOrMinus, Plain, UprightLetters, FunctionWord, Blank, Divider, Before, begins_operand, class_there, as_prefix, as_infix, without_space, tight, sign_there, element_there, is_parted, lone_sign, element_as}
+use Rattle.latex2mathml_tex_grammar.specs.Atoms.{Atom, Kind, SignOf, PlusOrMinus, Plain, UprightLetters, FunctionWord, Blank, Divider, Before, begins_operand, as_prefix, as_infix, without_space, tight, as_ordinary, element_there, is_parted, lone_sign, element_as}
 use Rattle.latex2mathml_tex_grammar.specs.Makes.{text, letter, upright_letter, number, symbol, struck, classed, on_side, accent, brace, stack, in_style, fenced, fraction_element, fraction, lowered_divider, lowered, between_delimiters, Scripts, primes_text, prime_mark, behind_primes, superscript, are_stacked, fixed_base, with_scripts, scripted_atom, scripted}
 use Rattle.latex2mathml_tex_grammar.specs.Meaning.{FractionRule, Bar, NoBar, Braced, Bracketed, Bare, LimitPlace, Beside, ByStyle, Movable, Stacked}
-use Rattle.latex2mathml_tex_grammar.specs.Rows.{Row, Operand, as_base, is_empty, join, parted, put, row_element, single, with_atom, empty_row}
+use Rattle.latex2mathml_tex_grammar.specs.Rows.{Row, Operand, Joining, ToWord, ToRelations, Apart, as_base, is_empty, join, parted, put, row_element, single, with_atom, empty_row}
 use Rattle.latex2mathml_tex_grammar.specs.Symbols.{Class, Ordinary, Operator, Binary, Relation, Opening, Closing, Punctuation, Inner, Style, InDisplay, InText, InScript, Alphabet, Upright, Italic, Bold, BoldItalic, DoubleStruck, Fraktur, Calligraphic, SansSerif, Monospace, Symbol, Letter, UprightLetter, Sign, BigOperator, Integral}
 use Rattle.latex2mathml_tex_grammar.proofs.Allowed.{AreAllowedElements, IsAllowedElement, IsAllowedCore, IsAllowedAtom, IsAllowedOperand, IsAllowedRow, AreAllowedScripts}
 use Rattle.latex2mathml_tex_grammar.proofs.AllowedTables.{in_alphabet_allowed, is_allowed_symbol, not_forbidden}
@@ -108,18 +108,20 @@ tight_allowed InDisplay x h = h
 tight_allowed InText x h = h
 tight_allowed InScript x h = without_space_allowed x h
 
-sign_there_allowed : (style : Style) (class : Class) (x : Element) → HasAllowedTexts x → HasAllowedTexts (sign_there style class x)
-sign_there_allowed style Ordinary x h = h
-sign_there_allowed style Operator x h = h
-sign_there_allowed style Binary x h = tight_allowed style x h
-sign_there_allowed style Relation x h = tight_allowed style x h
-sign_there_allowed style Opening x h = h
-sign_there_allowed style Closing x h = h
-sign_there_allowed style Punctuation x h = tight_allowed style x h
-sign_there_allowed style Inner x h = h
+as_ordinary_allowed : (first : Bool) (x : Element) → HasAllowedTexts x → HasAllowedTexts (as_ordinary first x)
+as_ordinary_allowed true x h = h
+as_ordinary_allowed false x h = without_space_allowed x h
 
 element_there_allowed : (style : Style) (first : Bool) (before : Before) (kind : Kind) (x : Element) → HasAllowedTexts x → HasAllowedTexts (element_there style first before kind x)
-element_there_allowed style first before (SignOf class) x h = sign_there_allowed style (class_there before class) x h
+element_there_allowed style first before (SignOf Binary) x h =
+    of_either HasAllowedTexts (begins_operand before) (as_ordinary_allowed first x h) (tight_allowed style x h)
+element_there_allowed style first before (SignOf Relation) x h = tight_allowed style x h
+element_there_allowed style first before (SignOf Punctuation) x h = tight_allowed style x h
+element_there_allowed style first before (SignOf Ordinary) x h = h
+element_there_allowed style first before (SignOf Operator) x h = h
+element_there_allowed style first before (SignOf Opening) x h = h
+element_there_allowed style first before (SignOf Closing) x h = h
+element_there_allowed style first before (SignOf Inner) x h = h
 element_there_allowed style first before PlusOrMinus x h =
     of_either HasAllowedTexts (begins_operand before) (prefix_allowed x h) (tight_allowed style (as_infix first x) (infix_allowed first x h))
 element_there_allowed style first before (Plain class) x h = h
@@ -132,26 +134,27 @@ parted_allowed : (b : Bool) (xs : List Element) → AreAllowedElements xs → Ar
 parted_allowed true xs h = (tt, h)
 parted_allowed false xs h = h
 
-join_allowed : (x : Element) (xs : List Element) → HasAllowedTexts x → AreAllowedElements xs → AreAllowedElements (join x xs)
-join_allowed (token t a letter) [] h k = (h, k)
-join_allowed (token t a letter) (token u b word ∷ xs) h k = (allowed_both word letter k.0 h, k.1)
-join_allowed (token t a letter) (space width ∷ xs) h k = (h, k)
-join_allowed (token t a letter) (rectangle e ∷ xs) h k = (h, k)
-join_allowed (token t a letter) (container c b ys ∷ xs) h k = (h, k)
-join_allowed (token t a letter) (pair p b y z ∷ xs) h k = (h, k)
-join_allowed (token t a letter) (triple u b x y z ∷ xs) h k = (h, k)
-join_allowed (token t a letter) (table b rows ∷ xs) h k = (h, k)
-join_allowed (space width) xs h k = (h, k)
-join_allowed (rectangle e) xs h k = (h, k)
-join_allowed (container c a ys) xs h k = (h, k)
-join_allowed (pair p a y z) xs h k = (h, k)
-join_allowed (triple t a x y z) xs h k = (h, k)
-join_allowed (table a rows) xs h k = (h, k)
+join_allowed : (change : Attributes → Attributes) (x : Element) (xs : List Element) → HasAllowedTexts x → AreAllowedElements xs → AreAllowedElements (join change x xs)
+join_allowed change (token t a letter) [] h k = (h, k)
+join_allowed change (token t a letter) (token u b word ∷ xs) h k = (allowed_both word letter k.0 h, k.1)
+join_allowed change (token t a letter) (space width ∷ xs) h k = (h, k)
+join_allowed change (token t a letter) (rectangle e ∷ xs) h k = (h, k)
+join_allowed change (token t a letter) (container c b ys ∷ xs) h k = (h, k)
+join_allowed change (token t a letter) (pair p b y z ∷ xs) h k = (h, k)
+join_allowed change (token t a letter) (triple u b x y z ∷ xs) h k = (h, k)
+join_allowed change (token t a letter) (table b rows ∷ xs) h k = (h, k)
+join_allowed change (space width) xs h k = (h, k)
+join_allowed change (rectangle e) xs h k = (h, k)
+join_allowed change (container c a ys) xs h k = (h, k)
+join_allowed change (pair p a y z) xs h k = (h, k)
+join_allowed change (triple t a x y z) xs h k = (h, k)
+join_allowed change (table a rows) xs h k = (h, k)
 
-put_allowed : (joins : Bool) (style : Style) (before : Before) (x : Atom) (xs : List Element) → IsAllowedAtom x → AreAllowedElements xs → AreAllowedElements (put joins style before x xs)
-put_allowed true style before x xs h k = join_allowed x.element xs h k
-put_allowed false style before x xs h k =
-    (element_there_allowed style (is_empty xs) before x.kind x.element h, parted_allowed (is_parted before x.kind) xs k)
+put_allowed : (joining : Joining) (style : Style) (before : Before) (x : Atom) (xs : List Element) → IsAllowedAtom x → AreAllowedElements xs → AreAllowedElements (put joining style before x xs)
+put_allowed ToWord style before x xs h k = join_allowed _ x.element xs h k
+put_allowed ToRelations style before x xs h k = join_allowed _ x.element xs h k
+put_allowed Apart style before x xs h k =
+    (element_there_allowed style (is_empty xs) before x.kind x.element h, parted_allowed (is_parted style before x.kind) xs k)
 
 pub with_atom_allowed : (style : Style) (row : Row) (x : Atom) → IsAllowedRow row → IsAllowedAtom x → IsAllowedRow (with_atom style row x)
 with_atom_allowed style row x h k = put_allowed _ style row.before x row.elements k h

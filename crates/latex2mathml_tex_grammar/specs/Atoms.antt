@@ -31,16 +31,12 @@ pub record Atom : Type 0 where
 abbrev pub atom : Kind → Bool → Element → Atom
 atom kind high element = record { element = element; kind = kind; high = high }
 
--- whether an atom is upright letters
-abbrev pub is_letters : Kind → Bool
-is_letters UprightLetters = true
-is_letters kind = false
-
 -- what precedes an atom, spaces aside
 pub data Before : Type 0 where
   Nothing : Before
   After : Class → Before
   AfterName : Before
+  AfterDots : Before
 
 -- whether no binary operator can follow
 abbrev pub begins_operand : Before → Bool
@@ -54,15 +50,21 @@ begins_operand (After Punctuation) = true
 begins_operand (After Ordinary) = false
 begins_operand (After Closing) = false
 begins_operand (After Inner) = false
+begins_operand AfterDots = false
 
 -- the class that an atom of this class has there: where no binary operator can be, a binary one is ordinary
 abbrev pub class_there : Before → Class → Class
 class_there before Binary = if begins_operand before then Ordinary else Binary
 class_there before class = class
 
+-- what a sign of this class is to the atom after it: dots are the signs that are inner
+abbrev pub past_sign : Class → Before
+past_sign Inner = AfterDots
+past_sign class = After class
+
 -- what an atom is to the atom after it
 abbrev pub past : Before → Kind → Before
-past before (SignOf class) = After (class_there before class)
+past before (SignOf class) = past_sign (class_there before class)
 past before PlusOrMinus = After (class_there before Binary)
 past before (Plain class) = After (class_there before class)
 past before UprightLetters = After Ordinary
@@ -70,21 +72,34 @@ past before FunctionWord = AfterName
 past before Divider = After Opening
 past before Blank = before
 
--- whether there is a thin space between two atoms: it separates the name of a function from another name, from what is
--- ordinary or inner, and from a closing sign before it; an operator has a space of its own
-abbrev pub parts : Before → Before → Bool
-parts AfterName (After Ordinary) = true
-parts AfterName (After Inner) = true
-parts AfterName AfterName = true
-parts (After Ordinary) AfterName = true
-parts (After Closing) AfterName = true
-parts (After Inner) AfterName = true
-parts before behind = false
+-- Whether there is a thin space between two atoms. It separates the name of a function from another name, from what is
+-- ordinary or inner, and from a closing sign before it. Except in scripts, it separates dots from what is ordinary, inner or
+-- other dots, from a closing sign before them, and from an opening sign or a comma after them. An operator has a space of
+-- its own, and so has a comma after it.
+abbrev pub parts : Style → Before → Before → Bool
+parts style AfterName (After Ordinary) = true
+parts style AfterName (After Inner) = true
+parts style AfterName AfterName = true
+parts style AfterName AfterDots = true
+parts style (After Ordinary) AfterName = true
+parts style (After Closing) AfterName = true
+parts style (After Inner) AfterName = true
+parts style AfterDots AfterName = true
+parts InScript before behind = false
+parts style (After Ordinary) AfterDots = true
+parts style (After Closing) AfterDots = true
+parts style (After Inner) AfterDots = true
+parts style AfterDots AfterDots = true
+parts style AfterDots (After Ordinary) = true
+parts style AfterDots (After Inner) = true
+parts style AfterDots (After Opening) = true
+parts style AfterDots (After Punctuation) = true
+parts style before behind = false
 
 -- whether there is a thin space before an atom of this kind; a space needs none
-abbrev pub is_parted : Before → Kind → Bool
-is_parted before Blank = false
-is_parted before kind = parts before (past before kind)
+abbrev pub is_parted : Style → Before → Kind → Bool
+is_parted style before Blank = false
+is_parted style before kind = parts style before (past before kind)
 
 -- a sign that precedes its operand
 abbrev pub as_prefix : Element → Element
@@ -106,16 +121,22 @@ abbrev pub tight : Style → Element → Element
 tight InScript x = without_space x
 tight style x = x
 
--- a sign of this class there
+-- a sign of this class, which is not binary
 abbrev pub sign_there : Style → Class → Element → Element
-sign_there style Binary x = tight style x
 sign_there style Relation x = tight style x
 sign_there style Punctuation x = tight style x
 sign_there style class x = x
 
+-- a binary sign where no binary operator can be, which is ordinary there: unless it is the first of its row, it has no space
+abbrev pub as_ordinary : Bool → Element → Element
+as_ordinary true x = x
+as_ordinary false x = without_space x
+
 -- the element of an atom there, which may be the first of its row
 abbrev pub element_there : Style → Bool → Before → Kind → Element → Element
-element_there style first before (SignOf class) x = sign_there style (class_there before class) x
+element_there style first before (SignOf Binary) x =
+    if begins_operand before then as_ordinary first x else tight style x
+element_there style first before (SignOf class) x = sign_there style class x
 element_there style first before PlusOrMinus x =
     if begins_operand before then as_prefix x else tight style (as_infix first x)
 element_there style first before kind x = x

@@ -292,10 +292,10 @@ commands_from_m =
     (codes "top", Shows (Sign Ordinary 0x22A4)) ∷  -- ⊤
     (codes "triangle", Shows (Sign Ordinary 0x25B3)) ∷  -- △
     (codes "triangledown", Shows (Sign Ordinary 0x25BD)) ∷  -- ▽
-    (codes "triangleleft", Shows (Sign Binary 0x25C1)) ∷  -- ◁
+    (codes "triangleleft", Shows (Sign Binary 0x25C3)) ∷  -- ◃
     (codes "trianglelefteq", Shows (Sign Relation 0x22B4)) ∷  -- ⊴
     (codes "triangleq", Shows (Sign Relation 0x225C)) ∷  -- ≜
-    (codes "triangleright", Shows (Sign Binary 0x25B7)) ∷  -- ▷
+    (codes "triangleright", Shows (Sign Binary 0x25B9)) ∷  -- ▹
     (codes "trianglerighteq", Shows (Sign Relation 0x22B5)) ∷  -- ⊵
     (codes "tt", Changes (ToAlphabet Monospace)) ∷
     (codes "twoheadleftarrow", Shows (Sign Relation 0x219E)) ∷  -- ↞

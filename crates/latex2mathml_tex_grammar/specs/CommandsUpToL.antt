@@ -32,11 +32,10 @@ commands_up_to_l =
     (codes "Bigl", Sized Bigger Opening) ∷
     (codes "Bigm", Sized Bigger Relation) ∷
     (codes "Bigr", Sized Bigger Closing) ∷
-    (codes "Box", Shows (Sign Ordinary 0x25FB)) ∷  -- ◻
+    (codes "Box", Shows (Sign Ordinary 0x25A1)) ∷  -- □
     (codes "Bumpeq", Shows (Sign Relation 0x224E)) ∷  -- ≎
     (codes "Cap", Shows (Sign Binary 0x22D2)) ∷  -- ⋒
     (codes "Chi", Shows (UprightLetter 0x03A7)) ∷  -- Χ
-    (codes "Coloneqq", Shows (Sign Relation 0x2A74)) ∷  -- ⩴
     (codes "Cup", Shows (Sign Binary 0x22D3)) ∷  -- ⋓
     (codes "DH", Shows (UprightLetter 0xD0)) ∷  -- Ð
     (codes "Dagger", Shows (Sign Ordinary 0x2021)) ∷  -- ‡
@@ -205,9 +204,7 @@ commands_up_to_l =
     (codes "circledcirc", Shows (Sign Binary 0x229A)) ∷  -- ⊚
     (codes "circleddash", Shows (Sign Binary 0x229D)) ∷  -- ⊝
     (codes "clubsuit", Shows (Sign Ordinary 0x2663)) ∷  -- ♣
-    (codes "colon", Shows (Sign Punctuation 0x3A)) ∷  -- :
     (codes "coloncolon", Shows (Sign Relation 0x2237)) ∷  -- ∷
-    (codes "coloncolonequals", Shows (Sign Relation 0x2A74)) ∷  -- ⩴
     (codes "colonequals", Shows (Sign Relation 0x2254)) ∷  -- ≔
     (codes "color", Changes ToColor) ∷
     (codes "complement", Shows (Sign Ordinary 0x2201)) ∷  -- ∁

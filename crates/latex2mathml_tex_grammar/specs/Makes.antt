@@ -1,7 +1,7 @@
 -- The atoms of each construct.
 use Rattle.std.specs.Prelude.{ℕ, zero, suc, ◌==◌, ◌||◌, ℤ, pos, Bool, true, false, List, [], ◌∷◌, ◌++◌, map, Option, Some, None, codes, if◌then◌else◌}
 use Rattle.std.specs.{Char.encode_utf8, Str.encode_utf8_all}
-use Rattle.latex2mathml_elements.specs.Attributes.{Attributes, Side, Above, Below, Form, Prefix, Postfix, Stretch, Stretching, Rigid, NoSpace, Narrow, Size, Boxing, NoWidth, Flat, NoHeight, NoDepth, ByItsWidth, ByHalfItsWidth, Framed, StruckUp, StruckDown, StruckTwice, boxed, MathStyle, DisplayStyle, TextStyle, ScriptStyle, plain}
+use Rattle.latex2mathml_elements.specs.Attributes.{Attributes, Side, Above, Below, Form, Prefix, Postfix, Stretch, Stretching, Rigid, Space, NoSpace, Narrow, Thick, Size, Boxing, NoWidth, Flat, NoHeight, NoDepth, ByItsWidth, ByHalfItsWidth, Framed, StruckUp, StruckDown, StruckTwice, boxed, MathStyle, DisplayStyle, TextStyle, ScriptStyle, plain}
 use Rattle.latex2mathml_elements.specs.Element.{Mi, Mn, Mo, Mrow, Msqrt, Mstyle, Mpadded, Mphantom, Mfrac, Mroot, Msub, Msup, Munder, Mover, Msubsup, Munderover, Element, token, space, rectangle, container, pair, triple, children}
 use Rattle.latex2mathml_elements.specs.Extents.{wide}
 use Rattle.latex2mathml_tex_grammar.specs.{Alphabets.in_alphabet, Rows.Row, Rows.Operand, Rows.row_element}
@@ -79,6 +79,14 @@ delimiter_attributes form c =
     then record plain { form = Some form; stretch = Some Rigid; space = Some NoSpace }
     else record plain { form = Some form; stretch = Some Rigid }
 
+-- the relations around which browsers leave another space than TeX
+abbrev pub lacks_space : ℕ → Bool
+lacks_space c = c == 0x3A || c == 0x2234 || c == 0x2235 || c == 0x2322 || c == 0x2323  -- : ∴ ∵ ⌢ ⌣
+
+-- the attributes of a relation: it has TeX's space also where a browser would give it another
+abbrev pub relation_attributes : ℕ → Attributes
+relation_attributes c = if lacks_space c then record plain { space = Some Thick } else rigid c
+
 -- the attributes of a sign, by its class
 abbrev pub sign_attributes : Class → ℕ → Attributes
 sign_attributes Ordinary c = record plain { space = Some NoSpace; stretch = Some Rigid }
@@ -88,7 +96,7 @@ sign_attributes Punctuation c = record plain { separator = true }
 sign_attributes Inner c = record plain { space = Some NoSpace }
 sign_attributes Operator c = plain
 sign_attributes Binary c = rigid c
-sign_attributes Relation c = rigid c
+sign_attributes Relation c = relation_attributes c
 
 -- plus, minus, plus-minus and minus-plus
 abbrev pub is_plus_or_minus : ℕ → Bool
@@ -254,9 +262,15 @@ abbrev pub stretch_if : Bool → Stretch
 stretch_if true = Stretching
 stretch_if false = Rigid
 
--- a delimiter by `\left`, `\middle` or `\right`, stretched if what is between is high
+-- no delimiter has no space, where a browser would give it some
+abbrev pub space_if_none : List ℕ → Option Space
+space_if_none [] = Some NoSpace
+space_if_none sign_text = None
+
+-- a delimiter by `\left` or `\right`, or none, stretched if what is between is high
 abbrev pub delimiter : Bool → Form → List ℕ → Element
-delimiter high form sign_text = token Mo (record plain { form = Some form; stretch = Some (stretch_if high) }) sign_text
+delimiter high form sign_text =
+    token Mo (record plain { form = Some form; stretch = Some (stretch_if high); space = space_if_none sign_text }) sign_text
 
 -- an element between delimiters, which stretch around what is higher than a letter
 abbrev pub fenced : Bool → List ℕ → List ℕ → Element → Element

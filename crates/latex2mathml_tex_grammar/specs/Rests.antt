@@ -2,7 +2,7 @@
 -- group is at its end.
 use Rattle.std.specs.Prelude.{ℕ, Bool, true, false, List, [], ◌∷◌, reverse, Option, Some, None}
 use Rattle.latex2mathml_elements.specs.{Colors.Color, Element.Element, Element.Mstyle, Element.container, Element.children}
-use Rattle.latex2mathml_tex_grammar.specs.{Colors.color_of, Makes.fraction, Makes.in_box, Makes.style_attributes, Meaning.Change, Meaning.Colored, Meaning.ToAlphabet, Meaning.ToStyle, Meaning.Divides, Meaning.ToColor, Meaning.FractionRule}
+use Rattle.latex2mathml_tex_grammar.specs.{Atoms.Blank, Colors.color_of, Makes.fraction, Makes.in_box, Makes.style_attributes, Meaning.Change, Meaning.Colored, Meaning.ToAlphabet, Meaning.ToStyle, Meaning.Divides, Meaning.ToColor, Meaning.FractionRule}
 use Rattle.latex2mathml_tex_grammar.specs.Refusal.{Refusal, SecondInfix, UnknownColor, refusal_at}
 use Rattle.latex2mathml_tex_grammar.specs.Rows.{Row, Restyled, Upper, empty_row, row_element, with_atom}
 use Rattle.latex2mathml_tex_grammar.specs.Rules.{Context, in_context, styled}
@@ -54,7 +54,7 @@ settled style row = settled_after row.restyled style row
 abbrev pub begun_anew : Style → Bool → Option Color → Row → Row
 begun_anew group has_own_style color row = record row {
   elements = [];
-  ends_in_word = false;
+  last = Blank;
   high = true;
   restyled = Some (record { before = row.elements; group = group; has_own_style = has_own_style; color = color });
 }

@@ -1,7 +1,7 @@
 -- Rows: the elements of atoms that are next to each other. Here the last element comes first.
-use Rattle.std.specs.Prelude.{pos, Bool, true, false, ◌&&◌, ◌||◌, List, [], ◌∷◌, ◌++◌, reverse, Option, None}
-use Rattle.latex2mathml_elements.specs.{Attributes.plain, Colors.Color, Element.Element, Element.Mrow, Element.token, Element.space, Element.container, Element.children}
-use Rattle.latex2mathml_tex_grammar.specs.Atoms.{Atom, Kind, SignOf, PlusOrMinus, Plain, Before, Nothing, is_letters, is_parted, past, element_there, element_as}
+use Rattle.std.specs.Prelude.{pos, Bool, true, false, ◌||◌, List, [], ◌∷◌, ◌++◌, reverse, Option, None}
+use Rattle.latex2mathml_elements.specs.{Attributes.Attributes, Attributes.plain, Colors.Color, Element.Element, Element.Mrow, Element.token, Element.space, Element.container, Element.children}
+use Rattle.latex2mathml_tex_grammar.specs.Atoms.{Atom, Kind, SignOf, PlusOrMinus, Plain, UprightLetters, Blank, Before, Nothing, is_parted, past, element_there, element_as}
 use Rattle.latex2mathml_tex_grammar.specs.{Meaning.FractionRule}
 use Rattle.latex2mathml_tex_grammar.specs.Symbols.{Class, Ordinary, Binary, Relation, Style}
 
@@ -26,8 +26,8 @@ pub record Row : Type 0 where
   pub elements : List Element
   -- what precedes the next atom
   pub before : Before
-  -- whether its last element is a word of upright letters
-  pub ends_in_word : Bool
+  -- what its last atom is, or a space, which nothing joins
+  pub last : Kind
   -- whether any atom of it is higher than a letter
   pub high : Bool
   -- its class as the base of a mark
@@ -39,7 +39,7 @@ pub record Row : Type 0 where
 
 -- a row before its first atom
 abbrev pub empty_row : Row
-empty_row = record { elements = []; before = Nothing; ends_in_word = false; high = false; class = Ordinary; restyled = None; under = None }
+empty_row = record { elements = []; before = Nothing; last = Blank; high = false; class = Ordinary; restyled = None; under = None }
 
 -- a thin space
 abbrev pub thin_space : Element
@@ -50,20 +50,34 @@ abbrev pub parted : Bool → List Element → List Element
 parted true xs = thin_space ∷ xs
 parted false xs = xs
 
--- a letter joins the word before it. A word of several letters is upright by itself.
-abbrev pub join : Element → List Element → List Element
-join (token t a letter) (token u b word ∷ xs) = token u plain (word ++ letter) ∷ xs
-join x xs = x ∷ xs
+-- whether an atom joins the one before it
+pub data Joining : Type 0 where
+  -- an upright letter joins a word, and a relation joins relations: TeX leaves no space between them
+  ToWord : Joining
+  ToRelations : Joining
+  Apart : Joining
+
+-- what an atom of the second kind does directly after one of the first
+abbrev pub joining : Kind → Kind → Joining
+joining UprightLetters UprightLetters = ToWord
+joining (SignOf Relation) (SignOf Relation) = ToRelations
+joining last kind = Apart
+
+-- a text joins the text before it, whose attributes change in this way
+abbrev pub join : (Attributes → Attributes) → Element → List Element → List Element
+join change (token t a more) (token u b before ∷ xs) = token u (change b) (before ++ more) ∷ xs
+join change x xs = x ∷ xs
 
 -- whether a row has no element yet
 abbrev pub is_empty : List Element → Bool
 is_empty [] = true
 is_empty (x ∷ xs) = false
 
--- the elements of a row with one more atom, which may be a letter of the last word
-abbrev pub put : Bool → Style → Before → Atom → List Element → List Element
-put true style before x xs = join x.element xs
-put false style before x xs = element_there style (is_empty xs) before x.kind x.element ∷ parted (is_parted before x.kind) xs
+-- the elements of a row with one more atom, which may join the last one. A word of several letters is upright by itself.
+abbrev pub put : Joining → Style → Before → Atom → List Element → List Element
+put ToWord style before x xs = join (λ a. plain) x.element xs
+put ToRelations style before x xs = join (λ a. a) x.element xs
+put Apart style before x xs = element_there style (is_empty xs) before x.kind x.element ∷ parted (is_parted style before x.kind) xs
 
 -- the class of one atom as a base: a binary operator and a relation stay what they are
 abbrev pub class_of_kind : Kind → Class
@@ -82,9 +96,9 @@ class_after xs kind = Ordinary
 -- the row with an atom after it, in this style
 abbrev pub with_atom : Style → Row → Atom → Row
 with_atom style row x = record {
-  elements = put (row.ends_in_word && is_letters x.kind) style row.before x row.elements;
+  elements = put (joining row.last x.kind) style row.before x row.elements;
   before = past row.before x.kind;
-  ends_in_word = is_letters x.kind;
+  last = x.kind;
   high = row.high || x.high;
   class = class_after row.elements x.kind;
   restyled = row.restyled;

@@ -402,10 +402,12 @@ sign_entries =
     (0x25B3, Sign Binary 0x25B3) ∷  -- △
     (0x25B6, Sign Relation 0x25B6) ∷  -- ▶
     (0x25B7, Sign Binary 0x25B7) ∷  -- ▷
+    (0x25B9, Sign Binary 0x25B9) ∷  -- ▹
     (0x25BC, Sign Ordinary 0x25BC) ∷  -- ▼
     (0x25BD, Sign Binary 0x25BD) ∷  -- ▽
     (0x25C0, Sign Relation 0x25C0) ∷  -- ◀
     (0x25C1, Sign Binary 0x25C1) ∷  -- ◁
+    (0x25C3, Sign Binary 0x25C3) ∷  -- ◃
     (0x25CA, Sign Ordinary 0x25CA) ∷  -- ◊
     (0x25EF, Sign Binary 0x25EF) ∷  -- ◯
     (0x25FB, Sign Ordinary 0x25FB) ∷  -- ◻

@@ -8,10 +8,12 @@ use Rattle.latex2mathml_tex_grammar.specs.Units.{Unit, Units, Next}
 -- the name, how many arguments the macro takes, and the text of its body
 unfoldable pub usual_entries : List (List ℕ × ℕ × List ℕ)
 usual_entries =
+    (codes "*", 0, codes "") ∷
     (codes "-", 0, codes "") ∷
     (codes "/", 0, codes "") ∷
     (codes "Bbbk", 0, codes "\\mathbb{k}") ∷
     (codes "Bra", 1, codes "\\left\\langle #1\\right|") ∷
+    (codes "Coloneqq", 0, codes "\\mathrel{::=}") ∷
     (codes "Huge", 0, codes "") ∷
     (codes "Ket", 1, codes "\\left|#1\\right\\rangle") ∷
     (codes "LARGE", 0, codes "") ∷
@@ -20,11 +22,13 @@ usual_entries =
     (codes "TeX", 0, codes "\\text{TeX}") ∷
     (codes "allowbreak", 0, codes "") ∷
     (codes "bfseries", 0, codes "\\bf") ∷
-    (codes "bmod", 0, codes "\\mathbin{\\operatorname{mod}}") ∷
+    (codes "bmod", 0, codes "\\mskip5mu\\mathbin{\\operatorname{mod}}\\mskip5mu") ∷
     (codes "bra", 1, codes "\\langle #1|") ∷
     (codes "braket", 1, codes "\\langle #1\\rangle") ∷
     (codes "centering", 0, codes "") ∷
     (codes "clap", 1, codes "\\mathclap{\\text{#1}}") ∷
+    (codes "colon", 0, codes "\\mskip2mu{:}\\mskip6mu") ∷
+    (codes "coloncolonequals", 0, codes "\\mathrel{::=}") ∷
     (codes "coloneq", 0, codes "\\mathrel{:=}") ∷
     (codes "coloneqq", 0, codes "\\mathrel{:=}") ∷
     (codes "colorbox", 2, codes "\\mathcolorbox{#1}{\\text{#2}}") ∷

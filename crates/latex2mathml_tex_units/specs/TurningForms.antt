@@ -6,6 +6,7 @@ use Rattle.std.specs.Str.{byte}
 abbrev pub is_turning_form : ℕ → ℕ → ℕ → Bool
 is_turning_form first second len =
     if first == byte "B" then (if second == byte "b" then len == 4 else if second == byte "r" then len == 3 else false)
+    else if first == byte "C" then second == byte "o" && len == 8
     else if first == byte "D" then second == byte "e" && len == 19
     else if first == byte "H" then second == byte "u" && len == 4
     else if first == byte "K" then second == byte "e" && len == 3
@@ -13,7 +14,7 @@ is_turning_form first second len =
     else if first == byte "T" then second == byte "e" && len == 3
     else if first == byte "a" then second == byte "l" && len == 10
     else if first == byte "b" then (if second == byte "f" then len == 8 else if second == byte "m" then len == 4 else if second == byte "r" then len == 3 || len == 6 else false)
-    else if first == byte "c" then (if second == byte "e" then len == 9 else if second == byte "l" then len == 4 else if second == byte "o" then len == 7 || len == 8 else false)
+    else if first == byte "c" then (if second == byte "e" then len == 9 else if second == byte "l" then len == 4 else if second == byte "o" then len == 5 || len == 7 || len == 8 || len == 16 else false)
     else if first == byte "d" then (if second == byte "e" then len == 3 else if second == byte "o" then len == 5 else false)
     else if first == byte "e" then (if second == byte "m" then len == 2 else if second == byte "n" then len == 10 else false)
     else if first == byte "f" then (if second == byte "b" then len == 4 else if second == byte "o" then len == 12 else false)

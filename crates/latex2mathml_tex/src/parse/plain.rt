@@ -209,7 +209,6 @@ impl<'a> Parser<'a> {
 
     /// Adds an atom without scripts, whose element is uppermost, to the innermost row in place, unless a mark comes next or the
     /// row has to be changed otherwise. Returns whether the atom was added. Skips white space.
-    #[inline(always)]
     pub(crate) fn add_unmarked(&mut self, core: Core) -> bool
         requires { Ready self.old (State.Atom core (lone_scripts core)) }
         ensures holds { (s : Start) → Holds s self.old (State.Atom core (lone_scripts core))

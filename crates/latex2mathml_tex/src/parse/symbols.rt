@@ -1,5 +1,5 @@
 //! What is put for a symbol: one element, which is a whole atom.
-ghost use Rattle.std.specs.Prelude.{◌≡◌, true, IfOk, Some, option_map};
+ghost use Rattle.std.specs.Prelude.{◌≡◌, false, true, IfOk, IsTrue, Some, option_map};
 ghost use Rattle.latex2mathml_attributes.specs.Names.{attributes_of, element_with_text, form_of};
 ghost use Rattle.latex2mathml_elements.specs.{Attributes.plain, Element.Mo, Element.token};
 ghost use Rattle.latex2mathml_tex_grammar.specs.Makes;
@@ -101,7 +101,7 @@ fn put_sign(builder: &mut Builder, class: Class, c: char) -> Result<Core, AllocE
         builder.old builder.new) }
 {
     match class {
-        Class::Binary | Class::Relation if !stretches(c) => {
+        Class::Binary | Class::Relation if is_plain(c) => {
             let sign = Core::new(sign_kind(class, c), false);
             put_character(builder, Token::Mo, Attributes::plain(), c, sign)
         }
@@ -169,16 +169,26 @@ fn sign_attributes(class: Class, c: char) -> Attributes
             ..Attributes::plain()
         },
         Class::Operator => Attributes::plain(),
-        Class::Binary | Class::Relation => {
-            if stretches(c) {
-                Attributes {
-                    stretch: Some(Stretch::Rigid),
-                    ..Attributes::plain()
-                }
-            } else {
-                Attributes::plain()
-            }
+        Class::Binary => rigid(c),
+        Class::Relation if lacks_space(c) => Attributes {
+            space: Some(Space::Thick),
+            ..Attributes::plain()
+        },
+        Class::Relation => rigid(c),
+    }
+}
+
+/// Returns the attributes of a sign that must not be stretched.
+fn rigid(c: char) -> Attributes
+    ensures { attributes_of result ≡ Makes.rigid c }
+{
+    if stretches(c) {
+        Attributes {
+            stretch: Some(Stretch::Rigid),
+            ..Attributes::plain()
         }
+    } else {
+        Attributes::plain()
     }
 }
 
@@ -229,20 +239,28 @@ fn is_plus_or_minus(c: char) -> bool
     matches!(c, '+' | '−' | '±' | '∓')
 }
 
-/// Whether MathML stretches the sign but TeX does not. The only such sign in ASCII is a bar, and most signs are in ASCII.
+/// Whether a binary sign or a relation has no attributes. In ASCII, all but two do not, and most signs are in ASCII.
 #[inline(always)]
-fn stretches(c: char) -> bool
-    ensures { result ≡ Makes.stretches c }
+fn is_plain(c: char) -> bool
+    ensures stretches { IsTrue result → Makes.stretches c ≡ false }
+    ensures space { IsTrue result → Makes.lacks_space c ≡ false }
 {
     if c.is_ascii() {
-        return c == '|';
+        return c != '|' && c != ':';
     }
-    is_stretched(c)
+    !stretches(c) && !lacks_space(c)
 }
 
-/// Whether the sign is one of those that MathML stretches but TeX does not.
+/// Whether browsers leave another space around the relation than TeX.
+fn lacks_space(c: char) -> bool
+    ensures { result ≡ Makes.lacks_space c }
+{
+    matches!(c, ':' | '∴' | '∵' | '⌢' | '⌣')
+}
+
+/// Whether MathML stretches the sign but TeX does not.
 #[inline(never)]
-fn is_stretched(c: char) -> bool
+fn stretches(c: char) -> bool
     ensures { result ≡ Makes.stretches c }
 {
     matches!(

@@ -16,7 +16,7 @@ pub(crate) fn entries() -> &'static [Entry]
 }
 
 #[rattlefmt::skip]
-static BEFORE_A: [Entry; 91] = [
+static BEFORE_A: [Entry; 90] = [
     Entry { name: " ", key: 0x2000000000000000, meaning: Meaning::Spacing(6) },
     Entry { name: "!", key: 0x2100000000000000, meaning: Meaning::Spacing(-3) },
     Entry { name: "#", key: 0x2300000000000000, meaning: Meaning::Shows(Symbol::Sign(Class::Ordinary, '#')) },
@@ -41,11 +41,10 @@ static BEFORE_A: [Entry; 91] = [
     Entry { name: "Bigl", key: 0x4269676c00000000, meaning: Meaning::Sized(Size::Bigger, Class::Opening) },
     Entry { name: "Bigm", key: 0x4269676d00000000, meaning: Meaning::Sized(Size::Bigger, Class::Relation) },
     Entry { name: "Bigr", key: 0x4269677200000000, meaning: Meaning::Sized(Size::Bigger, Class::Closing) },
-    Entry { name: "Box", key: 0x426f780000000000, meaning: Meaning::Shows(Symbol::Sign(Class::Ordinary, '◻')) },
+    Entry { name: "Box", key: 0x426f780000000000, meaning: Meaning::Shows(Symbol::Sign(Class::Ordinary, '□')) },
     Entry { name: "Bumpeq", key: 0x42756d7065710000, meaning: Meaning::Shows(Symbol::Sign(Class::Relation, '≎')) },
     Entry { name: "Cap", key: 0x4361700000000000, meaning: Meaning::Shows(Symbol::Sign(Class::Binary, '⋒')) },
     Entry { name: "Chi", key: 0x4368690000000000, meaning: Meaning::Shows(Symbol::UprightLetter('Χ')) },
-    Entry { name: "Coloneqq", key: 0x436f6c6f6e657171, meaning: Meaning::Shows(Symbol::Sign(Class::Relation, '⩴')) },
     Entry { name: "Cup", key: 0x4375700000000000, meaning: Meaning::Shows(Symbol::Sign(Class::Binary, '⋓')) },
     Entry { name: "DH", key: 0x4448000000000000, meaning: Meaning::Shows(Symbol::UprightLetter('Ð')) },
     Entry { name: "Dagger", key: 0x4461676765720000, meaning: Meaning::Shows(Symbol::Sign(Class::Ordinary, '‡')) },

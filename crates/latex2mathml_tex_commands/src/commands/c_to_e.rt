@@ -18,7 +18,7 @@ pub(crate) fn letter_c() -> &'static [Entry]
 }
 
 #[rattlefmt::skip]
-static LETTER_C: [Entry; 50] = [
+static LETTER_C: [Entry; 48] = [
     Entry { name: "cal", key: 0x63616c0000000000, meaning: Meaning::Changes(Change::ToAlphabet(Alphabet::Calligraphic)) },
     Entry { name: "cancel", key: 0x63616e63656c0000, meaning: Meaning::Boxed(OperandBox::StrikeUp) },
     Entry { name: "cap", key: 0x6361700000000000, meaning: Meaning::Shows(Symbol::Sign(Class::Binary, '∩')) },
@@ -42,9 +42,7 @@ static LETTER_C: [Entry; 50] = [
     Entry { name: "circledcirc", key: 0x636972636c656463, meaning: Meaning::Shows(Symbol::Sign(Class::Binary, '⊚')) },
     Entry { name: "circleddash", key: 0x636972636c656464, meaning: Meaning::Shows(Symbol::Sign(Class::Binary, '⊝')) },
     Entry { name: "clubsuit", key: 0x636c756273756974, meaning: Meaning::Shows(Symbol::Sign(Class::Ordinary, '♣')) },
-    Entry { name: "colon", key: 0x636f6c6f6e000000, meaning: Meaning::Shows(Symbol::Sign(Class::Punctuation, ':')) },
     Entry { name: "coloncolon", key: 0x636f6c6f6e636f6c, meaning: Meaning::Shows(Symbol::Sign(Class::Relation, '∷')) },
-    Entry { name: "coloncolonequals", key: 0x636f6c6f6e636f6c, meaning: Meaning::Shows(Symbol::Sign(Class::Relation, '⩴')) },
     Entry { name: "colonequals", key: 0x636f6c6f6e657175, meaning: Meaning::Shows(Symbol::Sign(Class::Relation, '≔')) },
     Entry { name: "color", key: 0x636f6c6f72000000, meaning: Meaning::Changes(Change::ToColor) },
     Entry { name: "complement", key: 0x636f6d706c656d65, meaning: Meaning::Shows(Symbol::Sign(Class::Ordinary, '∁')) },

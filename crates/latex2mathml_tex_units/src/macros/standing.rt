@@ -140,7 +140,7 @@ pub(crate) fn may_turn(name: &str) -> bool
 {
     match name.as_bytes() {
         [first, second, ..] => is_turning_form(*first, *second, name.len()),
-        [one] => matches!(*one, b'-' | b'/'),
+        [one] => matches!(*one, b'*' | b'-' | b'/'),
         [] => false,
     }
 }
@@ -156,6 +156,7 @@ fn is_turning_form(first: u8, second: u8, len: usize) -> bool
             b'r' => len == 3,
             _ => false,
         },
+        b'C' => second == b'o' && len == 8,
         b'D' => second == b'e' && len == 19,
         b'H' => second == b'u' && len == 4,
         b'K' => second == b'e' && len == 3,
@@ -171,7 +172,7 @@ fn is_turning_form(first: u8, second: u8, len: usize) -> bool
         b'c' => match second {
             b'e' => len == 9,
             b'l' => len == 4,
-            b'o' => matches!(len, 7 | 8),
+            b'o' => matches!(len, 5 | 7 | 8 | 16),
             _ => false,
         },
         b'd' => match second {

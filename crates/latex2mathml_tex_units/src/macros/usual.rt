@@ -30,11 +30,13 @@ fn entries() -> &'static [Usual]
 
 /// An entry for each macro, in the order of their names' bytes.
 #[rattlefmt::skip]
-static ENTRIES: [Usual; 82] = [
+static ENTRIES: [Usual; 86] = [
+    Usual { name: "*", arity: 0, body: "" },
     Usual { name: "-", arity: 0, body: "" },
     Usual { name: "/", arity: 0, body: "" },
     Usual { name: "Bbbk", arity: 0, body: "\\mathbb{k}" },
     Usual { name: "Bra", arity: 1, body: "\\left\\langle #1\\right|" },
+    Usual { name: "Coloneqq", arity: 0, body: "\\mathrel{::=}" },
     Usual { name: "Huge", arity: 0, body: "" },
     Usual { name: "Ket", arity: 1, body: "\\left|#1\\right\\rangle" },
     Usual { name: "LARGE", arity: 0, body: "" },
@@ -43,11 +45,13 @@ static ENTRIES: [Usual; 82] = [
     Usual { name: "TeX", arity: 0, body: "\\text{TeX}" },
     Usual { name: "allowbreak", arity: 0, body: "" },
     Usual { name: "bfseries", arity: 0, body: "\\bf" },
-    Usual { name: "bmod", arity: 0, body: "\\mathbin{\\operatorname{mod}}" },
+    Usual { name: "bmod", arity: 0, body: "\\mskip5mu\\mathbin{\\operatorname{mod}}\\mskip5mu" },
     Usual { name: "bra", arity: 1, body: "\\langle #1|" },
     Usual { name: "braket", arity: 1, body: "\\langle #1\\rangle" },
     Usual { name: "centering", arity: 0, body: "" },
     Usual { name: "clap", arity: 1, body: "\\mathclap{\\text{#1}}" },
+    Usual { name: "colon", arity: 0, body: "\\mskip2mu{:}\\mskip6mu" },
+    Usual { name: "coloncolonequals", arity: 0, body: "\\mathrel{::=}" },
     Usual { name: "coloneq", arity: 0, body: "\\mathrel{:=}" },
     Usual { name: "coloneqq", arity: 0, body: "\\mathrel{:=}" },
     Usual { name: "colorbox", arity: 2, body: "\\mathcolorbox{#1}{\\text{#2}}" },

@@ -1,8 +1,9 @@
 use Rattle.std.proofs.Common.{◌≡◌, ◌+◌, ◌∙◌, suc, ap, arith, drop, sym, take}
 use Rattle.latex2mathml_builder.specs.Built.{elements_in}
+use Rattle.latex2mathml_elements.specs.Attributes.{plain}
 use Rattle.latex2mathml_tex_grammar.specs.Rows
 use Rattle.latex2mathml_tex_atoms.specs.Models.{top}
-use Rattle.latex2mathml_tex_atoms.proofs.Shaping.{not_joined, word_apart, word_begun, word_joined}
+use Rattle.latex2mathml_tex_atoms.proofs.Shaping.{not_joined, text_apart, text_begun, word_joined}
 use Rattle.latex2mathml_tex_atoms.proofs.shapes.join_word.Goals as goal
 use Rattle.latex2mathml_tex_atoms.proofs.shapes.join_word.Goals.{else-count-gt0-via-then-count-gt0+else-join, else-count-gt0-via-else-count-gt0}
 
@@ -23,11 +24,11 @@ returns-clause-elements c =
           ap (λ b. take (n + 1) (elements_in b)) w.builder-is
           ∙ ap (take (n + 1)) (w.join.ensures.elements ∙ not_joined xs apart)
           ∙ ap (λ m. take m xs) next
-          ∙ word_apart n xs (omega arith) apart
+          ∙ text_apart _ n xs (omega arith) apart
       | else-count-gt0-via-else-count-gt0 w ↦
           let none : n ≡ 0 = omega (arith, w.if-count-gt0.false) in
           ap (λ b. take (n + 1) (elements_in b)) w.builder-is
           ∙ ap (λ m. take (m + 1) xs) none
-          ∙ word_begun xs (omega arith)
-          ∙ ap (λ m. Rows.join (top xs) (take m (drop 1 xs))) (sym none)
+          ∙ text_begun _ xs (omega arith)
+          ∙ ap (λ m. Rows.join (λ a. plain) (top xs) (take m (drop 1 xs))) (sym none)
     ]

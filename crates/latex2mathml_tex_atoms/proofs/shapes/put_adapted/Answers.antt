@@ -3,7 +3,7 @@ use Rattle.latex2mathml_builder.specs.Built.{elements_in}
 use Rattle.latex2mathml_elements.specs.Element.{space}
 use Rattle.latex2mathml_tex_commands.specs.Meanings.{style_of}
 use Rattle.latex2mathml_tex_atoms.specs.Models.{before_of, kind_of}
-use Rattle.latex2mathml_tex_atoms.proofs.Shaping.{length_changed, length_parted, put_adapted}
+use Rattle.latex2mathml_tex_atoms.proofs.Shaping.{length_changed, length_parted, put_adapted, put_parted}
 use Rattle.latex2mathml_tex_atoms.proofs.shapes.put_adapted.Goals as goal
 use Rattle.latex2mathml_tex_atoms.proofs.shapes.put_adapted.Goals.{After-adapt, In_ok-space_below}
 
@@ -36,5 +36,12 @@ returns-clause-elements c =
     let xs = elements_in c.args.builder.now in
     let n = c.args.count in
     let next : n + 1 ≡ suc n = omega arith in
-    rw (c.if-continues.false, next)
+    rw (c.in-Apart.is, next)
     (ap (take (suc n)) c.adapt.ensures ∙ put_adapted n (style_of c.args.style) (before_of c.args.before) (kind_of c.args.kind) xs (omega arith) (sym c.is_parted.ensures ∙ c.if-is_parted.false))
+
+pub returns-then-is_parted-clause-elements : goal.returns-then-is_parted-clause-elements
+returns-then-is_parted-clause-elements c =
+    let n = c.args.count in
+    let next : n + 2 ≡ suc (suc n) = omega arith in
+    rw (c.in-Apart.is, next)
+    (ap (take (suc (suc n))) c.in_ok-space_below.ensures.elements ∙ put_parted n (style_of c.args.style) (before_of c.args.before) (kind_of c.args.kind) (elements_in c.args.builder.now) (elements_in c.adapt.new.builder) (omega arith) (sym c.is_parted.ensures ∙ c.if-is_parted.true) c.adapt.ensures)

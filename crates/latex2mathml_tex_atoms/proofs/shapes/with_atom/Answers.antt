@@ -1,4 +1,4 @@
-use Rattle.std.proofs.Common.{rules, ◌≡◌, ◌∙◌, ◌||◌, ◌&&◌, Bool, false, ap, drop, take}
+use Rattle.std.proofs.Common.{rules, ◌≡◌, ◌∙◌, ◌||◌, false, ap, drop, refl, take}
 use Rattle.latex2mathml_builder.specs.Built.{elements_in}
 use Rattle.latex2mathml_tex_grammar.specs.Atoms
 use Rattle.latex2mathml_tex_grammar.specs.Rows
@@ -16,12 +16,12 @@ returns-clause-row c =
     let before = before_of row.before in
     let kind = kind_of c.args.core.kind in
     let below = take row.count (drop 1 xs) in
-    let continues : Bool = row.ends_in_word && Atoms.is_letters kind in
+    let joining = Rows.joining (kind_of row.last) kind in
     let high : c.if-row.result ≡ (row.high || c.args.core.high) = elim c.if-row.branch [ then-row w ↦ search rules | else-row w ↦ search rules ] in
     same_row _ _ _ _ _ _ _ _ _ _ _ _ _ _
-    (c.in_ok-count.ensures.elements ∙ ap (λ b. Rows.put b style before (Atoms.atom kind false (top xs)) below) c.continues_word-continues.ensures ∙ put_high continues style before kind c.args.core.high (top xs) below)
+    (c.in_ok-count.ensures.elements ∙ ap (λ b. Rows.put b style before (Atoms.atom kind false (top xs)) below) c.joining-joining.ensures ∙ put_high joining style before kind c.args.core.high (top xs) below)
     c.past.ensures
-    c.is_letters.ensures
+    refl
     high
     (c.class_after.ensures xs c.requires)
     (ap (restyled_with row.restyled row.settled) (same_below row.count c.in_ok-count.count xs (elements_in c.put_adapted.new.builder) c.in_ok-count.ensures.below))

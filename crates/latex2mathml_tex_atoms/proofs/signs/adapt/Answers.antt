@@ -4,20 +4,14 @@ use Rattle.latex2mathml_tex_grammar.specs.Atoms
 use Rattle.latex2mathml_tex_commands.specs.Meanings.{style_of}
 use Rattle.latex2mathml_tex_atoms.specs.Models.{before_of, kind_of}
 use Rattle.latex2mathml_tex_atoms.specs.Shapes.{changed_at}
-use Rattle.latex2mathml_tex_atoms.proofs.Shaping.{infix_there, no_sign, spaced_sign, unchanged}
+use Rattle.latex2mathml_tex_atoms.proofs.Shaping.{infix_there, no_sign, unchanged}
 use Rattle.latex2mathml_tex_atoms.proofs.signs.adapt.Goals as goal
-
-pub returns-in_default-class_there : goal.returns-in_default-class_there
-returns-in_default-class_there c =
-    let style = style_of c.args.style in
-    let none = c.in_default-class_there in
-    sym (unchanged (Atoms.element_there style c.args.first (before_of c.args.before) (kind_of c.args.kind)) 0 (elements_in c.args.builder.now) (λ x. rw (c.in-SignOf.is, ← c.class_there.ensures) (spaced_sign style c.class_there.result none.not-Binary none.not-Relation none.not-Punctuation x)))
 
 pub returns-else-begins_operand : goal.returns-else-begins_operand
 returns-else-begins_operand c =
     let style = style_of c.args.style in
     rw c.in-PlusOrMinus.is
-    (c.tighten-else-begins_operand.ensures
+    (c.tighten.ensures
     ∙ ap (changed_at (Atoms.tight style) 0) c.make_infix.ensures
     ∙ infix_there style c.args.first (before_of c.args.before) (elements_in c.args.builder.now) (sym c.begins_operand.ensures ∙ c.if-begins_operand.false))
 

@@ -1,6 +1,7 @@
-use Rattle.std.proofs.Common.{rules, ◌≡◌, ◌∙◌, ◌+◌, ◌==◌, ◌||◌, ◌&&◌, false, suc, ap, arith, drop, refl, sym, take}
+use Rattle.std.proofs.Common.{rules, ◌≡◌, ◌∙◌, ◌+◌, ◌==◌, ◌||◌, false, suc, ap, arith, drop, refl, sym, take}
 use Rattle.latex2mathml_elements.specs.Element.{Element}
 use Rattle.latex2mathml_tex_grammar.specs.Atoms
+use Rattle.latex2mathml_tex_grammar.specs.Rows
 use Rattle.latex2mathml_tex_commands.specs.Meanings.{style_of}
 use Rattle.latex2mathml_tex_atoms.specs.Models.{before_of, kind_of, restyled_with, settled_count, top, under_with}
 use Rattle.latex2mathml_tex_atoms.proofs.Shaping.{put_as_it_is, put_high, same_below, same_far_below, same_row}
@@ -16,14 +17,15 @@ returns-clause-added c = λ t.
     let longer : c.in-Some.count ≡ row.count + 1 = omega (arith, c.in-Some.ensures.1) in
     let next : row.count + 1 ≡ suc row.count = omega arith in
     let high : c.if-self.high ≡ (row.high || c.args.core.high) = elim c.if-self.branch [ then-self w ↦ search rules | else-self w ↦ search rules ] in
-    let apart : Atoms.is_letters kind ≡ false = search rules in
-    let none : Atoms.is_parted before kind ≡ false = search rules in
+    let joining = Rows.joining (kind_of row.last) kind in
+    let apart : joining ≡ Rows.Apart = search rules in
+    let none : Atoms.is_parted style before kind ≡ false = search rules in
     let stays : (x : Element) → Atoms.element_there style (row.count == 0) before kind x ≡ x = λ x. search rules in
     record {
       row = λ xs enough. same_row _ _ _ _ _ _ _ _ _ _ _ _ _ _
-          (ap (λ n. take n xs) (longer ∙ next) ∙ put_as_it_is row.ends_in_word row.count style before kind xs (omega (arith, enough)) apart none stays ∙ put_high (row.ends_in_word && Atoms.is_letters kind) style before kind c.args.core.high (top xs) (take row.count (drop 1 xs)))
+          (ap (λ n. take n xs) (longer ∙ next) ∙ put_as_it_is joining row.count style before kind xs (omega (arith, enough)) apart none stays ∙ put_high joining style before kind c.args.core.high (top xs) (take row.count (drop 1 xs)))
           c.past-self.ensures
-          (sym apart)
+          refl
           high
           (c.class_after-self.ensures xs enough)
           (ap (restyled_with row.restyled row.settled) (same_below row.count c.in-Some.count xs xs (ap (λ n. drop n xs) longer)))
