@@ -5,10 +5,12 @@ use Rattle.latex2mathml_parser.specs.Frames.{awaits, tree_count, innermost, insi
 use Rattle.latex2mathml_grammar.specs.Counts.{ReadsNodes}
 use Rattle.latex2mathml_grammar.specs.Grammar.{core, gives, node, Outcome, Read, Reads, Refused, Rule}
 use Rattle.latex2mathml_parser.specs.Levels.{Leads, Level, Made, RuleLeads, Accepts, remaining}
+use Rattle.latex2mathml_grammar.specs.Openers.{opens}
 use Rattle.latex2mathml_parser.specs.{Unread.GoesOn, Unread.OpensFor, Unread.Unread, declared.parse.Parser.Parser}
 use Rattle.latex2mathml_trees.specs.{Tree.Tree}
 use Rattle.latex2mathml_parts.specs.{Forests.trees_in, Parts.top}
-use Rattle.latex2mathml_tokens.specs.{Refusal.Refusal, Refusal.refusal_of, Tok.Tok, declared.error.LatexError.LatexError}
+use Rattle.latex2mathml_tokens.specs.{Lexemes.lexeme_tok, Refusal.Refusal, Refusal.refusal_of, Tok.Tok, declared.error.LatexError.LatexError, declared.lexeme.Lexeme.Lexeme}
+use Rattle.latex2mathml_tokens.specs.declared.lexeme.Lexeme.TheVariants as lexeme
 use Rattle.latex2mathml_parser.specs.{declared.parse.State.State, declared.parse.frames.Due.Due, declared.parse.frames.Frame.Frame}
 use Rattle.latex2mathml_parser.specs.declared.parse.State.TheVariants as state
 use Rattle.latex2mathml_parser.specs.declared.parse.frames.Due.TheVariants as due
@@ -118,6 +120,14 @@ pub record Follows (bound : ℕ) (p : Parser) (s : State) : Type 0 where
 pub record IsStep (n more : ℕ) (old new : Parser) (answer : Result State AllocError) : Type 0 where
   pub counted : Counted n old new
   pub follows : IfOk answer (Follows (to_do old + more) new)
+
+-- The frame of a stretched operator was opened, and this lexeme was taken after `\middle`. A frame may be opened for it
+-- unless it is the end.
+pub record IsStretched (old new : Parser) (got : Lexeme) : Type 0 where
+  pub trees : HasTrees 0 new
+  pub more : (got ≡ lexeme.EOF → ⊥) → (to_do new + 14 ≤ to_do old) × (length new.lexer.list < length old.lexer.list)
+      × OpensFor old.lexer new.lexer (old.frames.greatest + 1) (new.frames.greatest + opens (lexeme_tok got))
+  pub falls : to_do new ≤ to_do old + 2
 
 -- a node after others is refused, and some of its tokens were taken
 abbrev pub IsRefusedWithin : Unread → Unread → Refusal → Type 0

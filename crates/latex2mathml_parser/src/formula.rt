@@ -110,7 +110,7 @@ fn append_node<'a>(
         return Ok(true);
     }
     parser.parts.make_room(&mut parser.works)?;
-    let state = parser.begin(lexeme)?;
+    let state = parser.begin_any(lexeme)?;
     append_rest(parser, state, markup)
 }
 

@@ -1,7 +1,7 @@
 //! The lexemes of a text, taken one at a time. White space in front of a lexeme is skipped when the lexeme is taken or
 //! looked for.
 ghost use Rattle.std.specs.Prelude.{◌≡◌, ◌≢◌, ◌∷◌, ℕ, List, IfOk, MatchBool, MatchOption, Some, codes, string_bytes};
-ghost use Rattle.latex2mathml_grammar.specs.{Counts.backslashes, Grammar.first, Grammar.first_or_end};
+ghost use Rattle.latex2mathml_grammar.specs.{Counts.backslashes, Grammar.first};
 ghost use Rattle.latex2mathml_parser.specs.Marks.{IsSeen, MarkStands, rest_of, sign_token};
 ghost use Rattle.latex2mathml_parser.specs.Unread.{GoesOn, Takes, TakesName, slices_in, token_list};
 ghost use Rattle.latex2mathml_tokens.specs.{Lexemes.lexeme_tok, Tok.Letter, Tok.Paren};
@@ -159,20 +159,6 @@ impl<'a> Lexer<'a> {
         }
         self.rest = slice_at(start.text, c, after, start.alone, lexeme);
         self.takes_digit = false;
-    }
-
-    /// Returns the next lexeme, or `EOF` if none is left, without taking it. It is read from a copy, whose counts are lost.
-    #[inline(never)]
-    pub(crate) fn peek(&self) -> Lexeme<'a>
-        ensures { lexeme_tok result ≡ first_or_end self.now.list }
-    {
-        let mut ahead = Lexer {
-            rest: self.rest,
-            takes_digit: self.takes_digit,
-            tokens: 0,
-            comparisons: 0,
-        };
-        ahead.take()
     }
 
     /// Skips the next token, if one is left.

@@ -56,8 +56,7 @@ pub fn latex_to_mathml(
 pub struct Steps {
     /// How many tokens were taken from the text: at most as many as it has bytes.
     pub tokens: u128,
-    /// How many names of the command table were compared, for all commands that were taken. A look at the command after `\middle`,
-    /// before it is taken, is not counted.
+    /// How many names of the command table were compared, for all commands that were taken.
     pub comparisons: u128,
     /// The greatest number of frames that the parser's stack held at once.
     pub frames: u128,

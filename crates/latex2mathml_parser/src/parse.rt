@@ -177,7 +177,7 @@ impl<'a> Parser<'a> {
         if self.frames.end_at(&lexeme) {
             return self.close();
         }
-        self.begin(&lexeme)
+        self.begin_any(&lexeme)
     }
 
     /// Goes on where no token is left: an open group is refused, and any other part that is due is `EOF`, marked as an error.

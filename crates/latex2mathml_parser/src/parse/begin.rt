@@ -1,15 +1,15 @@
 //! How the rule of each lexeme begins.
 
-ghost use Rattle.std.specs.Prelude.{◌≡◌, IfSome, MatchOption, None, Some};
+ghost use Rattle.std.specs.Prelude.{◌≡◌, ◌≢◌, IfOk, IfSome, List, MatchOption, None, Some};
 ghost use Rattle.latex2mathml_grammar.specs.Openers.{opens};
 ghost use Rattle.latex2mathml_grammar.specs.Grammar.{a_root, error_rule, rule, sized, takes_token};
 ghost use Rattle.latex2mathml_parser.specs.Beginnings.{IsBeginningOf, IsLeafOf, IsSpecial};
 ghost use Rattle.latex2mathml_parser.specs.Claims.{Proceeds, limited};
-ghost use Rattle.latex2mathml_parser.specs.Steps.{HasTrees, IsStep};
+ghost use Rattle.latex2mathml_parser.specs.Steps.{Counted, GoesOnBy, HasTrees, IsStep, IsStretched};
 ghost use Rattle.latex2mathml_trees.specs.{Productions.fence_of};
 ghost use Rattle.latex2mathml_parts.specs.Parts.{fence_text};
 ghost use Rattle.latex2mathml_tokens.specs.{Lexemes.lexeme_tok, Names.limit_text, Names.size_text};
-ghost use Rattle.latex2mathml_tokens.specs.Tok.{Begin, Left, Lim, Middle, OperatorName, Slashed, Text};
+ghost use Rattle.latex2mathml_tokens.specs.Tok.{Tok, Begin, Left, Lim, Middle, OperatorName, Slashed, Text};
 
 use crate::lexer::mark::Sign;
 use crate::parse::frames::{Frame, Group, Pair};
@@ -22,10 +22,55 @@ use latex2mathml_tokens::token::Token;
 use std::alloc::AllocError;
 
 impl<'a> Parser<'a> {
-    /// Begins the rule of a lexeme that was taken where a core is due. Most are leaves and groups.
+    /// Begins the rule of a lexeme that was taken where a core is due.
     #[inline(always)]
-    pub(crate) fn begin(&mut self, lexeme: &Lexeme<'a>) -> Result<State, AllocError>
+    pub(crate) fn begin_any(&mut self, lexeme: &Lexeme<'a>) -> Result<State, AllocError>
         requires { HasTrees 0 self.old }
+        ensures holds { Proceeds (rule (lexeme_tok lexeme.now)) 0 self.old self.new result }
+        ensures step { IsStep (opens (lexeme_tok lexeme.now)) 13 self.old self.new result }
+    {
+        match *lexeme {
+            Lexeme::Middle => self.begin_stretched(),
+            _ => self.begin_core(lexeme),
+        }
+    }
+
+    /// Begins a stretched operator with the lexeme after `\middle`, which the frame keeps, because a refusal names it. This may be
+    /// another `\middle`.
+    #[inline(never)]
+    fn begin_stretched(&mut self) -> Result<State, AllocError>
+        requires { HasTrees 0 self.old }
+        ensures holds { Proceeds (rule Middle) 0 self.old self.new result }
+        ensures step { IsStep (opens Middle) 13 self.old self.new result }
+    {
+        let mut begun = Lexeme::Middle;
+        'middles: while let Lexeme::Middle = begun {
+            begun = self.stretch()?;
+            if let Lexeme::EOF = begun {
+                return self.error(&begun);
+            }
+        }
+        self.begin_core(&begun)
+    }
+
+    /// Opens the frame of a stretched operator, and takes the lexeme that it begins with.
+    fn stretch(&mut self) -> Result<Lexeme<'a>, AllocError>
+        requires { HasTrees 0 self.old }
+        ensures holds { (input : List Tok) → GoesOnBy (rule Middle) 0 input self.old
+            → IfOk result (λ got. GoesOnBy (rule (lexeme_tok got)) 0 input self.new) }
+        ensures counted { Counted 1 self.old self.new }
+        ensures taken { IfOk result (IsStretched self.old self.new) }
+    {
+        let got = self.lexer.take();
+        self.frames.open(Frame::Stretch(got))?;
+        Ok(got)
+    }
+
+    /// Begins the rule of a lexeme that is not `\middle`. Most are leaves and groups.
+    #[inline(always)]
+    fn begin_core(&mut self, lexeme: &Lexeme<'a>) -> Result<State, AllocError>
+        requires middle { lexeme.now ≢ Lexeme.Middle }
+        requires trees { HasTrees 0 self.old }
         ensures holds { Proceeds (rule (lexeme_tok lexeme.now)) 0 self.old self.new result }
         ensures step { IsStep (opens (lexeme_tok lexeme.now)) 13 self.old self.new result }
     {
@@ -40,6 +85,7 @@ impl<'a> Parser<'a> {
     #[inline(never)]
     fn begin_special(&mut self, lexeme: Lexeme<'a>) -> Result<State, AllocError>
         requires special { IsSpecial lexeme }
+        requires middle { lexeme ≢ Lexeme.Middle }
         requires trees { HasTrees 0 self.old }
         ensures holds { Proceeds (rule (lexeme_tok lexeme.entry)) 0 self.old self.new result }
         ensures step { IsStep (opens (lexeme_tok lexeme.entry)) 13 self.old self.new result }
@@ -62,7 +108,6 @@ impl<'a> Parser<'a> {
             Lexeme::OperatorName => self.function(),
             Lexeme::Slashed => self.slash(),
             Lexeme::Left => self.open_fence(),
-            Lexeme::Middle => self.stretch(),
             Lexeme::Begin => self.begin_environment(),
             _ => self.error(&lexeme),
         }
@@ -183,16 +228,6 @@ impl<'a> Parser<'a> {
         self.open(Frame::Members(Group::Fence(opening), 0))
     }
 
-    /// Begins a stretched operator. Its frame keeps the lexeme that comes next, because a refusal names it.
-    fn stretch(&mut self) -> Result<State, AllocError>
-        requires { HasTrees 0 self.old }
-        ensures holds { Proceeds (rule Middle) 0 self.old self.new result }
-        ensures step { IsStep 1 13 self.old self.new result }
-    {
-        let got = self.lexer.peek();
-        self.open(Frame::Stretch(got))
-    }
-
     /// Begins an environment: its name, and the members after it.
     fn begin_environment(&mut self) -> Result<State, AllocError>
         requires { HasTrees 0 self.old }
@@ -229,7 +264,7 @@ pub(crate) enum Beginning<'a> {
 impl<'a> Beginning<'a> {
     /// Returns how the rule of a lexeme begins, unless it takes more than its token first.
     #[inline(always)]
-    pub(crate) fn of(lexeme: &Lexeme<'a>) -> Option<Beginning<'a>>
+    fn of(lexeme: &Lexeme<'a>) -> Option<Beginning<'a>>
         ensures { MatchOption result (IsSpecial lexeme.now) (IsBeginningOf lexeme.now) }
     {
         match *lexeme {

@@ -17,6 +17,6 @@ returns c =
     let found = stood c.take_other.new.lexeme p.lexer.list c.take_other.new.self.list c.in_default.not-EOF c.take_other.ensures.token c.take_other.ensures.list in
     let shorter = ap length found in
     record {
-      holds = λ input k. c.begin.ensures.holds input (token_begun input p.frames.stack.items (trees_in p.parts) p.lexer.list _ _ (rw found (c.if-end_at.ensures _)) found k);
-      step = record { counted = counted_taken _ p _ _ found c.take_other.ensures.counts refl c.begin.ensures.step.counted; follows = search rules };
+      holds = λ input k. c.begin_any.ensures.holds input (token_begun input p.frames.stack.items (trees_in p.parts) p.lexer.list _ _ (rw found (c.if-end_at.ensures _)) found k);
+      step = record { counted = counted_taken _ p _ _ found c.take_other.ensures.counts refl c.begin_any.ensures.step.counted; follows = search rules };
     }
