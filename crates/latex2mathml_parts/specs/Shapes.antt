@@ -31,6 +31,10 @@ fence_close text = codes "<mo stretchy=\"true\" form=\"postfix\">" ++ (content t
 abbrev pub styled_print : ℕ → Variant → List ℕ
 styled_print c variant = codes "<mi mathvariant=\"" ++ (variant_text variant ++ (codes "\">" ++ (content_char c ++ codes "</mi>")))
 
+-- an operator that is not in italics
+abbrev pub upright_print : ℕ → List ℕ
+upright_print c = codes "<mo>" ++ (content_char c ++ codes "</mo>")
+
 -- what precedes the first operand
 abbrev pub opening_print : Opening → Option ℕ → List ℕ
 opening_print o None = opening_text o

@@ -4,7 +4,7 @@ ghost use Rattle.latex2mathml_trees.specs.{Print.print, Texts.Appends};
 ghost use Rattle.latex2mathml_trees.specs.Tree.{letter, number, operator};
 ghost use Rattle.latex2mathml_parts.specs.{Parts.arity, Parts.put, Parts.top};
 ghost use Rattle.latex2mathml_parts.specs.Plain.{IsPlain, plain_print};
-ghost use Rattle.latex2mathml_parts.specs.Shapes.{styled_print};
+ghost use Rattle.latex2mathml_parts.specs.Shapes.{styled_print, upright_print};
 ghost use Rattle.latex2mathml_tokens.specs.{Escape.content, Escape.content_char};
 ghost use Rattle.latex2mathml_tokens.specs.declared.attribute.Variant.TheVariants.{Italic};
 
@@ -78,13 +78,18 @@ fn write_other_letter(c: char, out: &mut String) -> Result<(), AllocError>
 
 /// Writes an operator.
 #[inline(never)]
+#[tactic(auto, unfolding(crate::proofs::Encoding::encode_utf8))]
 pub(crate) fn write_operator(c: char, out: &mut String) -> Result<(), AllocError>
     ensures { Appends out.old out.new (print (operator c)) result }
 {
     if is_plain(c) {
         return write_plain(b'o', c as u8, out);
     }
-    write_other_operator(c, out)
+    match c {
+        '<' => out.push_str("<mo>&lt;</mo>"),
+        '>' => out.push_str("<mo>&gt;</mo>"),
+        _ => write_other_operator(c, out),
+    }
 }
 
 /// Writes any operator.
@@ -94,8 +99,6 @@ fn write_other_operator(c: char, out: &mut String) -> Result<(), AllocError>
     ensures { Appends out.old out.new (print (operator c)) result }
 {
     match c {
-        '<' => out.push_str("<mo>&lt;</mo>"),
-        '>' => out.push_str("<mo>&gt;</mo>"),
         '±' => out.push_str("<mo>±</mo>"),
         '·' => out.push_str("<mo>·</mo>"),
         '×' => out.push_str("<mo>×</mo>"),
@@ -107,8 +110,18 @@ fn write_other_operator(c: char, out: &mut String) -> Result<(), AllocError>
         '≤' => out.push_str("<mo>≤</mo>"),
         '≥' => out.push_str("<mo>≥</mo>"),
         '∂' => out.push_str("<mo mathvariant=\"italic\">∂</mo>"),
-        _ => write_char("<mo>", c, "</mo>", out),
+        _ => write_rare_operator(c, out),
     }
+}
+
+/// Writes any operator that is not in italics.
+#[inline(never)]
+fn write_rare_operator(c: char, out: &mut String) -> Result<(), AllocError>
+    ensures { Appends out.old out.new (upright_print c) result }
+{
+    out.push_str("<mo>")?;
+    append_content_char(c, out)?;
+    out.push_str("</mo>")
 }
 
 /// Writes a number.
