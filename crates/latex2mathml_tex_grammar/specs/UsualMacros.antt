@@ -27,7 +27,7 @@ usual_entries =
     (codes "braket", 1, codes "\\langle #1\\rangle") ∷
     (codes "centering", 0, codes "") ∷
     (codes "clap", 1, codes "\\mathclap{\\text{#1}}") ∷
-    (codes "colon", 0, codes "\\mskip2mu{:}\\mskip6mu") ∷
+    (codes "colon", 0, codes "\\mskip2mu\\mathord{:}\\mskip6mu") ∷
     (codes "coloncolonequals", 0, codes "\\mathrel{::=}") ∷
     (codes "coloneq", 0, codes "\\mathrel{:=}") ∷
     (codes "coloneqq", 0, codes "\\mathrel{:=}") ∷

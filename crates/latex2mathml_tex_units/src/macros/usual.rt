@@ -50,7 +50,7 @@ static ENTRIES: [Usual; 86] = [
     Usual { name: "braket", arity: 1, body: "\\langle #1\\rangle" },
     Usual { name: "centering", arity: 0, body: "" },
     Usual { name: "clap", arity: 1, body: "\\mathclap{\\text{#1}}" },
-    Usual { name: "colon", arity: 0, body: "\\mskip2mu{:}\\mskip6mu" },
+    Usual { name: "colon", arity: 0, body: "\\mskip2mu\\mathord{:}\\mskip6mu" },
     Usual { name: "coloncolonequals", arity: 0, body: "\\mathrel{::=}" },
     Usual { name: "coloneq", arity: 0, body: "\\mathrel{:=}" },
     Usual { name: "coloneqq", arity: 0, body: "\\mathrel{:=}" },
