@@ -4,7 +4,7 @@ use Rattle.std.proofs.lemmas.{List.reverse-append, List.Sums.sum_by_push}
 use Rattle.std.specs.Char.{is_ascii_digit}
 use Rattle.latex2mathml_elements.specs.Element.{Element}
 use Rattle.latex2mathml_builder.specs.Built.{Built, elements_in}
-use Rattle.latex2mathml_tex_grammar.specs.{Makes.Core, Makes.core, Makes.group, Makes.number, Next.past_space, Rows.empty_row, Rows.operand_of, Words.words_atom}
+use Rattle.latex2mathml_tex_grammar.specs.{Makes.Core, Makes.braced, Makes.core, Makes.number, Next.past_space, Rows.empty_row, Words.words_atom}
 use Rattle.latex2mathml_tex_grammar.specs.Atoms.{Plain, atom}
 use Rattle.latex2mathml_tex_grammar.specs.Symbols.{Ordinary}
 use Rattle.latex2mathml_tex_grammar.specs.Reading.{Outcome, Read}
@@ -101,7 +101,7 @@ unit_begins s p f k u is e h i g = rw e (begins_in s p f (λ c. rule u.place c (
 
 -- a group is due within its frame
 pub group_begins : (s : Start) (p : Parser) (k : Context) (row : CodeRow) (place : ℕ) → row ≡ code.empty_row → BeginsIn k (rule place (context_of k) grammar.Open) 0 s p → Leads (level_within (frame.Row ending.Group place k row) 0 s p) (left_of p)
-group_begins s p k row place e g = rw e (row_due (λ xs. gives (core (group (operand_of xs)))) g.leads)
+group_begins s p k row place e g = rw e (row_due (λ xs. gives (core (braced xs))) g.leads)
 
 -- what the rule of the unit refuses is refused at the level
 pub rule_refused : (s : Start) (p : Parser) (r : Refusal) → Begins (refuses r) 0 s p → Refuses (level 0 s p) r

@@ -3,11 +3,11 @@ use Rattle.std.proofs.Common.{◌≡◌, ◌∙◌, ℕ, ◌+◌, false, ◌∷�
 use Rattle.std.proofs.lemmas.List.{drop-drop, length-drop}
 use Rattle.latex2mathml_elements.specs.Element.{Element}
 use Rattle.latex2mathml_builder.specs.Built.{Built, elements_in}
-use Rattle.latex2mathml_tex_grammar.specs.{Atoms.Plain, Atoms.atom, Makes.core, Makes.root, Rows.row_element, Symbols.Ordinary}
+use Rattle.latex2mathml_tex_grammar.specs.{Atoms.Plain, Atoms.atom, Makes.core, Makes.root, Rows.braced_element, Rows.row_element, Symbols.Ordinary}
 use Rattle.latex2mathml_tex_grammar.specs.{Rules.gives, Symbols.InScript}
 use Rattle.latex2mathml_tex_grammar.specs.Rules as rules
 use Rattle.latex2mathml_tex.specs.{Frames.Start, Frames.context_at, Frames.labeled_arrow, Innermost.frame_context, Levels.Leads}
-use Rattle.latex2mathml_tex_atoms.specs.Models.{context_of, core_with, top}
+use Rattle.latex2mathml_tex_atoms.specs.Models.{context_of, core_with, kind_of, top}
 use Rattle.latex2mathml_tex_commands.specs.declared.meaning.Style.TheVariants as style
 use Rattle.latex2mathml_tex.specs.Steps.{CanMake, ClosesRow, Follows, Holds, InnermostIs, Made, core_made, elements_of, left_of, level, level_within, operand_made, to_do, words_made}
 use Rattle.latex2mathml_tex_atoms.specs.declared.{atoms.Context.Context, atoms.Core.Core as CodeCore, atoms.Operand.Operand as CodeOperand, atoms.Row.Row as CodeRow, atoms.Words.Words as CodeWords}
@@ -24,7 +24,7 @@ use Rattle.latex2mathml_tex.proofs.{Opening.context_is, Wording.drop_more, Wordi
 abbrev pub IsOne : CodeRow → Parser → Built → Type 0
 IsOne row p b = elements_in b ≡ row_element (take row.count (elements_of p)) ∷ drop row.count (elements_of p)
 
-module _ (p : Parser) (b : Built) (row : CodeRow) (one : IsOne row p b) where
+module _ (p : Parser) (b : Built) (row : CodeRow) {x : Element} (one : elements_in b ≡ x ∷ drop row.count (elements_of p)) where
   -- one element is there in place of those of the row
   pub closed_can : (m : Made) (n : ℕ) → CanMake m (row.count + n) p → CanMake m (n + 1) (record p { builder = b })
   closed_can m n can = record {
@@ -41,21 +41,24 @@ module _ (p : Parser) (b : Built) (row : CodeRow) (one : IsOne row p b) where
   pub words_closed_step : (n : ℕ) → CanMake words_made (row.count + n) p → Follows (to_do p + 13) (record p { builder = b }) (state.Words (record { count = n + 1; ends_in_text = false }))
   words_closed_step n can = let made = closed_can words_made n can in record { ready = record { elements = made.elements; may_come = made.awaits }; falls = omega arith }
 
-module _ (s : Start) (p : Parser) (b : Built) (place : ℕ) (row : CodeRow) (one : IsOne row p b) where
+module _ (s : Start) (p : Parser) (b : Built) (place : ℕ) (row : CodeRow) where
   none_beside : row.count + 0 ≡ row.count
   none_beside = omega arith
 
-  pub group_closed : (c : CodeCore) → ((x : Element) → core_with c x ≡ core (atom (Plain Ordinary) row.high x)) → ClosesRow ending.Group place row s p → Holds s (record p { builder = b }) (state.Core c)
-  group_closed c is g =
-      let x = row_element (take row.count (elements_of p)) in
-      record { style = g.style; claims = rw (one, is x) (rw none_beside at (given g.leads)) }
+  -- the atom of a row in braces
+  abbrev pub group : Element
+  group = braced_element (kind_of row.last) (take row.count (elements_of p))
 
+  pub group_closed : elements_in b ≡ group ∷ drop row.count (elements_of p) → (c : CodeCore) → ((x : Element) → core_with c x ≡ core (atom (Plain Ordinary) row.high x)) → ClosesRow ending.Group place row s p → Holds s (record p { builder = b }) (state.Core c)
+  group_closed one c is g = record { style = g.style; claims = rw (one, is group) (rw none_beside at (given g.leads)) }
+
+module _ (s : Start) (p : Parser) (b : Built) (place : ℕ) (row : CodeRow) (one : IsOne row p b) where
   -- the operand of the root is due, in the context of the level
   pub degree_closed : (f : Frame) (c : Context) → InnermostIs f p → c ≡ frame_context f → ClosesRow ending.Degree place row s p → Leads (level_within (frame.Last last.Root place c) 0 s (record p { builder = b })) (left_of p)
   degree_closed f c inner is g =
       let same = ap context_of is ∙ context_is s p.style p.frames.stack.items f (drop row.count (elements_of p)) g.style inner in
       let x = row_element (take row.count (elements_of p)) in
-      rw (one, same) (operand_due (λ y. gives (root x y.element)) (rw none_beside at g.leads))
+      rw (one, same) (operand_due (λ y. gives (root x y.element)) (rw (none_beside s p b place row) at g.leads))
 
   -- the label above the arrow is due, in a script of the context of the level
   pub arrow_closed : (f : Frame) (c small : Context) → InnermostIs f p → c ≡ frame_context f → small ≡ record c { style = style.InScript } → ClosesRow ending.BelowArrow place row s p → Leads (level_within (frame.Last last.OverAndUnderArrow place small) 0 s (record p { builder = b })) (left_of p)

@@ -17,7 +17,7 @@ use Rattle.latex2mathml_tex_grammar.specs.Reading.{ReadsRows}
 use Rattle.latex2mathml_tex_grammar.specs.Rules.{ByBrace, ByName, ByText, Context as RuleContext, Rule, ended_table, gives, passes_over, reads_rows, rows_of_text, rows_rule, styled, takes_found}
 use Rattle.latex2mathml_tex_grammar.specs.Scanning.{BeforeArgument, BeforeRow, Name, Spot, past, past_break}
 use Rattle.latex2mathml_tex_grammar.specs.Symbols as symbols
-use Rattle.latex2mathml_tex_grammar.specs.Tables.{Lines, a_table, between_any, rows_of, rows_onto, said_style}
+use Rattle.latex2mathml_tex_grammar.specs.Tables.{Lines, a_table, between_any, rows_of, rows_onto, said_style, table_class}
 use Rattle.latex2mathml_tex.specs.Frames.{Start, context_at}
 use Rattle.latex2mathml_tex.specs.Levels.{CoreMade, Refuses, RuleLeads}
 use Rattle.latex2mathml_tex_units.specs.{Errors.refusal_of, Left.unit_count, Left.units_at}
@@ -156,7 +156,7 @@ rows_reversed a columns (y ∷ ys) x xs = rows_reversed a columns ys y (x ∷ xs
 table_of_lines : (a : Attributes) (columns : Columns) (lines : Lines) (xs : List Element) → xs ≡ lines.last ∷ lines.others → table_with a columns (reverse xs) ≡ table a (rows_of columns lines)
 table_of_lines a columns lines xs e = ap (λ k. table_with a columns (reverse k)) e ∙ rows_reversed a columns lines.others lines.last []
 
-pub table_made : (s : Start) (p : Parser) (b : Built) (delimiters : Option (Option ℕ × Option ℕ)) (columns : CodeColumns) (own : Style) (rows : ℕ) (f : Frame) (around : Context) (said : Option MathStyle) (c : CodeCore) → around ≡ frame_context f → InnermostIs f p → option_map math_style_of said ≡ said_style (style_of own) (style_of around.style) → elements_in b ≡ between_any (option_map delimiter_texts delimiters) (table_with (attributes.styled (option_map math_style_of said)) (columns_of columns) (reverse (take rows (elements_of p)))) ∷ drop rows (elements_of p) → ((x : Element) → core_with c x ≡ core (atom (Plain symbols.Inner) true x)) → MakesTable delimiters columns own rows s p → Holds s (record p { builder = b }) (state.Core c)
+pub table_made : (s : Start) (p : Parser) (b : Built) (delimiters : Option (Option ℕ × Option ℕ)) (columns : CodeColumns) (own : Style) (rows : ℕ) (f : Frame) (around : Context) (said : Option MathStyle) (c : CodeCore) → around ≡ frame_context f → InnermostIs f p → option_map math_style_of said ≡ said_style (style_of own) (style_of around.style) → elements_in b ≡ between_any (option_map delimiter_texts delimiters) (table_with (attributes.styled (option_map math_style_of said)) (columns_of columns) (reverse (take rows (elements_of p)))) ∷ drop rows (elements_of p) → ((x : Element) → core_with c x ≡ core (atom (Plain (table_class (option_map delimiter_texts delimiters))) true x)) → MakesTable delimiters columns own rows s p → Holds s (record p { builder = b }) (state.Core c)
 table_made s p b delimiters columns own rows f around said c is inner says put made g =
     let outer : context_of around ≡ context_at (level rows s p) = ap context_of is ∙ context_is s p.style p.frames.stack.items f (drop rows (elements_of p)) g.style inner in
     let style : option_map math_style_of said ≡ said_style (style_of own) (context_at (level rows s p)).style = says ∙ ap (λ (k : RuleContext). said_style (style_of own) k.style) outer in

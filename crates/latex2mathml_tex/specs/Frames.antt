@@ -4,10 +4,10 @@ use Rattle.std.specs.Prelude.{◌≡◌, ℕ, zero, suc, ◌+◌, true, IsFalse,
 use Rattle.latex2mathml_elements.specs.{Attributes.Above, Attributes.plain, Element.Element, Element.Mover, Element.Munderover, Element.pair, Element.triple}
 use Rattle.latex2mathml_attributes.specs.Names.{side_of, stretch_of}
 use Rattle.latex2mathml_tex_grammar.specs.Makes as makes
-use Rattle.latex2mathml_tex_grammar.specs.Makes.{Core, core, group, classed, operator_name, accent, brace, stack, fraction, outlined_fraction, square_root, root, between_delimiters, struck, boxed_atom}
+use Rattle.latex2mathml_tex_grammar.specs.Makes.{Core, braced, core, group, classed, operator_name, accent, brace, stack, fraction, outlined_fraction, square_root, root, between_delimiters, struck, boxed_atom}
 use Rattle.latex2mathml_tex_grammar.specs.Reading.{Outcome, Read, Refused, ReadsAtoms, ReadsRule}
 use Rattle.latex2mathml_tex_grammar.specs.{Formulas.alone, Formulas.formula_context, Atoms.Plain, Atoms.atom, Symbols.Style, Symbols.InScript, Symbols.InText, Symbols.Relation, Units.Units, Symbols.Ordinary}
-use Rattle.latex2mathml_tex_grammar.specs.Rows.{Operand, Row, as_base, empty_row, operand_of, row_element}
+use Rattle.latex2mathml_tex_grammar.specs.Rows.{Operand, Row, as_base, empty_row, row_element}
 use Rattle.latex2mathml_tex_grammar.specs.Rules as rules
 use Rattle.latex2mathml_tex_grammar.specs.Rules.{Context, Rule, gives, of_one, rows_of_text, slashed, struck_atom, takes_delimiter, WholeText, InBraces, InBrackets, InDollars, InDelimiters, InCell}
 use Rattle.latex2mathml_tex_grammar.specs.Words.{words_atom}
@@ -79,7 +79,7 @@ labeled_arrow sign label above = core (atom (Plain Relation) true (triple Munder
 -- where the outcome of a row leads, within this level; these elements are below the row's own
 abbrev pub RowMade : Start → Ending → ℕ → List Element → Level → Outcome Row → Type 0
 RowMade s ending.Text place xs l = Whole s
-RowMade s ending.Group place xs l = Then (λ row. gives (core (group (operand_of row)))) (CoreMade l)
+RowMade s ending.Group place xs l = Then (λ row. gives (core (braced row))) (CoreMade l)
 RowMade s ending.Operand place xs l = λ o. OperandMade l (as_operand o)
 RowMade s ending.Degree place xs l = Then (λ row. of_one place (context_at l) (λ x. root (row_element row.elements) x.element)) (CoreMade l)
 RowMade s ending.BelowArrow place xs l = Then (λ row. of_one place (rules.styled (context_at l) InScript) (λ x. labeled_arrow (top xs) (row_element row.elements) x.element)) (CoreMade l)

@@ -37,7 +37,6 @@ abbrev pub before_of : Before → atoms.Before
 before_of before.Nothing = atoms.Nothing
 before_of (before.After class) = atoms.After (class_of class)
 before_of before.AfterName = atoms.AfterName
-before_of before.AfterDots = atoms.AfterDots
 
 abbrev pub context_of : Context → rules.Context
 context_of c = rules.in_context (style_of c.style) (option_map alphabet_of c.alphabet)

@@ -70,6 +70,16 @@ impl Kind {
         }
     }
 
+    /// Whether a browser leaves a space around the element of the atom.
+    pub(crate) fn is_spaced(self) -> bool
+        ensures { result ≡ Rows.is_spaced (kind_of self) }
+    {
+        matches!(
+            self,
+            Kind::SignOf(Class::Binary | Class::Relation | Class::Punctuation)
+        )
+    }
+
     /// Whether the place of the atom's limits can be specified: whether the atom is an operator.
     pub fn takes_limits(self) -> bool
         ensures { result ≡ Makes.takes_limits (kind_of self) }
@@ -122,7 +132,6 @@ pub enum Before {
     Nothing,
     After(Class),
     AfterName,
-    AfterDots,
 }
 
 impl Before {
@@ -133,7 +142,6 @@ impl Before {
     {
         match self {
             Before::Nothing | Before::AfterName => true,
-            Before::AfterDots => false,
             Before::After(class) => match class {
                 Class::Operator
                 | Class::Binary
@@ -168,7 +176,6 @@ impl Before {
         ensures { before_of result ≡ Atoms.past (before_of self) (kind_of kind) }
     {
         match kind {
-            Kind::SignOf(Class::Inner) => Before::AfterDots,
             Kind::SignOf(class) => Before::After(self.class_there(class)),
             Kind::PlusOrMinus => Before::After(self.class_there(Class::Binary)),
             Kind::Plain(class) => Before::After(self.class_there(class)),
@@ -190,20 +197,22 @@ impl Before {
     }
 }
 
-/// Whether there is a thin space between two atoms. An operator and a comma have a space of their own. Dots have none in scripts.
+/// Whether there is a thin space between two atoms. An operator and a comma have a space of their own. What is inner has none in
+/// scripts.
 fn parts(style: Style, before: Before, behind: Before) -> bool
     ensures { result ≡ Atoms.parts (style_of style) (before_of before) (before_of behind) }
 {
     match (before, behind) {
-        (Before::AfterName | Before::AfterDots, Before::AfterName) => true,
-        (Before::AfterName, Before::AfterDots) => true,
-        (Before::AfterName, Before::After(Class::Ordinary | Class::Inner)) => true,
+        (Before::AfterName, Before::After(Class::Ordinary) | Before::AfterName) => true,
         (Before::After(Class::Ordinary | Class::Closing | Class::Inner), Before::AfterName) => true,
-        (Before::AfterDots, Before::AfterDots)
-        | (Before::After(Class::Ordinary | Class::Closing | Class::Inner), Before::AfterDots)
+        (Before::AfterName, Before::After(Class::Inner))
         | (
-            Before::AfterDots,
-            Before::After(Class::Ordinary | Class::Inner | Class::Opening | Class::Punctuation),
+            Before::After(Class::Ordinary | Class::Closing | Class::Inner),
+            Before::After(Class::Inner),
+        )
+        | (
+            Before::After(Class::Inner),
+            Before::After(Class::Ordinary | Class::Opening | Class::Punctuation),
         ) => !matches!(style, Style::InScript),
         _ => false,
     }

@@ -244,8 +244,8 @@ fn close_fraction(builder: &mut Builder, row: Row) -> Result<Row, AllocError>
     put_fraction(builder, rule, None)?;
     Ok(Row {
         count: 1,
-        before: Before::After(Class::Inner),
-        last: Kind::Plain(Class::Inner),
+        before: Before::After(Class::Ordinary),
+        last: Kind::Plain(Class::Ordinary),
         high: true,
         ..Row::empty()
     })

@@ -14,7 +14,7 @@ ghost use Rattle.latex2mathml_tex_atoms.specs.Shapes.{ChangesAt, ReplacesTop, de
 ghost use Rattle.latex2mathml_tex_commands.specs.Delimiters.{delimiter_text};
 
 use crate::atoms::{Before, Core, Joining, Kind, Row, class_after};
-use crate::signs::adapt;
+use crate::signs::{adapt, remove_space};
 use latex2mathml_attributes::attributes::{Attributes, Form, Side, Size, Space, Stretch};
 use latex2mathml_attributes::tag::{Container, Pair, Token};
 use latex2mathml_builder::builder::Builder;
@@ -61,16 +61,17 @@ pub fn put_sized(
         (Makes.sized (size_of size) (class_of class) (delimiter_text delimiter)).atom.element
         builder.old builder.new) }
 {
-    let form = match class {
-        Class::Opening => Some(Form::Prefix),
-        Class::Closing => Some(Form::Postfix),
-        _ => None,
+    let (form, space) = match class {
+        Class::Opening => (Some(Form::Prefix), Space::NoSpace),
+        Class::Closing => (Some(Form::Postfix), Space::NoSpace),
+        Class::Relation => (None, Space::Thick),
+        _ => (None, Space::NoSpace),
     };
     let attributes = Attributes {
         form,
         stretch: Some(Stretch::Stretching),
         size: Some(size),
-        space: Some(Space::NoSpace),
+        space: Some(space),
         ..Attributes::plain()
     };
     put_delimiter(builder, attributes, delimiter)
@@ -87,6 +88,20 @@ pub fn put_row(builder: &mut Builder, count: usize) -> Result<(), AllocError>
         return Ok(());
     }
     builder.container(Container::Mrow, Attributes::plain(), count)
+}
+
+/// Makes one element of the top ones, which are those of a row in braces. A sign that is all of it has no space.
+pub fn put_braced(builder: &mut Builder, count: usize, last: Kind) -> Result<(), AllocError>
+    requires { count ≤ length (elements_in builder.old) }
+    ensures { OnOk result (elements_in builder.new
+        ≡ Rows.braced_element (kind_of last) (take count (elements_in builder.old))
+        ∷ drop count (elements_in builder.old)) }
+{
+    if count == 1 && last.is_spaced() {
+        remove_space(builder);
+        return Ok(());
+    }
+    put_row(builder, count)
 }
 
 /// Puts the top element between delimiters, which stretch if it is high.
@@ -192,6 +207,13 @@ pub fn make_base(builder: &mut Builder, style: Style, class: Class, own: Class)
         Class::Binary | Class::Relation => free_sign(builder, style, class),
         _ => {}
     }
+}
+
+/// Whether the top element is a sign.
+pub fn is_sign(builder: &Builder) -> bool
+    ensures { result ≡ Makes.is_sign (top (elements_in builder.now)) }
+{
+    matches!(builder.token_at(0), Some((Token::Mo, _)))
 }
 
 /// Makes the top element, if it is a sign, one that precedes no operand. It is all of an atom of this class.

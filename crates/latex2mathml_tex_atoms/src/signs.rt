@@ -28,14 +28,14 @@ pub(crate) fn is_put_as_it_is(
     ensures element { (x : Element) → IsTrue result
         → Atoms.element_there (style_of style) first (before_of before) (kind_of kind) x ≡ x }
 {
-    if let Before::AfterName | Before::AfterDots = before {
+    if let Before::AfterName | Before::After(Class::Inner) = before {
         return false;
     }
     match kind {
+        Kind::Plain(Class::Inner) | Kind::SignOf(Class::Inner) => false,
         Kind::Plain(_) => true,
         Kind::SignOf(Class::Relation) => keeps_space(style) && !is_relation(last),
         Kind::SignOf(Class::Binary) => keeps_space(style) && (first || !before.begins_operand()),
-        Kind::SignOf(Class::Inner) => false,
         Kind::SignOf(_) => keeps_space(style),
         Kind::PlusOrMinus => keeps_space(style) && !first && !before.begins_operand(),
         Kind::UprightLetters | Kind::FunctionWord | Kind::Divider | Kind::Blank => false,
@@ -105,7 +105,8 @@ fn tighten(builder: &mut Builder, style: Style)
     }
 }
 
-fn remove_space(builder: &mut Builder)
+/// Removes the space around a sign.
+pub(crate) fn remove_space(builder: &mut Builder)
     ensures { ChangesAt Atoms.without_space 0 builder.old builder.new }
 {
     if let Some((_, attributes)) = builder.token_at(0) {

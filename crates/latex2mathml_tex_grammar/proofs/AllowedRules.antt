@@ -16,7 +16,7 @@ use Rattle.latex2mathml_tex_grammar.specs.Symbols.{InDisplay, InText, InScript, 
 use Rattle.latex2mathml_tex_grammar.specs.Units.{Piece, Space, Open, Close, Command, Character}
 use Rattle.latex2mathml_tex_grammar.specs.Words.{Word, Shown, Formula, Nothing, WordRule, IsWord, BeginsFormula, NoWord, Words, word_space, word_character, with_text, with_word, words_element, word_rule, character_rule as word_of_character, meaning_rule as word_of_meaning, command_rule as word_of_command}
 use Rattle.latex2mathml_tex_grammar.proofs.Allowed.{IsAllowedPiece, AreAllowedElements, IsAllowedElement, IsAllowedCore, IsAllowedOperand, AreAllowedScripts, AreAllowedWords, IsAllowedWord, IsAllowedWordRule, IsAllowedStep, IsAllowedRule, AreGiven}
-use Rattle.latex2mathml_tex_grammar.proofs.AllowedMakes.{letter_allowed, upright_letter_allowed, symbol_allowed, number_allowed, row_element_allowed, single_allowed, struck_allowed, as_base_allowed, classed_allowed, accent_allowed, brace_allowed, stack_allowed, fraction_allowed, fenced_allowed, in_style_allowed, between_allowed, behind_primes_allowed}
+use Rattle.latex2mathml_tex_grammar.proofs.AllowedMakes.{letter_allowed, upright_letter_allowed, symbol_allowed, number_allowed, braced_element_allowed, row_element_allowed, single_allowed, struck_allowed, as_base_allowed, classed_allowed, accent_allowed, brace_allowed, stack_allowed, fraction_allowed, fenced_allowed, in_style_allowed, between_allowed, behind_primes_allowed}
 use Rattle.latex2mathml_elements.specs.Columns.{Alike, Dense}
 use Rattle.latex2mathml_tex_grammar.specs.Environments.{environment_of}
 use Rattle.latex2mathml_tex_grammar.proofs.AllowedRows.{a_table_allowed, environment_allowed, environment_passes}
@@ -276,7 +276,7 @@ command_allowed place c name (Some meaning) h = meaning_rule_allowed place c mea
 
 -- the rule of a unit
 pub rule_allowed : (place : ℕ) (c : Context) (piece : Piece) → IsAllowedPiece piece → IsAllowedRule (rule place c piece)
-rule_allowed place c Open h = λ row k. row_element_allowed row.elements k
+rule_allowed place c Open h = λ row k. braced_element_allowed row.last row.elements k
 rule_allowed place c Close h = tt
 rule_allowed place c Space h = tt
 rule_allowed place c (Character character) h = character_allowed c character place h

@@ -36,7 +36,6 @@ pub data Before : Type 0 where
   Nothing : Before
   After : Class → Before
   AfterName : Before
-  AfterDots : Before
 
 -- whether no binary operator can follow
 abbrev pub begins_operand : Before → Bool
@@ -50,21 +49,15 @@ begins_operand (After Punctuation) = true
 begins_operand (After Ordinary) = false
 begins_operand (After Closing) = false
 begins_operand (After Inner) = false
-begins_operand AfterDots = false
 
 -- the class that an atom of this class has there: where no binary operator can be, a binary one is ordinary
 abbrev pub class_there : Before → Class → Class
 class_there before Binary = if begins_operand before then Ordinary else Binary
 class_there before class = class
 
--- what a sign of this class is to the atom after it: dots are the signs that are inner
-abbrev pub past_sign : Class → Before
-past_sign Inner = AfterDots
-past_sign class = After class
-
 -- what an atom is to the atom after it
 abbrev pub past : Before → Kind → Before
-past before (SignOf class) = past_sign (class_there before class)
+past before (SignOf class) = After (class_there before class)
 past before PlusOrMinus = After (class_there before Binary)
 past before (Plain class) = After (class_there before class)
 past before UprightLetters = After Ordinary
@@ -73,27 +66,23 @@ past before Divider = After Opening
 past before Blank = before
 
 -- Whether there is a thin space between two atoms. It separates the name of a function from another name, from what is
--- ordinary or inner, and from a closing sign before it. Except in scripts, it separates dots from what is ordinary, inner or
--- other dots, from a closing sign before them, and from an opening sign or a comma after them. An operator has a space of
--- its own, and so has a comma after it.
+-- ordinary, and from a closing sign before it. Except in scripts, it separates what is inner from names, from what is ordinary
+-- or inner, from a closing sign before it, and from an opening sign or a comma after it. An operator has a space of its own,
+-- and so has a comma after it.
 abbrev pub parts : Style → Before → Before → Bool
 parts style AfterName (After Ordinary) = true
-parts style AfterName (After Inner) = true
 parts style AfterName AfterName = true
-parts style AfterName AfterDots = true
 parts style (After Ordinary) AfterName = true
 parts style (After Closing) AfterName = true
 parts style (After Inner) AfterName = true
-parts style AfterDots AfterName = true
 parts InScript before behind = false
-parts style (After Ordinary) AfterDots = true
-parts style (After Closing) AfterDots = true
-parts style (After Inner) AfterDots = true
-parts style AfterDots AfterDots = true
-parts style AfterDots (After Ordinary) = true
-parts style AfterDots (After Inner) = true
-parts style AfterDots (After Opening) = true
-parts style AfterDots (After Punctuation) = true
+parts style AfterName (After Inner) = true
+parts style (After Ordinary) (After Inner) = true
+parts style (After Closing) (After Inner) = true
+parts style (After Inner) (After Inner) = true
+parts style (After Inner) (After Ordinary) = true
+parts style (After Inner) (After Opening) = true
+parts style (After Inner) (After Punctuation) = true
 parts style before behind = false
 
 -- whether there is a thin space before an atom of this kind; a space needs none

@@ -4,7 +4,7 @@ use Rattle.std.specs.{Char.encode_utf8, Str.encode_utf8_all}
 use Rattle.latex2mathml_elements.specs.Attributes.{Attributes, Side, Above, Below, Form, Prefix, Postfix, Stretch, Stretching, Rigid, Space, NoSpace, Narrow, Thick, Size, Boxing, NoWidth, Flat, NoHeight, NoDepth, ByItsWidth, ByHalfItsWidth, Framed, StruckUp, StruckDown, StruckTwice, boxed, MathStyle, DisplayStyle, TextStyle, ScriptStyle, plain}
 use Rattle.latex2mathml_elements.specs.Element.{Mi, Mn, Mo, Mrow, Msqrt, Mstyle, Mpadded, Mphantom, Mfrac, Mroot, Msub, Msup, Munder, Mover, Msubsup, Munderover, Element, token, space, rectangle, container, pair, triple, children}
 use Rattle.latex2mathml_elements.specs.Extents.{wide}
-use Rattle.latex2mathml_tex_grammar.specs.{Alphabets.in_alphabet, Rows.Row, Rows.Operand, Rows.row_element}
+use Rattle.latex2mathml_tex_grammar.specs.{Alphabets.in_alphabet, Rows.Row, Rows.Operand, Rows.braced_element, Rows.row_element}
 use Rattle.latex2mathml_tex_grammar.specs.Atoms.{Atom, Kind, SignOf, PlusOrMinus, Plain, UprightLetters, FunctionWord, Blank, Divider, atom}
 use Rattle.latex2mathml_tex_grammar.specs.Meaning.{FractionRule, Bar, NoBar, Braced, Bracketed, Bare, LimitPlace, Beside, ByStyle, Movable, Stacked, Box, Phantom, PhantomWidth, PhantomHeight, Smashed, WithoutHeight, WithoutDepth, OverRight, OverLeft, OverBoth, Frame, StrikeUp, StrikeDown, StrikeTwice, Raised, Colored, OnColor}
 use Rattle.latex2mathml_tex_grammar.specs.Symbols.{Class, Ordinary, Operator, Binary, Relation, Opening, Closing, Punctuation, Inner, Style, InDisplay, InText, InScript, Alphabet, Upright, Symbol, Letter, UprightLetter, Sign, BigOperator, Integral}
@@ -142,13 +142,27 @@ struck x = None
 
 -- Groups and classes
 
+-- a row in braces as an ordinary atom
+abbrev pub braced : Row → Atom
+braced row = atom (Plain Ordinary) row.high (braced_element row.last row.elements)
+
 -- an operand as an ordinary atom
 abbrev pub group : Operand → Atom
 group x = atom (Plain Ordinary) x.high x.element
 
+-- whether an element is a sign
+abbrev pub is_sign : Element → Bool
+is_sign (token Mo a sign_text) = true
+is_sign x = false
+
+-- what an operator is to its neighbours: a sign has a space of its own, and anything else is like the name of a function
+abbrev pub operator_kind : Bool → Kind
+operator_kind true = Plain Operator
+operator_kind false = FunctionWord
+
 -- an operand as an atom of this class; an operator has its limits above and below it in display style
 abbrev pub classed : Class → Operand → Core
-classed Operator x = operator ByStyle (atom (Plain Operator) x.high x.element)
+classed Operator x = operator ByStyle (atom (operator_kind (is_sign x.element)) x.high x.element)
 classed class x = core (atom (Plain class) x.high x.element)
 
 -- an operand as the name of a function, with limits at this place
@@ -291,7 +305,7 @@ fraction_element Bare above below = without_bar above below
 
 -- a fraction in a style of its own, where it has one
 abbrev pub fraction : FractionRule → Option Style → Element → Element → Core
-fraction rule own above below = core (atom (Plain Inner) true (in_style own (fraction_element rule above below)))
+fraction rule own above below = core (atom (Plain Ordinary) true (in_style own (fraction_element rule above below)))
 
 -- how a fraction is drawn, as its author says: its delimiters, where an empty text is no delimiter, whether it has a line, and
 -- its style, where it has one of its own
@@ -314,7 +328,7 @@ between_any opening closing x = fenced true opening closing x
 -- a fraction that is drawn as this says
 abbrev pub outlined_fraction : Outline → Element → Element → Core
 outlined_fraction o above below =
-    core (atom (Plain Inner) true (in_style o.own (between_any o.opening o.closing (quotient o.has_line above below))))
+    core (atom (Plain Ordinary) true (in_style o.own (between_any o.opening o.closing (quotient o.has_line above below))))
 
 -- a square root is ordinary, and high
 abbrev pub square_root : Element → Core
@@ -349,10 +363,15 @@ form_of Opening = Some Prefix
 form_of Closing = Some Postfix
 form_of class = None
 
+-- the space around a delimiter by `\big` and its like, by its class
+abbrev pub sized_space : Class → Space
+sized_space Relation = Thick
+sized_space class = NoSpace
+
 -- a delimiter of this size and class
 abbrev pub sized : Size → Class → List ℕ → Core
 sized size class sign_text =
-    core (atom (Plain class) true (token Mo (record plain { form = form_of class; stretch = Some Stretching; size = Some size; space = Some NoSpace }) sign_text))
+    core (atom (Plain class) true (token Mo (record plain { form = form_of class; stretch = Some Stretching; size = Some size; space = Some (sized_space class) }) sign_text))
 
 -- Scripts
 

@@ -1,9 +1,9 @@
 -- Rows: the elements of atoms that are next to each other. Here the last element comes first.
 use Rattle.std.specs.Prelude.{pos, Bool, true, false, ◌||◌, List, [], ◌∷◌, ◌++◌, reverse, Option, None}
 use Rattle.latex2mathml_elements.specs.{Attributes.Attributes, Attributes.plain, Colors.Color, Element.Element, Element.Mrow, Element.token, Element.space, Element.container, Element.children}
-use Rattle.latex2mathml_tex_grammar.specs.Atoms.{Atom, Kind, SignOf, PlusOrMinus, Plain, UprightLetters, Blank, Before, Nothing, is_parted, past, element_there, element_as}
+use Rattle.latex2mathml_tex_grammar.specs.Atoms.{Atom, Kind, SignOf, PlusOrMinus, Plain, UprightLetters, Blank, Before, Nothing, is_parted, past, element_there, element_as, without_space}
 use Rattle.latex2mathml_tex_grammar.specs.{Meaning.FractionRule}
-use Rattle.latex2mathml_tex_grammar.specs.Symbols.{Class, Ordinary, Binary, Relation, Style}
+use Rattle.latex2mathml_tex_grammar.specs.Symbols.{Class, Ordinary, Binary, Relation, Punctuation, Style}
 
 -- a change of style or color in a row
 pub record Restyled : Type 0 where
@@ -109,6 +109,23 @@ with_atom style row x = record {
 abbrev pub row_element : List Element → Element
 row_element (x ∷ []) = x
 row_element xs = container Mrow plain (children (reverse xs))
+
+-- whether a browser leaves a space around an element of this kind
+abbrev pub is_spaced : Kind → Bool
+is_spaced (SignOf Binary) = true
+is_spaced (SignOf Relation) = true
+is_spaced (SignOf Punctuation) = true
+is_spaced kind = false
+
+-- an element that is all of a row in braces: TeX leaves no space around it there
+abbrev pub isolated : Bool → Element → Element
+isolated true x = without_space x
+isolated false x = x
+
+-- the element of a row in braces, whose last atom is of this kind
+abbrev pub braced_element : Kind → List Element → Element
+braced_element last (x ∷ []) = isolated (is_spaced last) x
+braced_element last xs = row_element xs
 
 -- What a command takes: one element, with its class as the base of a mark, and whether it is higher than a letter.
 pub record Operand : Type 0 where

@@ -3,9 +3,9 @@
 use Rattle.std.specs.Prelude.{ℕ, zero, ℤ, pos, ◌==◌, ◌||◌, Bool, nat_le, length, true, false, List, [], ◌∷◌, ◌++◌, Option, Some, None, if◌then◌else◌}
 use Rattle.std.specs.{Char.is_ascii_alphabetic, Char.is_ascii_digit, Str.byte, Str.bytes_eq}
 use Rattle.latex2mathml_elements.specs.{Attributes.Above, Columns.Columns, Columns.Centered, Columns.LeftAligned, Columns.RightAligned, Columns.Dense, Columns.Alike, Columns.Listed, Element.Element}
-use Rattle.latex2mathml_tex_grammar.specs.{Atoms.Plain, Atoms.atom, Commands.meaning_of, Commands.symbol_of, Delimiters.delimiter_of, Delimiters.negated_of, Dots.centered_dots, Dots.centers_dots, Dots.low_dots, Rows.Row, Rows.Operand, Rows.as_base, Rows.operand_of, Rows.row_element}
+use Rattle.latex2mathml_tex_grammar.specs.{Atoms.Plain, Atoms.atom, Commands.meaning_of, Commands.symbol_of, Delimiters.delimiter_of, Delimiters.negated_of, Dots.centered_dots, Dots.centers_dots, Dots.low_dots, Rows.Row, Rows.Operand, Rows.as_base, Rows.row_element}
 use Rattle.latex2mathml_tex_grammar.specs.Environments.{Environment, Bracket, NoBracket, Position, Alignment, columns_of, environment_of, pairs}
-use Rattle.latex2mathml_tex_grammar.specs.Makes.{Core, core, letter, upright_letter, number, relation, symbol, function_name, spacing, group, classed, no_letters, operator_name, accent, brace, stack, fraction, square_root, root, between_delimiters, sized, struck, blank, boxed_atom, bar, arrow, Outline, outlined_fraction}
+use Rattle.latex2mathml_tex_grammar.specs.Makes.{Core, core, letter, upright_letter, number, relation, symbol, function_name, spacing, braced, group, classed, no_letters, operator_name, accent, brace, stack, fraction, square_root, root, between_delimiters, sized, struck, blank, boxed_atom, bar, arrow, Outline, outlined_fraction}
 use Rattle.latex2mathml_tex_grammar.specs.Meaning.{Meaning, Shows, FunctionName, Dots, Spacing, Styled, Words as TakesWordsIn, Fraction, Root, Accent, Brace, Stack, StackedRelation, OperatorName, Negation, Slash, Sized, Left, Middle, Right, Limits, NoLimits, Classed, Changes, Beside, ByStyle, FractionRule, BeginTable, EndTable, LineBreak, Substack, Skip, SkipInBraces, Box, Smashed, WithoutHeight, WithoutDepth, Boxed, Smash, Raise, InColor, Highlight, Rectangle, Arrow, Raised, Colored, OnColor, ContinuedFraction, GeneralFraction, Bar}
 use Rattle.latex2mathml_tex_grammar.specs.Refusal.{UnknownCommand, MissingArgument, MissingDelimiter, ChangeAsArgument, UnopenedBrace, RightWithoutLeft, MiddleWithoutLeft, LimitsWithoutOperator, NothingToNegate, OutsideTable, MisplacedCharacter, Refusal, refusal_at, UnknownEnvironment, EndWithoutBegin, OtherName, TooManyColumns, LengthTooLarge, UnknownColor}
 use Rattle.latex2mathml_tex_grammar.specs.Scanning.{Spot, Argument, Name, ColumnList, Number, BeforeArgument, BeforeBrace, BeforePosition, AtUnit, BeforeLengthInBraces, BeforeStar, InLength, AtBracket, ColorName}
@@ -401,7 +401,7 @@ command_rule place c name None = refuses (refusal_at (UnknownCommand name) place
 
 -- the rule of a unit that begins an atom
 abbrev pub rule : ℕ → Context → Piece → Rule
-rule place c Open = reads_atoms (InBraces place) c (λ row. gives (core (group (operand_of row))))
+rule place c Open = reads_atoms (InBraces place) c (λ row. gives (core (braced row)))
 rule place c Close = refuses (refusal_at UnopenedBrace place)
 rule place c (Character character) = character_rule c character place
 rule place c (Command name) = command_rule place c name (meaning_of name)

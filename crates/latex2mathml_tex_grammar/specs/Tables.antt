@@ -5,7 +5,7 @@ use Rattle.latex2mathml_elements.specs.{Columns.Columns, Columns.column_at, Tabl
 use Rattle.latex2mathml_elements.specs.Element.{Mrow, Element, Rows, container, table, children}
 use Rattle.latex2mathml_tex_grammar.specs.{Atoms.Plain, Atoms.atom, Makes.Core, Makes.core, Makes.fenced, Makes.math_style, Rows.Row, Rows.empty_row, Rows.row_element}
 use Rattle.latex2mathml_tex_grammar.specs.Environments.{before_cell}
-use Rattle.latex2mathml_tex_grammar.specs.Symbols.{Inner, Style, InDisplay, InText}
+use Rattle.latex2mathml_tex_grammar.specs.Symbols.{Class, Ordinary, Inner, Style, InDisplay, InText}
 
 -- the row of a cell that has this many cells before it, before its first atom
 abbrev pub begun_cell : Columns → ℕ → Row
@@ -50,7 +50,12 @@ abbrev pub between_any : Option (List ℕ × List ℕ) → Element → Element
 between_any None x = x
 between_any (Some delimiters) x = fenced true delimiters.0 delimiters.1 x
 
+-- the class of a table, which may be between delimiters
+abbrev pub table_class : Option (List ℕ × List ℕ) → Class
+table_class None = Ordinary
+table_class (Some delimiters) = Inner
+
 -- a table in these columns, whose cells have the first style, where the second is around it
 abbrev pub a_table : Option (List ℕ × List ℕ) → Columns → Style → Style → Lines → Core
 a_table delimiters columns style around lines =
-    core (atom (Plain Inner) true (between_any delimiters (table (record plain { style = said_style style around }) (rows_of columns lines))))
+    core (atom (Plain (table_class delimiters)) true (between_any delimiters (table (record plain { style = said_style style around }) (rows_of columns lines))))

@@ -17,7 +17,9 @@ use latex2mathml_tex_atoms::atoms::{Context, Core, Kind, Operand, Row, Scripts};
 use latex2mathml_tex_atoms::boxes::put_in_box;
 use latex2mathml_tex_atoms::fractions::put_fraction;
 use latex2mathml_tex_atoms::outlines::put_outlined;
-use latex2mathml_tex_atoms::shapes::{make_base, put_accent, put_brace, put_stack, with_atom};
+use latex2mathml_tex_atoms::shapes::{
+    is_sign, make_base, put_accent, put_brace, put_stack, with_atom,
+};
 use latex2mathml_tex_commands::meaning::{Class, LimitPlace};
 use latex2mathml_tex_units::error::TexErrorKind;
 use std::alloc::AllocError;
@@ -175,7 +177,8 @@ impl<'a> Parser<'a> {
             }
             Last::Classed(class, style) => {
                 make_base(&mut self.builder, style, class, operand.class);
-                *next = State::Core(classed(class, operand));
+                let is_sign = is_sign(&self.builder);
+                *next = State::Core(classed(class, is_sign, operand));
                 Ok(())
             }
             Last::Boxed(operand_box, style) => {
@@ -186,12 +189,12 @@ impl<'a> Parser<'a> {
             }
             Last::Fraction(rule, own) => {
                 put_fraction(&mut self.builder, rule, own)?;
-                *next = State::Core(Core::new(Kind::Plain(Class::Inner), true));
+                *next = State::Core(ordinary(true));
                 Ok(())
             }
             Last::Outlined(outline) => {
                 put_outlined(&mut self.builder, outline)?;
-                *next = State::Core(Core::new(Kind::Plain(Class::Inner), true));
+                *next = State::Core(ordinary(true));
                 Ok(())
             }
             Last::Stack(side, style) => {
@@ -232,17 +235,18 @@ fn ordinary(high: bool) -> Core
     Core::new(Kind::Plain(Class::Ordinary), high)
 }
 
-/// Returns an operand as an atom of this class.
-fn classed(class: Class, operand: Operand) -> Core
-    ensures { (x : Element)
+/// Returns an operand, which may be a sign, as an atom of this class.
+fn classed(class: Class, is_sign: bool, operand: Operand) -> Core
+    ensures { (x : Element) → is_sign ≡ Makes.is_sign x
         → core_with result x ≡ Makes.classed (class_of class) (operand_with operand x) }
 {
-    let limits = match class {
-        Class::Operator => LimitPlace::ByStyle,
-        _ => LimitPlace::Beside,
+    let (kind, limits) = match class {
+        Class::Operator if !is_sign => (Kind::FunctionWord, LimitPlace::ByStyle),
+        Class::Operator => (Kind::Plain(Class::Operator), LimitPlace::ByStyle),
+        _ => (Kind::Plain(class), LimitPlace::Beside),
     };
     Core {
-        kind: Kind::Plain(class),
+        kind,
         high: operand.high,
         limits,
     }

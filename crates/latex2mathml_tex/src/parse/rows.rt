@@ -17,7 +17,9 @@ use latex2mathml_attributes::attributes::Attributes;
 use latex2mathml_attributes::tag::Container;
 use latex2mathml_tex_atoms::atoms::{Context, Core, Kind, Operand, Row, Scripts, Words};
 use latex2mathml_tex_atoms::rests::{divide, finish, recolor, restyle};
-use latex2mathml_tex_atoms::shapes::{enclose, lower_dividers, put_divider, put_row, with_atom};
+use latex2mathml_tex_atoms::shapes::{
+    enclose, lower_dividers, put_braced, put_divider, put_row, with_atom,
+};
 use latex2mathml_tex_commands::commands;
 use latex2mathml_tex_commands::meaning::{Change, Class, LimitPlace, Meaning, Style};
 use latex2mathml_tex_commands::signs::symbol_of;
@@ -360,15 +362,21 @@ impl<'a> Parser<'a> {
             → OnOk result (Holds s self.new next.new) }
         ensures step { Advances 13 self.old self.new next.new result }
     {
-        put_row(&mut self.builder, row.count)?;
-        *next = match braced {
-            Braced::Group => State::Core(Core::new(Kind::Plain(Class::Ordinary), row.high)),
-            Braced::Operand => State::Operand(Operand {
-                class: row.class,
-                high: row.high,
-            }),
-        };
-        Ok(())
+        match braced {
+            Braced::Group => {
+                put_braced(&mut self.builder, row.count, row.last)?;
+                *next = State::Core(Core::new(Kind::Plain(Class::Ordinary), row.high));
+                Ok(())
+            }
+            Braced::Operand => {
+                put_row(&mut self.builder, row.count)?;
+                *next = State::Operand(Operand {
+                    class: row.class,
+                    high: row.high,
+                });
+                Ok(())
+            }
+        }
     }
 
     /// Ends a row between delimiters, whose `\right` was taken.

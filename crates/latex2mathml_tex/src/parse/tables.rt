@@ -7,7 +7,7 @@ ghost use Rattle.latex2mathml_attributes.specs.Names.{math_style_of};
 ghost use Rattle.latex2mathml_tex_grammar.specs.Tables;
 ghost use Rattle.latex2mathml_tex_grammar.specs.{Meaning.Substack, Starts.cell_end, Tables.a_row, Rows.row_element};
 ghost use Rattle.latex2mathml_tex_grammar.specs.Rules.{meaning_rule, rows_of_text};
-ghost use Rattle.latex2mathml_tex_commands.specs.Meanings.{style_of};
+ghost use Rattle.latex2mathml_tex_commands.specs.Meanings.{class_of, style_of};
 ghost use Rattle.latex2mathml_tex_units.specs.{Scans.spot_of, Taking.piece_of};
 ghost use Rattle.latex2mathml_tex.specs.Frames.{context_at};
 ghost use Rattle.latex2mathml_tex_atoms.specs.Models.{context_of};
@@ -259,8 +259,19 @@ impl<'a> Parser<'a> {
         let around = self.frames.innermost(self.style).context();
         let said = said_style(style, around.style);
         put_table(&mut self.builder, delimiters, columns, said, rows)?;
-        *next = State::Core(Core::new(Kind::Plain(Class::Inner), true));
+        let class = table_class(delimiters);
+        *next = State::Core(Core::new(Kind::Plain(class), true));
         Ok(())
+    }
+}
+
+/// Returns the class of a table between these delimiters, if there are any.
+fn table_class(delimiters: Option<(Option<char>, Option<char>)>) -> Class
+    ensures { class_of result ≡ Tables.table_class (option_map delimiter_texts delimiters) }
+{
+    match delimiters {
+        Some(_) => Class::Inner,
+        None => Class::Ordinary,
     }
 }
 

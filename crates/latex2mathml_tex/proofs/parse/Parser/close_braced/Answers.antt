@@ -2,6 +2,6 @@ use Rattle.std.proofs.Common.{refl}
 use Rattle.latex2mathml_tex.proofs.Closing.{group_closed}
 use Rattle.latex2mathml_tex.proofs.parse.Parser.close_braced.Goals as goal
 
-pub returns-in-Group-clause-holds : goal.returns-in-Group-clause-holds
-returns-in-Group-clause-holds c = λ s place g.
-    group_closed s c.args.self.now c.put_row.new.builder place c.args.row c.in_ok-put_row.ensures c.new.result (λ x. rw c.new.ensures refl) (rw c.in-Group.is at g)
+pub returns-in_ok-put_braced-in-Group-clause-holds : goal.returns-in_ok-put_braced-in-Group-clause-holds
+returns-in_ok-put_braced-in-Group-clause-holds c = λ s place g.
+    group_closed s c.args.self.now c.put_braced.new.builder place c.args.row c.in_ok-put_braced-in-Group.ensures c.new.result (λ x. rw c.new.ensures refl) (rw c.in-Group.is at g)

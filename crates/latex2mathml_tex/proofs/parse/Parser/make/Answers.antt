@@ -101,22 +101,22 @@ pub returns-in-Classed-clause-holds : goal.returns-in-Classed-clause-holds
 returns-in-Classed-clause-holds c = λ s g.
     let p = c.args.self.now in
     let some : 1 ≤ length (elements_of p) = enough 1 p (rw c.in-Classed.is at c.requires.elements) in
-    classed_put p c.args.last c.args.operand s c.make_base.new.builder c.in-Classed.class c.in-Classed.style c.classed.result c.in-Classed.is some c.make_base.ensures.elements c.classed.ensures g
+    classed_put p c.args.last c.args.operand s c.make_base.new.builder c.in-Classed.class c.in-Classed.style c.classed.result c.in-Classed.is some c.make_base.ensures.elements c.is_sign-is_sign.result c.is_sign-is_sign.ensures c.classed.ensures g
 
 pub returns-in_ok-put_fraction-in-Fraction : goal.returns-in_ok-put_fraction-in-Fraction
 returns-in_ok-put_fraction-in-Fraction c =
     let p = c.args.self.now in
     record {
-      holds = λ s g. rw c.new.ensures (made_held p c.args.last c.args.operand s c.put_fraction.new.builder _ (record { element = rw c.in-Fraction.is c.in_ok-put_fraction-in-Fraction.ensures; is = rw c.in-Fraction.is refl }) g);
-      step = rw c.new.ensures (made_step p c.args.last c.args.operand c.put_fraction.new.builder _ (made p c.args.last c.args.operand).atom.element (rw c.in-Fraction.is c.in_ok-put_fraction-in-Fraction.ensures) c.requires);
+      holds = λ s g. rw c.ordinary-in-Fraction.ensures (made_held p c.args.last c.args.operand s c.put_fraction.new.builder _ (record { element = rw c.in-Fraction.is c.in_ok-put_fraction-in-Fraction.ensures; is = rw c.in-Fraction.is refl }) g);
+      step = rw c.ordinary-in-Fraction.ensures (made_step p c.args.last c.args.operand c.put_fraction.new.builder _ (made p c.args.last c.args.operand).atom.element (rw c.in-Fraction.is c.in_ok-put_fraction-in-Fraction.ensures) c.requires);
     }
 
 pub returns-in_ok-put_outlined-in-Outlined : goal.returns-in_ok-put_outlined-in-Outlined
 returns-in_ok-put_outlined-in-Outlined c =
     let p = c.args.self.now in
     record {
-      holds = λ s g. rw c.new-in-Outlined.ensures (made_held p c.args.last c.args.operand s c.put_outlined.new.builder _ (record { element = rw c.in-Outlined.is c.in_ok-put_outlined-in-Outlined.ensures; is = rw c.in-Outlined.is refl }) g);
-      step = rw c.new-in-Outlined.ensures (made_step p c.args.last c.args.operand c.put_outlined.new.builder _ (made p c.args.last c.args.operand).atom.element (rw c.in-Outlined.is c.in_ok-put_outlined-in-Outlined.ensures) c.requires);
+      holds = λ s g. rw c.ordinary-in-Outlined.ensures (made_held p c.args.last c.args.operand s c.put_outlined.new.builder _ (record { element = rw c.in-Outlined.is c.in_ok-put_outlined-in-Outlined.ensures; is = rw c.in-Outlined.is refl }) g);
+      step = rw c.ordinary-in-Outlined.ensures (made_step p c.args.last c.args.operand c.put_outlined.new.builder _ (made p c.args.last c.args.operand).atom.element (rw c.in-Outlined.is c.in_ok-put_outlined-in-Outlined.ensures) c.requires);
     }
 
 pub returns-in_ok-put_stack-in-Stack : goal.returns-in_ok-put_stack-in-Stack
@@ -127,8 +127,8 @@ returns-in_ok-put_stack-in-Stack c =
     let f = base p c.args.last c.args.operand c.in-Stack.style c.args.operand.class in
     let is = c.make_base-in-Stack.ensures.elements in
     record {
-      holds = λ s g. rw c.new-in-Stack.ensures (made_held p c.args.last c.args.operand s c.put_stack.new.builder _ (record { element = rw c.in-Stack.is (rw (is, top_changed f xs some, behind_changed f xs, behind_two_changed f xs) at c.in_ok-put_stack-in-Stack.ensures); is = rw c.in-Stack.is refl }) g);
-      step = rw c.new-in-Stack.ensures (made_step p c.args.last c.args.operand c.put_stack.new.builder _ (made p c.args.last c.args.operand).atom.element (rw c.in-Stack.is (rw (is, top_changed f xs some, behind_changed f xs, behind_two_changed f xs) at c.in_ok-put_stack-in-Stack.ensures)) c.requires);
+      holds = λ s g. rw c.new.ensures (made_held p c.args.last c.args.operand s c.put_stack.new.builder _ (record { element = rw c.in-Stack.is (rw (is, top_changed f xs some, behind_changed f xs, behind_two_changed f xs) at c.in_ok-put_stack-in-Stack.ensures); is = rw c.in-Stack.is refl }) g);
+      step = rw c.new.ensures (made_step p c.args.last c.args.operand c.put_stack.new.builder _ (made p c.args.last c.args.operand).atom.element (rw c.in-Stack.is (rw (is, top_changed f xs some, behind_changed f xs, behind_two_changed f xs) at c.in_ok-put_stack-in-Stack.ensures)) c.requires);
     }
 
 pub returns-in_ok-put_stack-in-StackedRelation : goal.returns-in_ok-put_stack-in-StackedRelation
