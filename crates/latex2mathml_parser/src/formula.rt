@@ -164,6 +164,7 @@ impl<'a> Converter<'a> {
     ///
     /// The same as those of [`latex_to_mathml`](crate::latex_to_mathml). A part of the markup may have been appended then.
     #[inline(always)]
+    #[tactic(auto, using(crate::proofs::Accounts::refused, crate::proofs::Accounts::rendering))]
     pub fn append(
         &mut self,
         text: &mut String,

@@ -279,6 +279,7 @@ impl<'a> Lexer<'a> {
 
     /// Does the same as `first_char`, also where white space or a character that is not ASCII comes next.
     #[inline(never)]
+    #[tactic(auto, using(crate::proofs::Starts::same_slices))]
     fn find_first_char(&mut self) -> Option<char>
         ensures sight { IsSeen result self.old.list }
         ensures same { self.new ≡ self.old }

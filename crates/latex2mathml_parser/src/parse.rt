@@ -181,6 +181,7 @@ impl<'a> Parser<'a> {
     }
 
     /// Goes on where no token is left: an open group is refused, and any other part that is due is `EOF`, marked as an error.
+    #[tactic(auto, using(crate::proofs::Stacks::group_open, crate::proofs::Stacks::nothing_begun))]
     fn at_end(&mut self) -> Result<State, AllocError>
         requires { HasTrees 0 self.old }
         ensures holds { self.old.lexer.list ≡ [] → Keeps State.Next self.old self.new result }

@@ -38,6 +38,7 @@ pub(crate) fn is_space(c: char) -> bool
 
 /// Returns the first character, if it is ASCII, and what follows it.
 #[inline(always)]
+#[tactic(auto, using(crate::proofs::Fronts::first_byte, crate::proofs::Fronts::wide_first))]
 pub(crate) fn first_ascii(text: &str) -> Option<(char, &str)>
     ensures first { IfSome result (λ found. chars text.now ≡ found.0 ∷ chars found.1.now) }
     ensures none { IfNone result (Stops is_ascii (head (chars text.now))) }
@@ -89,6 +90,7 @@ pub(crate) fn after_char(text: &str, c: char) -> Option<&str>
 
 /// Returns what follows the first character, if it is of the class. All classes are of ASCII characters.
 #[inline(always)]
+#[tactic(auto, using(crate::proofs::Fronts::first_of_class))]
 pub(crate) fn after_one(class: Class, text: &str) -> Option<&str>
     ensures { MatchOption result (Stops (in_class class) (head (chars text.now)))
         (λ rest. (c : ℕ) × (chars text.now ≡ c ∷ chars rest.now) × IsTrue (in_class class c)) }

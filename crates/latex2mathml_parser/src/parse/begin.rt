@@ -54,6 +54,7 @@ impl<'a> Parser<'a> {
     }
 
     /// Opens the frame of a stretched operator, and takes the lexeme that it begins with.
+    #[tactic(auto, using(crate::proofs::Beginning::stood, crate::proofs::Beginning::stretch_begun, std::proofs::lemmas::Grind::common_steps))]
     fn stretch(&mut self) -> Result<Lexeme<'a>, AllocError>
         requires { HasTrees 0 self.old }
         ensures holds { (input : List Tok) → GoesOnBy (rule Middle) 0 input self.old

@@ -121,6 +121,7 @@ impl<'a> Parser<'a> {
     }
 
     /// Ends the innermost group, whose end was taken.
+    #[tactic(auto, using(crate::proofs::Combining::group_closed))]
     pub(crate) fn close(&mut self) -> Result<State, AllocError>
         requires due { (end : GroupEnd) × (due_in self.old ≡ Due.Member end) }
         requires trees { HasTrees 0 self.old }

@@ -27,6 +27,7 @@ impl<'a> Parser<'a> {
     }
 
     /// Goes on after a core followed by a prime: the prime is taken, unless a core is due.
+    #[tactic(auto, using(crate::proofs::Levels::given, crate::proofs::Levels::passed, crate::proofs::Levels::prime_taken, crate::proofs::Stacks::due_of_inside))]
     fn after_prime(&mut self) -> Result<State, AllocError>
         requires prime { first self.old.lexer.list ≡ Some prime }
         requires trees { HasTrees 1 self.old }

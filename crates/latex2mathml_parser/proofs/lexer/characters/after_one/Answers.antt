@@ -1,5 +1,5 @@
 use Rattle.std.proofs.Common.{◌≡◌}
-use Rattle.latex2mathml_parser.proofs.Fronts.{first_of_class, none_of_class}
+use Rattle.latex2mathml_parser.proofs.Fronts.{none_of_class}
 use Rattle.latex2mathml_parser.proofs.lexer.characters.after_one.Goals as goal
 
 pub returns-in_default : goal.returns-in_default
@@ -7,9 +7,3 @@ returns-in_default c = none_of_class c.args.class _ c.utf8.text (λ b e. absurd 
 
 pub returns-then-not-contains : goal.returns-then-not-contains
 returns-then-not-contains c = none_of_class c.args.class _ c.utf8.text (λ b e. let same : b ≡ c.in-Some.byte = cc (c.in-Some.ensures.value, c.as_bytes.ensures.value, e) in rw same (cc))
-
-pub split_at-requires : goal.split_at-requires
-split_at-requires c = (first_of_class c.args.class _ c.in-Some.byte c.utf8.text (cc (c.in-Some.ensures.value, c.as_bytes.ensures.value)) (cc)).0
-
-pub returns : goal.returns
-returns c = (c.in-Some.byte, rw c.split_at.ensures.back ((first_of_class c.args.class _ c.in-Some.byte c.utf8.text (cc (c.in-Some.ensures.value, c.as_bytes.ensures.value)) (cc)).1), cc)
