@@ -5,7 +5,7 @@ use Rattle.latex2mathml_elements.specs.{Annotated.IsAnnotatedMathElement, Annota
 use Rattle.latex2mathml_elements.proofs.{Annotated.annotated_print_as_elements, OneElement.print_as_elements}
 use Rattle.latex2mathml_trees.specs.MathSchema.{IsMathElement}
 use Rattle.latex2mathml_tex_grammar.specs.{Atoms.Atom, DefinitionTexts.Defines, Macros.SameMacros, Macros.Table, Makes.Core, Makes.is_display, Makes.no_scripts, Meaning.Beside, Refusal.Kind, Refusal.Refusal, Refusal.refusal_at, Rests.finished, Rows.Row, Rows.empty_row, Rows.row_element, Rows.with_atom, Symbols.Style}
-use Rattle.latex2mathml_tex_grammar.specs.Formulas.{IsExpansion, IsReading, ReadsFormula, as_atoms, as_rows, formula_context, is_outside, row_print, row_print_with_source, source_text}
+use Rattle.latex2mathml_tex_grammar.specs.Formulas.{IsExpansion, IsReading, ReadsFormula, as_atoms, as_rows, formula_context, is_outside, row_print, row_print_with_source, shown, source_text}
 use Rattle.latex2mathml_tex_grammar.specs.Formulas as formula
 use Rattle.latex2mathml_tex_grammar.specs.Reading.{Outcome, Read, Refused, ReadsAtoms, text_ends, never_ended, atoms_stopped, atoms_end, atom_read, atom_refused, rest_read, change_refused, ReadsRule, rule_gives, rows_read, rows_to_end, ReadsScripts, scripts_end, mark_taken, script_read, script_refused, mark_refused}
 use Rattle.latex2mathml_tex_grammar.specs.{Rules.WholeText, Rules.rows_of_text, Units.End, Units.Units}
@@ -170,31 +170,31 @@ answered table tex style count xs old new (row, reading, upper) is =
 -- what was appended is an answer with its source
 pub answered_with_source : (table : Table) (tex : List ℕ) (style : Style) (count : ℕ) (xs ys : List Element) (old new : List ℕ) → (row : Row) × IsReading table (chars tex) style row × AreUppermost row count xs → ys ≡ row_element (take count xs) ∷ drop count xs → new ≡ old ++ annotated_print (is_display style) (top ys) (source_text (chars tex)) → (markup : List ℕ) × IsAnswerWithSource table tex style markup × (new ≡ old ++ markup)
 answered_with_source table tex style count xs ys old new (row, reading, upper) one is =
-    let shown : top ys ≡ row_element row.elements = rw upper.elements (ap top one) in
-    let markup : new ≡ old ++ row_print_with_source style (chars tex) row = is ∙ ap (λ x. old ++ annotated_print (is_display style) x (source_text (chars tex))) shown in
+    let first : top ys ≡ row_element (shown row) = rw upper.elements (ap top one) in
+    let markup : new ≡ old ++ row_print_with_source style (chars tex) row = is ∙ ap (λ x. old ++ annotated_print (is_display style) x (source_text (chars tex))) first in
     (row_print_with_source style (chars tex) row, (row, reading, refl), markup)
 
 -- An answer is one `math` element, and can be in a page of XML or between dollar signs.
 
 pub one_element : (macros : Table) (tex : List ℕ) (style : Style) (markup : List ℕ) → IsAnswer macros tex style markup → IsMathElement markup
-one_element macros tex style markup (row, reading, is) = rw is (print_as_elements.formulas (is_display style) (children (reverse row.elements)))
+one_element macros tex style markup (row, reading, is) = rw is (print_as_elements.formulas (is_display style) (children (reverse (shown row))))
 
 pub sound_text : (definitions : List ℕ) (macros : Table) (tex : List ℕ) (style : Style) (markup : List ℕ) → Defines definitions macros → IsAnswer macros tex style markup → IsAllowed markup
 sound_text definitions macros tex style markup h (row, reading, is) = rw is (markup_allowed definitions macros (chars tex) style row h reading).0
 
 pub no_dollar : (macros : Table) (tex : List ℕ) (style : Style) (markup : List ℕ) → IsAnswer macros tex style markup → IsDollarFree markup
-no_dollar macros tex style markup (row, reading, is) = rw is (print_as_elements.dollars (is_display style) (children (reverse row.elements)))
+no_dollar macros tex style markup (row, reading, is) = rw is (print_as_elements.dollars (is_display style) (children (reverse (shown row))))
 
 -- An answer with its source is one `math` element, and can be in a page of XML or between dollar signs.
 
 pub one_element_with_source : (macros : Table) (tex : List ℕ) (style : Style) (markup : List ℕ) → IsAnswerWithSource macros tex style markup → IsAnnotatedMathElement markup
-one_element_with_source macros tex style markup (row, reading, is) = rw is (annotated_print_as_elements.formulas (is_display style) (row_element row.elements) (source_text (chars tex)))
+one_element_with_source macros tex style markup (row, reading, is) = rw is (annotated_print_as_elements.formulas (is_display style) (row_element (shown row)) (source_text (chars tex)))
 
 pub sound_text_with_source : (definitions : List ℕ) (macros : Table) (tex : List ℕ) (style : Style) (markup : List ℕ) → Defines definitions macros → IsAnswerWithSource macros tex style markup → IsAllowed markup
 sound_text_with_source definitions macros tex style markup h (row, reading, is) = rw is (markup_with_source_allowed definitions macros (chars tex) style row h reading).0
 
 pub no_dollar_with_source : (macros : Table) (tex : List ℕ) (style : Style) (markup : List ℕ) → IsAnswerWithSource macros tex style markup → IsDollarFree markup
-no_dollar_with_source macros tex style markup (row, reading, is) = rw is (annotated_print_as_elements.dollars (is_display style) (row_element row.elements) (source_text (chars tex)))
+no_dollar_with_source macros tex style markup (row, reading, is) = rw is (annotated_print_as_elements.dollars (is_display style) (row_element (shown row)) (source_text (chars tex)))
 
 -- what was appended to nothing is all
 pub appended : (P : List ℕ → Type 0) (old new : List ℕ) → old ≡ [] → (markup : List ℕ) × P markup × (new ≡ old ++ markup) → P new

@@ -1,14 +1,15 @@
 -- Rows that end as they are: nothing in them is left to be finished.
-use Rattle.std.proofs.Common.{◌≡◌, ℕ, List, arith, drop, refl, sym, ap, subst}
+use Rattle.std.proofs.Common.{◌≡◌, ℕ, List, arith, drop, refl, sym, take, ap, subst}
 use Rattle.latex2mathml_elements.specs.Element.{Element}
-use Rattle.latex2mathml_tex_grammar.specs.{Next.past_space, Rests.finished}
+use Rattle.latex2mathml_builder.specs.Built.{Built, elements_in}
+use Rattle.latex2mathml_tex_grammar.specs.{Next.past_space, Rests.finished, Rows.lone}
 use Rattle.latex2mathml_tex_grammar.specs.Reading.{Read}
 use Rattle.latex2mathml_tex_grammar.specs.Units.{Next, End}
 use Rattle.latex2mathml_tex_units.specs.{Left.units_at, Taking.unit_of}
 use Rattle.latex2mathml_tex_commands.specs.Meanings.{style_of}
 use Rattle.latex2mathml_tex.specs.Frames.{Start, Whole}
 use Rattle.latex2mathml_tex.specs.Innermost.{IsInnermost, TookRow, braced_ending, on_top}
-use Rattle.latex2mathml_tex_atoms.specs.Models.{IsFinished, row_count, row_with}
+use Rattle.latex2mathml_tex_atoms.specs.Models.{IsFinished, kind_of, row_count, row_with}
 use Rattle.latex2mathml_tex.specs.Steps.{ClosesRow, EndsText, Holds, elements_of, left_of}
 use Rattle.latex2mathml_tex_units.specs.declared.{input.Input.Input, unit.Unit.Unit}
 use Rattle.latex2mathml_tex_units.specs.declared.unit.Piece.TheVariants as piece
@@ -44,10 +45,10 @@ module _ (p : Parser) (fr : Frames) (row : Row) (s : Start) (h : Holds s p state
       row_finished s (record p { input = i; frames = fr }) p.builder took.context.style row row (as_it_is took.context.style row (elements_of p) took.finished) (own_elements took.context.style row (elements_of p) took.finished) ending.Group took.place u ended
 
   -- the formula ends with the text
-  pub formula_ended : TookRow ending.Text row p.frames.stack.items fr.stack.items → (at : ℕ) → left_of p ≡ End at → Holds s (record p { frames = fr }) (state.End row.count)
-  formula_ended took at end =
+  pub formula_ended : TookRow ending.Text row p.frames.stack.items fr.stack.items → (at : ℕ) → left_of p ≡ End at → (b : Built) → take row.count (elements_in b) ≡ lone (kind_of row.last) (take row.count (elements_of p)) → Holds s (record p { frames = fr; builder = b }) (state.End row.count)
+  formula_ended took at end b isolated =
       let f = frame.Row ending.Text took.place took.context row in
       let inner : IsInnermost p.style p.frames.stack.items f fr.stack.items = on_top took.before in
       let ended : EndsText ending.Text took.place took.context.style row at s (record p { frames = fr }) = text_ended p ending.Text took.place row took.context fr.stack.items inner s h p.input fr f at inner (ap past_space end) end in
       let whole = subst (λ r. Whole s (Read r (End at))) (sym (as_it_is took.context.style row (elements_of p) took.finished)) (ended.ends refl).leads in
-      record { style = h.style; claims = (row_with row (elements_of p), at, refl, whole) }
+      record { style = h.style; claims = (row_with row (elements_of p), at, sym isolated, whole) }

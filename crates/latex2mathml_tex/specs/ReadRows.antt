@@ -1,12 +1,12 @@
 -- A row that was read, and its elements in a builder, the uppermost first.
 use Rattle.std.specs.Prelude.{◌≡◌, ◌≤◌, ℕ, IfSome, List, None, Option, Some, length, take}
 use Rattle.latex2mathml_elements.specs.Element.{Element}
-use Rattle.latex2mathml_tex_grammar.specs.{Reading.Outcome, Reading.Read, Reading.Refused, Rows.Row, Units.End}
+use Rattle.latex2mathml_tex_grammar.specs.{Formulas.shown, Reading.Outcome, Reading.Read, Reading.Refused, Rows.Row, Units.End}
 use Rattle.latex2mathml_tex_units.specs.{Errors.refusal_of, declared.error.TexError.TexError}
 
--- the elements of the row are the `count` uppermost ones
+-- the elements that are shown of the row are the `count` uppermost ones
 pub record AreUppermost (row : Row) (count : ℕ) (xs : List Element) : Type 0 where
-  pub elements : row.elements ≡ take count xs
+  pub elements : shown row ≡ take count xs
   pub all : count ≤ length xs
 
 -- the outcome of units is a row that ends where they end, and its elements are the `count` uppermost ones

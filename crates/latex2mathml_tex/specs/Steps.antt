@@ -21,6 +21,7 @@ use Rattle.latex2mathml_tex_grammar.specs.Rules.{Rule, a_number, gives, rule, ta
 use Rattle.latex2mathml_tex_grammar.specs.{Symbols.Alphabet, Symbols.Class, Words.Word, Words.with_word}
 use Rattle.latex2mathml_tex_grammar.specs.Starts as starts
 use Rattle.latex2mathml_tex_grammar.specs.Units as grammar
+use Rattle.latex2mathml_tex_grammar.specs.{Formulas.shown}
 use Rattle.latex2mathml_tex_grammar.specs.Units.{Units, Next, End, Stop}
 use Rattle.latex2mathml_tex_units.specs.{Errors.refusal_of, Taking.piece_of, Taking.unit_of}
 use Rattle.latex2mathml_tex.specs.Innermost.{IsInnermost}
@@ -80,7 +81,7 @@ Claims s p (state.Atom core scripts) =
 Claims s p (state.Operand operand) = OperandMade (level 1 s p) (Read (operand_with operand (top (elements_of p))) (left_of p))
 Claims s p (state.Word ws place a) = WordLeads (level ws.count s p) place (option_map alphabet_of a) (words_with ws (elements_of p)) (left_of p)
 Claims s p (state.Words ws) = PartMade (level ws.count s p) (Read (words_with ws (elements_of p)) (left_of p))
-Claims s p (state.End count) = (row : Row) × (at : ℕ) × (row.elements ≡ take count (elements_of p)) × Whole s (Read row (End at))
+Claims s p (state.End count) = (row : Row) × (at : ℕ) × (shown row ≡ take count (elements_of p)) × Whole s (Read row (End at))
 Claims s p state.Refused = IfSome (refusal_of p.refusal) (λ r. Whole s (Refused r))
 
 -- The formula has the parser's style, and what the state claims holds.

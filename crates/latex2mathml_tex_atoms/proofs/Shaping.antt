@@ -57,15 +57,19 @@ length_changed f depth [] = refl
 length_changed f zero (x ∷ xs) = refl
 length_changed f (suc depth) (x ∷ xs) = ap suc (length_changed f depth xs)
 
--- the element of a row in braces: a sign that is all of it, and any other row
-pub braced_sign : (last : Kind) (xs : List Element) → 1 ≤ length xs → Rows.is_spaced last ≡ true → changed_at Atoms.without_space 0 xs ≡ Rows.braced_element last (take 1 xs) ∷ drop 1 xs
-braced_sign last [] some spaced = absurd (omega (arith, some))
-braced_sign last (x ∷ xs) some spaced = rw spaced refl
+-- a sign that is all of a row, and any other row
+pub lone_sign : (last : Kind) (xs : List Element) → Rows.is_spaced last ≡ true → take 1 (changed_at Atoms.without_space 0 xs) ≡ Rows.lone last (take 1 xs)
+lone_sign last [] spaced = refl
+lone_sign last (x ∷ xs) spaced = rw spaced refl
 
-pub braced_row : (last : Kind) (xs : List Element) → (length xs ≡ 1 → Rows.is_spaced last ≡ false) → Rows.row_element xs ≡ Rows.braced_element last xs
-braced_row last [] other = refl
-braced_row last (x ∷ []) other = rw (other refl) refl
-braced_row last (x ∷ y ∷ xs) other = refl
+pub no_lone_sign : (last : Kind) (xs : List Element) → (length xs ≡ 1 → Rows.is_spaced last ≡ false) → xs ≡ Rows.lone last xs
+no_lone_sign last [] other = refl
+no_lone_sign last (x ∷ []) other = rw (other refl) refl
+no_lone_sign last (x ∷ y ∷ xs) other = refl
+
+pub first_changed_below : (f : Element → Element) (xs : List Element) → drop 1 (changed_at f 0 xs) ≡ drop 1 xs
+first_changed_below f [] = refl
+first_changed_below f (x ∷ xs) = refl
 
 -- What stays as it is: an element that holds no text
 

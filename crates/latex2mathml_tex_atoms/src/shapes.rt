@@ -90,17 +90,27 @@ pub fn put_row(builder: &mut Builder, count: usize) -> Result<(), AllocError>
     builder.container(Container::Mrow, Attributes::plain(), count)
 }
 
+/// Removes the space around a sign that is all of a row in braces, or of a formula. The last atom of the row is of this kind.
+pub fn isolate(builder: &mut Builder, count: usize, last: Kind)
+    requires { count ≤ length (elements_in builder.old) }
+    ensures row { take count (elements_in builder.new)
+        ≡ Rows.lone (kind_of last) (take count (elements_in builder.old)) }
+    ensures below { drop count (elements_in builder.new) ≡ drop count (elements_in builder.old) }
+    ensures length { length (elements_in builder.new) ≡ length (elements_in builder.old) }
+{
+    if count == 1 && last.is_spaced() {
+        remove_space(builder);
+    }
+}
+
 /// Makes one element of the top ones, which are those of a row in braces. A sign that is all of it has no space.
 pub fn put_braced(builder: &mut Builder, count: usize, last: Kind) -> Result<(), AllocError>
     requires { count ≤ length (elements_in builder.old) }
     ensures { OnOk result (elements_in builder.new
-        ≡ Rows.braced_element (kind_of last) (take count (elements_in builder.old))
+        ≡ Rows.row_element (Rows.lone (kind_of last) (take count (elements_in builder.old)))
         ∷ drop count (elements_in builder.old)) }
 {
-    if count == 1 && last.is_spaced() {
-        remove_space(builder);
-        return Ok(());
-    }
+    isolate(builder, count, last);
     put_row(builder, count)
 }
 

@@ -10,7 +10,7 @@ use Rattle.latex2mathml_tex_grammar.specs.Alphabets.{in_alphabet}
 use Rattle.latex2mathml_tex_grammar.specs.Atoms.{Atom, Kind, SignOf, PlusOrMinus, Plain, UprightLetters, FunctionWord, Blank, Divider, Before, begins_operand, as_prefix, as_infix, without_space, tight, as_ordinary, element_there, is_parted, lone_sign, element_as}
 use Rattle.latex2mathml_tex_grammar.specs.Makes.{text, letter, upright_letter, number, symbol, struck, classed, on_side, accent, brace, stack, in_style, fenced, fraction_element, fraction, lowered_divider, lowered, between_delimiters, Scripts, primes_text, prime_mark, behind_primes, superscript, are_stacked, fixed_base, with_scripts, scripted_atom, scripted}
 use Rattle.latex2mathml_tex_grammar.specs.Meaning.{FractionRule, Bar, NoBar, Braced, Bracketed, Bare, LimitPlace, Beside, ByStyle, Movable, Stacked}
-use Rattle.latex2mathml_tex_grammar.specs.Rows.{Row, Operand, Joining, ToWord, ToRelations, Apart, as_base, braced_element, is_spaced, isolated, is_empty, join, parted, put, row_element, single, with_atom, empty_row}
+use Rattle.latex2mathml_tex_grammar.specs.Rows.{Row, Operand, Joining, ToWord, ToRelations, Apart, as_base, is_spaced, isolated, lone, is_empty, join, parted, put, row_element, single, with_atom, empty_row}
 use Rattle.latex2mathml_tex_grammar.specs.Symbols.{Class, Ordinary, Operator, Binary, Relation, Opening, Closing, Punctuation, Inner, Style, InDisplay, InText, InScript, Alphabet, Upright, Italic, Bold, BoldItalic, DoubleStruck, Fraktur, Calligraphic, SansSerif, Monospace, Symbol, Letter, UprightLetter, Sign, BigOperator, Integral}
 use Rattle.latex2mathml_tex_grammar.proofs.Allowed.{AreAllowedElements, IsAllowedElement, IsAllowedCore, IsAllowedAtom, IsAllowedOperand, IsAllowedRow, AreAllowedScripts}
 use Rattle.latex2mathml_tex_grammar.proofs.AllowedTables.{in_alphabet_allowed, is_allowed_symbol, not_forbidden}
@@ -167,10 +167,10 @@ isolated_allowed : (spaced : Bool) (x : Element) → HasAllowedTexts x → HasAl
 isolated_allowed true x h = without_space_allowed x h
 isolated_allowed false x h = h
 
-pub braced_element_allowed : (last : Kind) (xs : List Element) → AreAllowedElements xs → HasAllowedTexts (braced_element last xs)
-braced_element_allowed last [] h = tt
-braced_element_allowed last (x ∷ []) h = isolated_allowed (is_spaced last) x h.0
-braced_element_allowed last (x ∷ y ∷ xs) h = row_children_allowed (x ∷ y ∷ xs) h
+pub lone_allowed : (last : Kind) (xs : List Element) → AreAllowedElements xs → AreAllowedElements (lone last xs)
+lone_allowed last [] h = tt
+lone_allowed last (x ∷ []) h = (isolated_allowed (is_spaced last) x h.0, tt)
+lone_allowed last (x ∷ y ∷ xs) h = h
 
 -- Strokes, classes, marks
 

@@ -2,7 +2,7 @@
 use Rattle.std.proofs.Common.{ℕ, List, [], ◌∷◌, Option, subst, reverse}
 use Rattle.latex2mathml_elements.specs.{Characters.IsAllowed, Dollars.IsDollarFree, Element.Element, Element.children}
 use Rattle.latex2mathml_elements.specs.Columns.{Columns}
-use Rattle.latex2mathml_tex_grammar.specs.{Scanning.BeforeRow, Tables.Lines, Atoms.Atom, DefinitionTexts.Defines, Delimiters.delimiter_of, Formulas.IsReading, Formulas.row_print, Formulas.row_print_with_source, Formulas.source_text, Laws.ReadingsAreAllowed, Macros.Table, Rows.Row, Rows.Operand, Rows.empty_row, Rows.row_element, Symbols.Alphabet, Symbols.Style, Environments.pairs, Rows.with_atom}
+use Rattle.latex2mathml_tex_grammar.specs.{Scanning.BeforeRow, Tables.Lines, Atoms.Atom, DefinitionTexts.Defines, Delimiters.delimiter_of, Formulas.IsReading, Formulas.row_print, Formulas.row_print_with_source, Formulas.shown, Formulas.source_text, Laws.ReadingsAreAllowed, Macros.Table, Rows.Row, Rows.Operand, Rows.empty_row, Rows.row_element, Symbols.Alphabet, Symbols.Style, Environments.pairs, Rows.with_atom}
 use Rattle.latex2mathml_elements.proofs.{Annotated.annotated_print_as_elements, OneElement.print_as_elements}
 use Rattle.latex2mathml_tex_grammar.specs.Makes.{Core, core, divider, is_display, number, Scripts}
 use Rattle.latex2mathml_tex_grammar.specs.Reading.{Outcome, ReadsRule, rule_gives, rule_refuses, operand_read, operand_refused, core_read, core_refused, core_missing, core_stopped, atoms_read, atoms_refused, words_read, words_refused, units_taken, units_missing, unit_follows, no_unit_follows, digits_taken, delimiter_taken, delimiter_missing, ReadsOperand, group_operand, group_refused, digit_operand, other_operand, other_refused, no_operand, operand_at_end, operand_stopped, ReadsScripts, scripts_end, mark_taken, script_read, script_refused, mark_refused, ReadsAtom, divider_read, divider_refused, on_empty_row, base_read, base_refused, ReadsAtoms, text_ends, never_ended, atoms_stopped, atoms_end, atom_read, atom_refused, rest_read, change_refused, ReadsWord, word_stands, group_of_words, formula_read, formula_refused, words_in_alphabet, no_word, word_missing, word_at_end, word_stopped, ReadsWords, words_end, words_never_ended, words_stopped, word_read, word_refused, found_taken, found_refused, passed_over, rows_read, rows_refused, ReadsRows, cell_read, cell_refused, ReadsBehindCell, next_cell, next_row, table_ends, rows_to_end, text_ends_table, Read, Refused}
@@ -11,7 +11,7 @@ use Rattle.latex2mathml_tex_grammar.specs.Starts.{mark_of, left_behind}
 use Rattle.latex2mathml_tex_grammar.specs.Units.{Unit, Units}
 use Rattle.latex2mathml_tex_grammar.specs.Words.{Formula, Words}
 use Rattle.latex2mathml_tex_grammar.proofs.Allowed.{IsAllowedPiece, AreAllowedUnits, IsAllowedCore, IsAllowedAtom, IsAllowedOperand, IsAllowedPart, IsAllowedRest, IsAllowedRow, AreAllowedScripts, AreAllowedWords, IsAllowedWordRule, IsAllowedStep, IsAllowedRule, IsAllowedOutcome, AreAllowedElements, AreAllowedLines}
-use Rattle.latex2mathml_tex_grammar.proofs.AllowedMakes.{number_allowed, row_children_allowed, row_element_allowed, scripted_allowed, single_allowed, with_atom_allowed}
+use Rattle.latex2mathml_tex_grammar.proofs.AllowedMakes.{lone_allowed, number_allowed, row_children_allowed, row_element_allowed, scripted_allowed, single_allowed, with_atom_allowed}
 use Rattle.latex2mathml_tex_grammar.proofs.AllowedMacros.{expansion_allowed, macros_allowed}
 use Rattle.latex2mathml_tex_grammar.proofs.AllowedRests.{finished_allowed, rest_allowed}
 use Rattle.latex2mathml_tex_grammar.proofs.AllowedRows.{given_allowed, past_spot_allowed, past_break_allowed, a_row_allowed, with_last_allowed}
@@ -164,18 +164,21 @@ unfolding IsReading
 reading_allowed definitions macros text style row h (units, own, (end, d)) =
     (formula_allowed d (expansion_allowed own.expands (macros_allowed h) (units_allowed own.spelled))).0
 
+shown_allowed : (definitions : List ℕ) (macros : Table) (text : List ℕ) (style : Style) (row : Row) → Defines definitions macros → IsReading macros text style row → AreAllowedElements (shown row)
+shown_allowed definitions macros text style row h reading = lone_allowed row.last row.elements (reading_allowed definitions macros text style row h reading)
+
 -- the markup of a reading holds no character that XML forbids, and no dollar sign
 pub markup_allowed : (definitions : List ℕ) (macros : Table) (text : List ℕ) (style : Style) (row : Row) → Defines definitions macros → IsReading macros text style row → IsAllowed (row_print style row) × IsDollarFree (row_print style row)
 markup_allowed definitions macros text style row h reading =
-    let xs = children (reverse row.elements) in
-    let each = row_children_allowed row.elements (reading_allowed definitions macros text style row h reading) in
+    let xs = children (reverse (shown row)) in
+    let each = row_children_allowed (shown row) (shown_allowed definitions macros text style row h reading) in
     (print_as_elements.characters (is_display style) xs each, print_as_elements.dollars (is_display style) xs)
 
 -- nor does the markup of a reading with its source
 pub markup_with_source_allowed : (definitions : List ℕ) (macros : Table) (text : List ℕ) (style : Style) (row : Row) → Defines definitions macros → IsReading macros text style row → IsAllowed (row_print_with_source style text row) × IsDollarFree (row_print_with_source style text row)
 markup_with_source_allowed definitions macros text style row h reading =
-    let x = row_element row.elements in
-    let each = row_element_allowed row.elements (reading_allowed definitions macros text style row h reading) in
+    let x = row_element (shown row) in
+    let each = row_element_allowed (shown row) (shown_allowed definitions macros text style row h reading) in
     (annotated_print_as_elements.characters (is_display style) x (source_text text) each (source_allowed text), annotated_print_as_elements.dollars (is_display style) x (source_text text))
 
 -- the law

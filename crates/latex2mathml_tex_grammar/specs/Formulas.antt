@@ -2,9 +2,9 @@
 -- Here a text is given as its characters.
 use Rattle.std.specs.Prelude.{ℕ, Bool, true, false, IsTrue, IsFalse, List, None, map, reverse, if◌then◌else◌}
 use Rattle.std.specs.Str.{encode_utf8_all}
-use Rattle.latex2mathml_elements.specs.{Annotated.annotated_print, Element.children, Print.formula_print}
+use Rattle.latex2mathml_elements.specs.{Annotated.annotated_print, Element.Element, Element.children, Print.formula_print}
 use Rattle.latex2mathml_tex_grammar.specs.{Expansion.Expands, Expansion.most_units, Expansion.most_uses, Macros.Table}
-use Rattle.latex2mathml_tex_grammar.specs.{Makes.Core, Makes.is_display, Reading.Outcome, Reading.Read, Reading.Refused, Reading.ReadsAtoms, Reading.ReadsRule, Refusal.Kind, Refusal.OutsideTable, Refusal.Refusal, Rests.finished, Rows.Row, Rows.empty_row, Rows.row_element, Rows.with_atom, Rules.Context, Rules.in_context, Rules.rows_of_text, Rules.WholeText, Symbols.Style}
+use Rattle.latex2mathml_tex_grammar.specs.{Makes.Core, Makes.is_display, Reading.Outcome, Reading.Read, Reading.Refused, Reading.ReadsAtoms, Reading.ReadsRule, Refusal.Kind, Refusal.OutsideTable, Refusal.Refusal, Rests.finished, Rows.Row, Rows.empty_row, Rows.lone, Rows.row_element, Rows.with_atom, Rules.Context, Rules.in_context, Rules.rows_of_text, Rules.WholeText, Symbols.Style}
 use Rattle.latex2mathml_tex_grammar.specs.Units.{Units, End, HasUnits, is_forbidden}
 
 -- a formula has no alphabet of its own
@@ -53,9 +53,13 @@ IsReading macros text style row = (units : Units) × IsExpansion macros text uni
 unfoldable pub IsRefusal : Table → List ℕ → Style → Refusal → Type 0
 IsRefusal macros text style refusal = (units : Units) × IsExpansion macros text units × ReadsFormula style units (Refused refusal)
 
+-- the elements that are shown of a row that a formula is read as
+abbrev pub shown : Row → List Element
+shown row = lone row.last row.elements
+
 -- the markup of a row that a formula is read as
 abbrev pub row_print : Style → Row → List ℕ
-row_print style row = formula_print (is_display style) (children (reverse row.elements))
+row_print style row = formula_print (is_display style) (children (reverse (shown row)))
 
 -- a character of a source, or U+FFFD for one that XML forbids. Only comments hold such characters; XML cannot write them.
 abbrev pub source_character : ℕ → ℕ
@@ -67,4 +71,4 @@ source_text text = encode_utf8_all (map source_character text)
 
 -- the markup of a row that this text is read as, with the text as an annotation
 abbrev pub row_print_with_source : Style → List ℕ → Row → List ℕ
-row_print_with_source style text row = annotated_print (is_display style) (row_element row.elements) (source_text text)
+row_print_with_source style text row = annotated_print (is_display style) (row_element (shown row)) (source_text text)

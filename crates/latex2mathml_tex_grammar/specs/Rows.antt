@@ -117,15 +117,15 @@ is_spaced (SignOf Relation) = true
 is_spaced (SignOf Punctuation) = true
 is_spaced kind = false
 
--- an element that is all of a row in braces: TeX leaves no space around it there
+-- an element with nothing next to it: TeX leaves no space around it
 abbrev pub isolated : Bool → Element → Element
 isolated true x = without_space x
 isolated false x = x
 
--- the element of a row in braces, whose last atom is of this kind
-abbrev pub braced_element : Kind → List Element → Element
-braced_element last (x ∷ []) = isolated (is_spaced last) x
-braced_element last xs = row_element xs
+-- the elements of a row in braces, or of a formula, whose last atom is of this kind
+abbrev pub lone : Kind → List Element → List Element
+lone last (x ∷ []) = isolated (is_spaced last) x ∷ []
+lone last xs = xs
 
 -- What a command takes: one element, with its class as the base of a mark, and whether it is higher than a letter.
 pub record Operand : Type 0 where

@@ -14,6 +14,7 @@ use crate::parse::scripts::mark_of;
 use crate::parse::symbols::{put_letter, put_symbol};
 use crate::parse::{Parser, State};
 use latex2mathml_tex_atoms::atoms::{Context, Core, Row};
+use latex2mathml_tex_atoms::shapes::isolate;
 use latex2mathml_tex_commands::commands;
 use latex2mathml_tex_commands::meaning::Meaning;
 use latex2mathml_tex_commands::signs::symbol_of;
@@ -200,6 +201,7 @@ impl<'a> Parser<'a> {
     {
         match self.frames.take_formula() {
             Some(row) => {
+                isolate(&mut self.builder, row.count, row.last);
                 *next = State::End(row.count);
                 Ok(())
             }

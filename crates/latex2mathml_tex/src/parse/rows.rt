@@ -18,7 +18,7 @@ use latex2mathml_attributes::tag::Container;
 use latex2mathml_tex_atoms::atoms::{Context, Core, Kind, Operand, Row, Scripts, Words};
 use latex2mathml_tex_atoms::rests::{divide, finish, recolor, restyle};
 use latex2mathml_tex_atoms::shapes::{
-    enclose, lower_dividers, put_braced, put_divider, put_row, with_atom,
+    enclose, isolate, lower_dividers, put_braced, put_divider, put_row, with_atom,
 };
 use latex2mathml_tex_commands::commands;
 use latex2mathml_tex_commands::meaning::{Change, Class, LimitPlace, Meaning, Style};
@@ -258,6 +258,7 @@ impl<'a> Parser<'a> {
         ensures step { Advances 1 self.old self.new next.new result }
     {
         let row = finish(&mut self.builder, style, row)?;
+        isolate(&mut self.builder, row.count, row.last);
         *next = State::End(row.count);
         Ok(())
     }

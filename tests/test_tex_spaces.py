@@ -1,0 +1,74 @@
+"""The space that Chromium leaves between the atoms of a formula of `tex_to_mathml`, against TeX's table of spaces. The comparison
+of markup with KaTeX (`test_tex_katex`) does not see space."""
+import itertools
+import math
+import unittest
+
+from tests import support
+from tests.browsers import chromium
+from tests.support import Case, requires, tex_program
+from tests.test_page import judge, settle, spaces_between
+
+# atoms of each class of TeX; an operator is a name, since a browser gives a sign such as the sum a space of its own
+ATOMS = {"ordinary": ["c", "2", r"\frac cd", r"\sqrt c", "{=}", "{,}", "|"], "operator": [r"\sin", r"\mathop{c}", r"\lim_c"],
+         "binary": ["+", "-"], "relation": ["=", r"\to", ":", r"\bigm|"], "opening": ["(", r"\bigl("], "closing": [")", r"\rangle"],
+         "punctuation": [",", ";"], "inner": [r"\ldots", r"\left(c\right)", r"\begin{pmatrix}c\end{pmatrix}"]}
+# the ems of the spaces that the table names
+EMS = {"0": 0, "1": 3 / 18, "2": 4 / 18, "3": 5 / 18}
+# Rounding to thousandths of an em, to a pixel at each side of a fraction, and to 64ths of a pixel: less than a third of a thin space.
+NEARLY = 0.05
+
+PAGE = """<!DOCTYPE html><meta charset="utf-8"><style>math { font-size: 100px }</style>%s<script>
+const gaps = row => {
+    const boxes = [...row.children].filter(child => child.localName !== "mspace").map(child => child.getBoundingClientRect());
+    const em = parseFloat(getComputedStyle(row).fontSize);
+    return boxes.slice(1).map((box, place) => (box.left - boxes[place].right) / em);
+};
+addEventListener("load", () => {
+    const found = [...document.querySelectorAll("p > math")].map(formula => gaps(formula.querySelector("msup > mrow") ?? formula));
+    fetch("/spaces.html", {method: "POST", body: JSON.stringify(found)});
+});
+</script>"""
+
+
+def pairs():
+    """Each atom before each other one: their classes, and both."""
+    atoms = [(kind, atom) for kind, atoms in ATOMS.items() for atom in atoms]
+    return [(left, right, one, other) for (left, one), (right, other) in itertools.product(atoms, atoms)]
+
+
+def due(left, right, in_script):
+    """The ems that TeX leaves in a formula of atoms of these classes between two letters, and whether that depends on what
+    follows a binary sign. `tex_to_mathml` decides where the sign is put, before it has read what follows."""
+    classes = settle(["ordinary", left, right, "ordinary"])
+    cells = [spaces_between()[neighbours] for neighbours in itertools.pairwise(classes)]
+    looks_ahead = left == "binary" and right in {"relation", "closing", "punctuation"}
+    return [0 if in_script and cell.startswith("(") else EMS[cell.strip("()")] for cell in cells], looks_ahead
+
+
+@requires("chromium")
+class AsTexSpaces(Case):
+    def compare(self, around, in_script):
+        formulas = [around.format(f"a {one} {other} b") for _, _, one, other in pairs()]
+        done = support.run([tex_program(), "--null"], stdin="".join(f"{formula}\0" for formula in formulas).encode())
+        self.assertEqual(done.returncode, 0, done.stderr.decode())
+        markups = [reply.split("\n", 1)[1] for reply in done.stdout.decode().split("\0")[:-1]]
+        (self.folder / "spaces.html").write_text(PAGE % "".join(f"<p>{markup}</p>" for markup in markups))
+        found = judge(chromium, self.folder, ["spaces.html"])["spaces.html"]
+        for (left, right, _, _), formula, gaps in zip(pairs(), formulas, found, strict=True):
+            with self.subTest(formula):
+                ems, looks_ahead = due(left, right, in_script)
+                # relations next to each other are one sign
+                wanted = [ems[0], ems[-1]] if len(gaps) == 2 else ems
+                alike = [math.isclose(gap, em, abs_tol=NEARLY) for gap, em in zip(gaps, wanted, strict=True)]
+                self.assertEqual(all(alike), not looks_ahead or in_script, f"found {gaps}, TeX {wanted}")
+
+    def test_in_text(self):
+        self.compare("{}", in_script=False)
+
+    def test_in_scripts(self):
+        self.compare("x^{{{}}}", in_script=True)
+
+
+if __name__ == "__main__":
+    unittest.main()
