@@ -14,7 +14,7 @@ ghost use Rattle.latex2mathml_tex_atoms.specs.Shapes.{ChangesAt, ReplacesTop, de
 ghost use Rattle.latex2mathml_tex_commands.specs.Delimiters.{delimiter_text};
 
 use crate::atoms::{Before, Core, Joining, Kind, Row, class_after};
-use crate::signs::{adapt, remove_space};
+use crate::signs::{adapt, keeps_space, remove_space};
 use latex2mathml_attributes::attributes::{Attributes, Form, Side, Size, Space, Stretch};
 use latex2mathml_attributes::tag::{Container, Pair, Token};
 use latex2mathml_builder::builder::Builder;
@@ -50,21 +50,23 @@ pub fn put_divider(builder: &mut Builder, delimiter: Option<char>) -> Result<(),
     put_delimiter(builder, attributes, delimiter)
 }
 
-/// Puts a delimiter of this size.
+/// Puts a delimiter of this size. A relation has space around it, except in scripts.
 pub fn put_sized(
     builder: &mut Builder,
+    style: Style,
     size: Size,
     class: Class,
     delimiter: Option<char>,
 ) -> Result<(), AllocError>
     ensures { OnOk result (Puts
-        (Makes.sized (size_of size) (class_of class) (delimiter_text delimiter)).atom.element
+        (Makes.sized (style_of style) (size_of size) (class_of class)
+        (delimiter_text delimiter)).atom.element
         builder.old builder.new) }
 {
     let (form, space) = match class {
         Class::Opening => (Some(Form::Prefix), Space::NoSpace),
         Class::Closing => (Some(Form::Postfix), Space::NoSpace),
-        Class::Relation => (None, Space::Thick),
+        Class::Relation if keeps_space(style) => (None, Space::Thick),
         _ => (None, Space::NoSpace),
     };
     let attributes = Attributes {

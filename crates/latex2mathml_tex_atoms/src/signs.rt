@@ -1,5 +1,5 @@
 //! Signs: how they are adapted to their position in a row.
-ghost use Rattle.std.specs.Prelude.{◌≡◌, false, IsTrue};
+ghost use Rattle.std.specs.Prelude.{◌≡◌, ◌≢◌, false, IsTrue};
 ghost use Rattle.latex2mathml_elements.specs.Element.{Element};
 ghost use Rattle.latex2mathml_tex_grammar.specs.Atoms;
 ghost use Rattle.latex2mathml_tex_grammar.specs.Rows;
@@ -52,8 +52,10 @@ fn is_relation(kind: Kind) -> bool
 
 /// Whether signs keep the space around them.
 #[inline(always)]
-fn keeps_space(style: Style) -> bool
-    ensures { (x : Element) → IsTrue result → Atoms.tight (style_of style) x ≡ x }
+pub(crate) fn keeps_space(style: Style) -> bool
+    ensures tight { (x : Element) → IsTrue result → Atoms.tight (style_of style) x ≡ x }
+    ensures script { result ≡ false → style ≡ Style.InScript }
+    ensures other { IsTrue result → style ≢ Style.InScript }
 {
     !matches!(style, Style::InScript)
 }

@@ -364,14 +364,15 @@ form_of Closing = Some Postfix
 form_of class = None
 
 -- the space around a delimiter by `\big` and its like, by its class
-abbrev pub sized_space : Class → Space
-sized_space Relation = Thick
-sized_space class = NoSpace
+abbrev pub sized_space : Style → Class → Space
+sized_space InScript class = NoSpace
+sized_space style Relation = Thick
+sized_space style class = NoSpace
 
 -- a delimiter of this size and class
-abbrev pub sized : Size → Class → List ℕ → Core
-sized size class sign_text =
-    core (atom (Plain class) true (token Mo (record plain { form = form_of class; stretch = Some Stretching; size = Some size; space = Some (sized_space class) }) sign_text))
+abbrev pub sized : Style → Size → Class → List ℕ → Core
+sized style size class sign_text =
+    core (atom (Plain class) true (token Mo (record plain { form = form_of class; stretch = Some Stretching; size = Some size; space = Some (sized_space style class) }) sign_text))
 
 -- Scripts
 

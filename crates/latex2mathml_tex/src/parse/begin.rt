@@ -6,7 +6,7 @@ ghost use Rattle.latex2mathml_tex_grammar.specs.{Meaning.Left};
 ghost use Rattle.latex2mathml_tex_grammar.specs.Commands;
 ghost use Rattle.latex2mathml_tex_grammar.specs.Rules.{a_negation, a_root, an_operator_name, character_rule, command_rule, gives, meaning_rule, reads_words, some_dots, takes_delimiter};
 ghost use Rattle.latex2mathml_tex_grammar.specs.{Makes.core, Words.words_atom};
-ghost use Rattle.latex2mathml_tex_commands.specs.Meanings.{alphabet_of, class_of, meaning_of};
+ghost use Rattle.latex2mathml_tex_commands.specs.Meanings.{alphabet_of, class_of, style_of, meaning_of};
 ghost use Rattle.latex2mathml_tex_atoms.specs.Models.{context_of};
 ghost use Rattle.latex2mathml_tex.specs.Steps.{AwaitsCore, Begins, BeginsIn, BeginsUnit, CanBegin, HoldsIn, Advances, LeadsOn, Ready};
 
@@ -229,7 +229,7 @@ impl<'a> Parser<'a> {
             Meaning::OperatorName => self.operator_name(place, context, next),
             Meaning::Negation => self.negation(place, context, next),
             Meaning::Slash => self.open(Frame::Last(Last::Slash, place, context), next),
-            Meaning::Sized(size, class) => self.sized(size, class, next),
+            Meaning::Sized(size, class) => self.sized(context.style, size, class, next),
             Meaning::Left => self.left(place, context, next),
             Meaning::Middle => {
                 *next = self.refuse(TexErrorKind::MiddleWithoutLeft, place);
@@ -400,11 +400,17 @@ impl<'a> Parser<'a> {
     }
 
     /// Puts a delimiter of this size. The delimiter must come next.
-    fn sized(&mut self, size: Size, class: Class, next: &mut State) -> Result<(), AllocError>
+    fn sized(
+        &mut self,
+        style: Style,
+        size: Size,
+        class: Class,
+        next: &mut State,
+    ) -> Result<(), AllocError>
         requires begin { CanBegin 0 self.old }
         ensures holds { LeadsOn
             (Begins (takes_delimiter
-            (λ text. gives (Makes.sized (size_of size) (class_of class) text))) 0)
+            (λ text. gives (Makes.sized (style_of style) (size_of size) (class_of class) text))) 0)
             self.old self.new next.new result }
         ensures step { Advances 13 self.old self.new next.new result }
     {
@@ -412,7 +418,7 @@ impl<'a> Parser<'a> {
             *next = self.refuse_delimiter();
             return Ok(());
         };
-        put_sized(&mut self.builder, size, class, delimiter)?;
+        put_sized(&mut self.builder, style, size, class, delimiter)?;
         *next = State::Core(Core::new(Kind::Plain(class), true));
         Ok(())
     }
