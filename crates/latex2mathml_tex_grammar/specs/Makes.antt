@@ -3,7 +3,7 @@ use Rattle.std.specs.Prelude.{ℕ, zero, suc, ◌==◌, ◌||◌, ℤ, pos, Bool
 use Rattle.std.specs.{Char.encode_utf8, Str.encode_utf8_all}
 use Rattle.latex2mathml_elements.specs.Attributes.{Attributes, Side, Above, Below, Form, Prefix, Postfix, Stretch, Stretching, Rigid, Space, NoSpace, Narrow, Thick, Size, Boxing, NoWidth, Flat, NoHeight, NoDepth, ByItsWidth, ByHalfItsWidth, Framed, StruckUp, StruckDown, StruckTwice, boxed, MathStyle, DisplayStyle, TextStyle, ScriptStyle, plain}
 use Rattle.latex2mathml_elements.specs.Element.{Mi, Mn, Mo, Mrow, Msqrt, Mstyle, Mpadded, Mphantom, Mfrac, Mroot, Msub, Msup, Munder, Mover, Msubsup, Munderover, Element, token, space, rectangle, container, pair, triple, children}
-use Rattle.latex2mathml_elements.specs.Extents.{wide}
+use Rattle.latex2mathml_elements.specs.{Extents.wide, Groups.grouped}
 use Rattle.latex2mathml_tex_grammar.specs.{Alphabets.in_alphabet, Rows.Row, Rows.Operand, Rows.row_element}
 use Rattle.latex2mathml_tex_grammar.specs.Atoms.{Atom, Kind, SignOf, PlusOrMinus, Plain, UprightLetters, FunctionWord, Blank, Divider, atom}
 use Rattle.latex2mathml_tex_grammar.specs.Meaning.{FractionRule, Bar, NoBar, Braced, Bracketed, Bare, LimitPlace, Beside, ByStyle, Movable, Stacked, Box, Phantom, PhantomWidth, PhantomHeight, Smashed, WithoutHeight, WithoutDepth, OverRight, OverLeft, OverBoth, Frame, StrikeUp, StrikeDown, StrikeTwice, Raised, Colored, OnColor}
@@ -154,6 +154,16 @@ classed class x = core (atom (Plain class) x.high x.element)
 -- an operand as the name of a function, with limits at this place
 abbrev pub operator_name : LimitPlace → Operand → Core
 operator_name limits x = operator limits (atom FunctionWord x.high x.element)
+
+-- an operand as an atom that keeps its class
+abbrev pub shown : Operand → Core
+shown x = core (atom (Plain x.class) x.high (grouped x.element))
+
+-- one of three operands, by the style
+abbrev pub choice : Style → Operand → Operand → Operand → Core
+choice InDisplay display text script = shown display
+choice InText display text script = shown text
+choice InScript display text script = shown script
 
 -- Boxes
 

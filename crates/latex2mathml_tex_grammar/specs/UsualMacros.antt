@@ -51,18 +51,17 @@ usual_entries =
     (codes "label", 1, codes "") ∷
     (codes "large", 0, codes "") ∷
     (codes "llap", 1, codes "\\mathllap{\\text{#1}}") ∷
-    (codes "mathchoice", 4, codes "#2") ∷
     (codes "mathstrut", 0, codes "\\vphantom{(}") ∷
     (codes "mdseries", 0, codes "") ∷
-    (codes "mod", 1, codes "\\quad\\operatorname{mod}\\;#1") ∷
+    (codes "mod", 1, codes "\\mathchoice{\\mkern18mu}{\\mkern12mu}{\\mkern12mu}{\\mkern12mu}\\mathrm{mod}\\,\\,#1") ∷
     (codes "nobreak", 0, codes "") ∷
     (codes "nonumber", 0, codes "") ∷
     (codes "normalfont", 0, codes "") ∷
     (codes "normalsize", 0, codes "") ∷
     (codes "notag", 0, codes "") ∷
     (codes "operatornamewithlimits", 0, codes "\\operatorname*") ∷
-    (codes "pmod", 1, codes "\\quad(\\operatorname{mod}\\;#1)") ∷
-    (codes "pod", 1, codes "\\quad(#1)") ∷
+    (codes "pmod", 1, codes "\\pod{\\mathrm{mod}\\mkern6mu#1}") ∷
+    (codes "pod", 1, codes "\\mathchoice{\\mkern18mu}{\\mkern8mu}{\\mkern8mu}{\\mkern8mu}(#1)") ∷
     (codes "qed", 0, codes "\\square") ∷
     (codes "raisebox", 2, codes "\\raisemath{#1}{\\text{#2}}") ∷
     (codes "relax", 0, codes "") ∷

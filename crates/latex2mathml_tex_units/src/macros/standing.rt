@@ -208,7 +208,7 @@ fn is_turning_form(first: u8, second: u8, len: usize) -> bool
             _ => false,
         },
         b'm' => match second {
-            b'a' => matches!(len, 9 | 10),
+            b'a' => len == 9,
             b'd' => len == 8,
             b'o' => len == 3,
             _ => false,
