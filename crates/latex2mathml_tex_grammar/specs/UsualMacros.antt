@@ -39,6 +39,7 @@ usual_entries =
     (codes "dotso", 0, codes "\\ldots") ∷
     (codes "em", 0, codes "\\it") ∷
     (codes "ensuremath", 1, codes "#1") ∷
+    (codes "eqno", 0, codes "\\qquad\\textstyle") ∷
     (codes "fbox", 1, codes "\\boxed{\\text{#1}}") ∷
     (codes "footnotesize", 0, codes "") ∷
     (codes "hdots", 0, codes "\\ldots") ∷
@@ -50,6 +51,7 @@ usual_entries =
     (codes "ket", 1, codes "|#1\\rangle") ∷
     (codes "label", 1, codes "") ∷
     (codes "large", 0, codes "") ∷
+    (codes "leqno", 0, codes "\\qquad\\textstyle") ∷
     (codes "llap", 1, codes "\\mathllap{\\text{#1}}") ∷
     (codes "mathstrut", 0, codes "\\vphantom{(}") ∷
     (codes "mdseries", 0, codes "") ∷

@@ -183,6 +183,7 @@ fn is_turning_form(first: u8, second: u8, len: usize) -> bool
         b'e' => match second {
             b'm' => len == 2,
             b'n' => len == 10,
+            b'q' => len == 4,
             _ => false,
         },
         b'f' => match second {
@@ -203,7 +204,7 @@ fn is_turning_form(first: u8, second: u8, len: usize) -> bool
         },
         b'k' | b'q' => second == b'e' && len == 3,
         b'l' => match second {
-            b'a' => len == 5,
+            b'a' | b'e' => len == 5,
             b'l' => len == 4,
             _ => false,
         },

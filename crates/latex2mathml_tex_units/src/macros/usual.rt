@@ -30,7 +30,7 @@ fn entries() -> &'static [Usual]
 
 /// An entry for each macro, in the order of their names' bytes.
 #[rattlefmt::skip]
-static ENTRIES: [Usual; 85] = [
+static ENTRIES: [Usual; 87] = [
     Usual { name: "*", arity: 0, body: "" },
     Usual { name: "-", arity: 0, body: "" },
     Usual { name: "/", arity: 0, body: "" },
@@ -62,6 +62,7 @@ static ENTRIES: [Usual; 85] = [
     Usual { name: "dotso", arity: 0, body: "\\ldots" },
     Usual { name: "em", arity: 0, body: "\\it" },
     Usual { name: "ensuremath", arity: 1, body: "#1" },
+    Usual { name: "eqno", arity: 0, body: "\\qquad\\textstyle" },
     Usual { name: "fbox", arity: 1, body: "\\boxed{\\text{#1}}" },
     Usual { name: "footnotesize", arity: 0, body: "" },
     Usual { name: "hdots", arity: 0, body: "\\ldots" },
@@ -73,6 +74,7 @@ static ENTRIES: [Usual; 85] = [
     Usual { name: "ket", arity: 1, body: "|#1\\rangle" },
     Usual { name: "label", arity: 1, body: "" },
     Usual { name: "large", arity: 0, body: "" },
+    Usual { name: "leqno", arity: 0, body: "\\qquad\\textstyle" },
     Usual { name: "llap", arity: 1, body: "\\mathllap{\\text{#1}}" },
     Usual { name: "mathstrut", arity: 0, body: "\\vphantom{(}" },
     Usual { name: "mdseries", arity: 0, body: "" },
