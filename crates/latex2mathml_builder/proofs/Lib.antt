@@ -1,6 +1,7 @@
 pub mod Below
 pub mod Bytes
 pub mod Joined
+pub mod Keeping
 pub mod Opens
 pub mod Parts
 pub mod Places

@@ -3,7 +3,7 @@ use Rattle.std.specs.Prelude.{ℕ, zero, suc, pos, Bool, true, false, List, [], 
 use Rattle.latex2mathml_elements.specs.Attributes.{Attributes, plain}
 use Rattle.latex2mathml_elements.specs.Columns.{Columns}
 use Rattle.latex2mathml_elements.specs.Element.{Token, Pair, Triple, Element, token, space, pair, triple, table}
-use Rattle.latex2mathml_elements.specs.Tables.{rows_in}
+use Rattle.latex2mathml_elements.specs.{Groups.grouped, Tables.rows_in}
 use Rattle.latex2mathml_attributes.specs.{Arounds.element_around, declared.around.Around.Around}
 
 -- whether the uppermost element holds a text
@@ -55,6 +55,12 @@ given (suc depth) a (x ∷ xs) = x ∷ given depth a xs
 -- what is made of too few elements for an element of two, of three, or of one or more
 abbrev pub no_element : Element
 no_element = space (pos 0)
+
+-- the element below `depth` others, as a group
+abbrev pub group_at : ℕ → List Element → Element
+group_at depth [] = no_element
+group_at zero (x ∷ xs) = grouped x
+group_at (suc depth) (x ∷ xs) = group_at depth xs
 
 -- an element around the uppermost one
 abbrev pub around_first : Around → List Element → Element

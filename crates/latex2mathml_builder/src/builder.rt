@@ -8,7 +8,7 @@ ghost use Rattle.latex2mathml_builder.specs.Stacks.{around_first};
 ghost use Rattle.latex2mathml_builder.specs.Built.{Fits, HasText, Puts, Replaces, between, element_in, element_of, elements_in, is_token_part, nothing, settled_in};
 ghost use Rattle.latex2mathml_attributes.specs.Columns.{columns_of};
 ghost use Rattle.latex2mathml_attributes.specs.Names.{attributes_of, container_of, element_with_text, math_style_of, pair_of, token_of, triple_of};
-ghost use Rattle.latex2mathml_builder.specs.Stacks.{are_tokens, given, is_token, joined, lengthened, ordered, pair_with, table_with, token_at, triple_with};
+ghost use Rattle.latex2mathml_builder.specs.Stacks.{are_tokens, given, group_at, is_token, joined, lengthened, ordered, pair_with, table_with, token_at, triple_with};
 
 use crate::part::Part;
 use latex2mathml_attributes::around::Around;
@@ -343,6 +343,24 @@ impl Builder {
     {
         let first = self.settled.as_slice().len();
         self.wrap(count, false, Part::Table(style, columns, first, count))
+    }
+
+    /// Keeps one of the `count` uppermost elements, which has `depth` others above it, and loses the others. If it holds a text,
+    /// a row of it alone is kept.
+    pub fn keep(&mut self, depth: usize, count: usize) -> Result<(), AllocError>
+        requires one { depth < count }
+        requires all { count ≤ length (elements_in self.old) }
+        ensures elements { OnOk result (elements_in self.new
+            ≡ group_at depth (elements_in self.old) ∷ drop count (elements_in self.old)) }
+        ensures err { OnErr result (self.new ≡ self.old) }
+    {
+        let place = self.settled.as_slice().len() + (count - 1 - depth);
+        let kept = *self.open_at(self.stack.as_slice().len() - 1 - depth);
+        let whole = match kept {
+            Part::Token(_, _, _, _) => Part::Container(Container::Mrow, None, place, 1),
+            part => part,
+        };
+        self.wrap(count, false, whole)
     }
 
     /// Replaces the `count` uppermost elements by one. They become settled, with the first two of them exchanged if the flag

@@ -6,6 +6,7 @@ pub mod Columns
 pub mod Dollars
 pub mod Element
 pub mod Extents
+pub mod Groups
 pub mod Laws
 pub mod Print
 pub mod Tables

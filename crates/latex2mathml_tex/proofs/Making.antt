@@ -2,13 +2,13 @@
 use Rattle.std.proofs.Common.{◌≡◌, ℕ, ◌+◌, ◌≤◌, ◌&&◌, Bool, true, false, not, List, [], ◌∷◌, ◌++◌, drop, length, reverse, take, refl, sym, ap, ◌∙◌, arith}
 use Rattle.std.proofs.lemmas.List.{length-drop}
 use Rattle.latex2mathml_elements.specs.Element.{Element, token}
-use Rattle.latex2mathml_builder.specs.{Built.Built, Built.elements_in, Stacks.is_token, Stacks.lengthened, Stacks.ordered}
-use Rattle.latex2mathml_tex_grammar.specs.{Atoms.atom, Atoms.element_as, Makes.Core, Makes.classed, Makes.core, Makes.is_sign, Makes.no_letters, Makes.struck, Makes.text}
+use Rattle.latex2mathml_builder.specs.{Built.Built, Built.elements_in, Stacks.is_token, Stacks.lengthened, Stacks.ordered, Stacks.group_at}
+use Rattle.latex2mathml_tex_grammar.specs.{Atoms.atom, Atoms.element_as, Makes.Core, Makes.classed, Makes.core, Makes.is_sign, Makes.no_letters, Makes.struck, Makes.text, Makes.choice}
 use Rattle.latex2mathml_tex_grammar.specs.Refusal.{NothingToNegate, refusal_at}
 use Rattle.latex2mathml_tex_grammar.specs.Rules.{gives, refuses, slashed, struck_atom}
 use Rattle.latex2mathml_tex_commands.specs.Meanings.{class_of, style_of}
 use Rattle.latex2mathml_tex_atoms.specs.{Models.core_with, Models.kind_of, Models.operand_with, Models.top, Shapes.IsPut, Shapes.changed_at}
-use Rattle.latex2mathml_tex.specs.Frames.{Start, last_count, made_of}
+use Rattle.latex2mathml_tex.specs.{Choices.depth_in, Frames.Start, Frames.last_count, Frames.made_of, Frames.operand_in}
 use Rattle.latex2mathml_tex.specs.Steps.{Begins, CanMake, Follows, HasElements, Holds, core_made, elements_of, level, to_do}
 use Rattle.latex2mathml_tex_commands.specs.declared.meaning.{Class.Class as CodeClass, Style.Style as CodeStyle}
 use Rattle.latex2mathml_tex_atoms.specs.declared.{atoms.Core.Core as CodeCore, atoms.Kind.Kind as CodeKind, atoms.Operand.Operand as CodeOperand}
@@ -16,6 +16,7 @@ use Rattle.latex2mathml_tex.specs.declared.{parse.Parser.Parser}
 use Rattle.latex2mathml_tex_atoms.specs.declared.atoms.Kind.TheVariants as kind
 use Rattle.latex2mathml_tex_units.specs.declared.error.TexErrorKind.TheVariants as error
 use Rattle.latex2mathml_tex_commands.specs.declared.meaning.Class.TheVariants as class
+use Rattle.latex2mathml_tex_commands.specs.declared.meaning.Style.TheVariants as style_is
 use Rattle.latex2mathml_tex_commands.specs.declared.meaning.LimitPlace.TheVariants as place
 use Rattle.latex2mathml_tex.specs.declared.parse.State.TheVariants as state
 use Rattle.latex2mathml_tex.specs.declared.parse.frames.Last.{Last}
@@ -107,6 +108,25 @@ module _ (p : Parser) (last : Last) (operand : CodeOperand) where
         let x = base style class (top (elements_of p)) in
         let one : elements_in b ≡ x ∷ below = put ∙ rw e (first_changed (base style class) (elements_of p) some) in
         made_put b c x one (rw e (same x (is ∙ ap (λ ys. is_sign (top ys)) one))) g
+
+-- One of four operands
+
+-- what is shown of an operand as its core
+abbrev pub shown_core : CodeOperand → CodeCore
+shown_core o = record { kind = kind.Plain o.class; high = o.high; limits = place.Beside }
+
+-- what is shown in this style, of the operands below the uppermost one
+abbrev pub shown_of : CodeStyle → CodeOperand → List Element → Core
+shown_of style o xs = choice (style_of style) (operand_in o (drop 1 (drop 1 xs))) (operand_in o (drop 1 xs)) (operand_in o xs)
+
+pub choice_put : (style : CodeStyle) (o : CodeOperand) (xs : List Element) → 4 ≤ length xs → IsPut (shown_core o) (shown_of style o (drop 1 xs)) (drop 4 xs) (group_at (depth_in style) xs ∷ drop 4 xs)
+choice_put style o [] h = absurd (omega (arith, h))
+choice_put style o (x ∷ []) h = absurd (omega (arith, h))
+choice_put style o (x ∷ y ∷ []) h = absurd (omega (arith, h))
+choice_put style o (x ∷ y ∷ z ∷ []) h = absurd (omega (arith, h))
+choice_put style_is.InDisplay o (x ∷ y ∷ z ∷ w ∷ xs) h = record { element = refl; is = refl }
+choice_put style_is.InText o (x ∷ y ∷ z ∷ w ∷ xs) h = record { element = refl; is = refl }
+choice_put style_is.InScript o (x ∷ y ∷ z ∷ w ∷ xs) h = record { element = refl; is = refl }
 
 -- A stroke through the uppermost element
 

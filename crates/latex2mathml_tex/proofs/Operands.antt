@@ -7,12 +7,12 @@ use Rattle.latex2mathml_attributes.specs.declared.attributes.Side.{Side}
 use Rattle.latex2mathml_tex_grammar.specs.Atoms.{Atom, Blank, Kind, Nothing, is_parted}
 use Rattle.latex2mathml_tex_grammar.specs.{Rules.gives, Makes.Core, Makes.no_scripts, Makes.takes_limits, Reading.Read, Symbols.InDisplay, Symbols.InScript, Symbols.InText, Symbols.Style, Units.Units}
 use Rattle.latex2mathml_tex_grammar.specs.Rows.{empty_row, operand_of, row_element, single, with_atom}
-use Rattle.latex2mathml_tex.specs.Frames.{ScriptMade, Start, inside, last_count, made_of, primes_put, within}
+use Rattle.latex2mathml_tex.specs.Frames.{ScriptMade, Start, after_first, context_at, first_count, inside, last_count, made_of, primes_put, within}
 use Rattle.latex2mathml_tex.specs.Innermost.{IsInnermost, none_begun, on_top}
-use Rattle.latex2mathml_tex.specs.Levels.{CoreMade, OperandMade, RuleLeads, ScriptsLead}
+use Rattle.latex2mathml_tex.specs.Levels.{CoreMade, OperandMade, RuleLeads, ScriptsLead, Then}
 use Rattle.latex2mathml_tex_commands.specs.Meanings.{style_of}
-use Rattle.latex2mathml_tex_atoms.specs.Models.{core_with, kind_of, operand_with, row_with, script_count, top}
-use Rattle.latex2mathml_tex.specs.Steps.{Begins, Follows, Holds, InnermostIs, Ready, TookScript, accepts, elements_of, first_accepts, left_of, operand_made, to_do}
+use Rattle.latex2mathml_tex_atoms.specs.Models.{context_of, core_with, kind_of, operand_with, row_with, script_count, top}
+use Rattle.latex2mathml_tex.specs.Steps.{Begins, FirstRead, Follows, Holds, InnermostIs, Ready, TookScript, accepts, elements_of, first_accepts, left_of, operand_made, to_do}
 use Rattle.latex2mathml_tex_commands.specs.declared.meaning.Style.{Style as CodeStyle}
 use Rattle.latex2mathml_tex_atoms.specs.declared.{atoms.Context.Context, atoms.Core.Core as CodeCore, atoms.Operand.Operand as CodeOperand, atoms.Row.Row as CodeRow, atoms.Scripts.Scripts}
 use Rattle.latex2mathml_tex.specs.declared.parse.Parser.{Parser}
@@ -49,6 +49,19 @@ last_taken s p fr last place context operand i g =
     record {
       style = g.style;
       leads = subst (λ ys. RuleLeads (gives (made_of last (drop 1 xs) y)) (CoreMade (inside s fr.stack.items ys)) (left_of p)) others k;
+    }
+
+-- an operand that others follow, whose frame is taken off
+pub first_taken : (s : Start) (p : Parser) (fr : Frames) (one : First) (place : ℕ) (context : Context) (operand : CodeOperand) → IsInnermost p.style p.frames.stack.items (frame.First one place context) fr.stack.items → Holds s p (state.Operand operand) → FirstRead one place context operand s (record p { frames = fr })
+first_taken s p fr one place context operand i g =
+    let xs = elements_of p in
+    let read = Read (operand_with operand (top xs)) (left_of p) in
+    let k = into_frame (λ l. OperandMade l read) s p.style g.style p.frames.stack.items fr.stack.items (frame.First one place context) (drop 1 xs) i g.claims in
+    let count : 1 + first_count one ≡ first_count one + 1 = omega arith in
+    let others : drop (first_count one) (drop 1 xs) ≡ drop (first_count one + 1) xs = drop-drop (first_count one) 1 xs ∙ ap (λ n. drop n xs) count in
+    record {
+      style = g.style;
+      leads = subst (λ ys. Then (after_first one place (context_of context) (context_at (inside s fr.stack.items ys)) (drop 1 xs)) (CoreMade (inside s fr.stack.items ys)) read) others k;
     }
 
 -- Within a row scripts may follow the atom

@@ -4,21 +4,21 @@ use Rattle.std.specs.Prelude.{◌≡◌, ℕ, zero, suc, ◌+◌, true, IsFalse,
 use Rattle.latex2mathml_elements.specs.{Attributes.Above, Attributes.plain, Element.Element, Element.Mover, Element.Munderover, Element.pair, Element.triple}
 use Rattle.latex2mathml_attributes.specs.Names.{side_of, stretch_of}
 use Rattle.latex2mathml_tex_grammar.specs.Makes as makes
-use Rattle.latex2mathml_tex_grammar.specs.Makes.{Core, braced, core, group, classed, operator_name, accent, brace, stack, fraction, outlined_fraction, square_root, root, between_delimiters, struck, boxed_atom}
+use Rattle.latex2mathml_tex_grammar.specs.Makes.{Core, braced, core, group, classed, operator_name, accent, brace, stack, fraction, outlined_fraction, square_root, root, between_delimiters, struck, boxed_atom, choice}
 use Rattle.latex2mathml_tex_grammar.specs.Reading.{Outcome, Read, Refused, ReadsAtoms, ReadsRule}
 use Rattle.latex2mathml_tex_grammar.specs.{Formulas.alone, Formulas.formula_context, Atoms.Plain, Atoms.atom, Symbols.Style, Symbols.InScript, Symbols.InText, Symbols.Relation, Units.Units, Symbols.Ordinary}
 use Rattle.latex2mathml_tex_grammar.specs.Rows.{Operand, Row, as_base, empty_row, row_element}
 use Rattle.latex2mathml_tex_grammar.specs.Rules as rules
-use Rattle.latex2mathml_tex_grammar.specs.Rules.{Context, Rule, gives, of_one, rows_of_text, slashed, struck_atom, takes_delimiter, WholeText, InBraces, InBrackets, InDollars, InDelimiters, InCell}
+use Rattle.latex2mathml_tex_grammar.specs.Rules.{Context, Rule, gives, of_one, of_two, reads_operand, rows_of_text, slashed, struck_atom, takes_delimiter, WholeText, InBraces, InBrackets, InDollars, InDelimiters, InCell}
 use Rattle.latex2mathml_tex_grammar.specs.Words.{words_atom}
 use Rattle.latex2mathml_tex.specs.Levels.{AtomMade, as_operand, as_words, CoreMade, Level, OperandMade, PartMade, RuleLeads, ScriptsLead, Then}
 use Rattle.latex2mathml_tex.specs.Levels as level
 use Rattle.latex2mathml_tex_commands.specs.Meanings.{alphabet_of, box_of, class_of, fraction_rule_of, limit_place_of, style_of}
-use Rattle.latex2mathml_tex_atoms.specs.Models.{context_of, core_with, has_script, row_count, row_with, script_count, scripts_with, top, words_with}
+use Rattle.latex2mathml_tex_atoms.specs.Models.{context_of, core_with, has_script, operand_with, row_count, row_with, script_count, scripts_with, top, words_with}
 use Rattle.latex2mathml_tex_atoms.specs.Outlines.{outline_of}
 use Rattle.latex2mathml_tex.specs.Tables.{TableMade, table_end}
 use Rattle.latex2mathml_tex_commands.specs.Delimiters.{delimiter_text}
-use Rattle.latex2mathml_tex_atoms.specs.declared.atoms.{Core.Core as CodeCore, Scripts.Scripts}
+use Rattle.latex2mathml_tex_atoms.specs.declared.atoms.{Core.Core as CodeCore, Operand.Operand as CodeOperand, Scripts.Scripts}
 use Rattle.latex2mathml_tex.specs.declared.parse.Form.{Form}
 use Rattle.latex2mathml_tex.specs.declared.parse.Form.TheVariants as form
 use Rattle.latex2mathml_tex.specs.declared.parse.frames.{Ending.Ending, First.First, Frame.Frame, Last.Last}
@@ -89,7 +89,11 @@ RowMade s (ending.Cell t) place xs l = TableMade t place xs (context_at l) (Core
 
 -- Operands
 
--- what the last operand makes; the first operand is the uppermost element here
+-- the first of these elements as an operand
+abbrev pub operand_in : CodeOperand → List Element → Operand
+operand_in operand xs = operand_with operand (top xs)
+
+-- what the last operand makes; the one before it is the uppermost element here
 abbrev pub made_of : Last → List Element → Operand → Core
 made_of last.Group xs y = core (group y)
 made_of last.SquareRoot xs y = square_root y.element
@@ -97,6 +101,7 @@ made_of last.Root xs y = root (top xs) y.element
 made_of (last.Accent s c w) xs y = accent (side_of s) c (stretch_of w) y.element
 made_of (last.Brace s c) xs y = brace (side_of s) c y.element
 made_of (last.OperatorName limits) xs y = operator_name (limit_place_of limits) y
+made_of (last.Choice style o) xs y = choice (style_of style) (operand_in o (drop 1 (drop 1 xs))) (operand_in o (drop 1 xs)) (operand_in o xs)
 made_of last.Slash xs y = slashed y (struck y.element)
 made_of (last.Classed class style) xs y = classed (class_of class) (as_base (style_of style) (class_of class) y)
 made_of (last.Boxed b style) xs y = core (boxed_atom (box_of b) (as_base (style_of style) Ordinary y))
@@ -107,13 +112,17 @@ made_of (last.StackedRelation style) xs y = stack Above Relation (top xs) (as_ba
 made_of last.OverArrow xs y = core (atom (Plain Relation) true (pair Mover plain (top xs) y.element))
 made_of last.OverAndUnderArrow xs y = labeled_arrow (top (drop 1 xs)) (top xs) y.element
 
--- what follows the first of two operands, which this place takes in this context, at a level of the outer context
-abbrev pub after_first : First → ℕ → Context → Context → Operand → Rule
-after_first (first.Fraction rule own) place c outer x =
+-- what follows an operand before the last one, which this place takes in this context, at a level of the outer context; the
+-- operands before it are the uppermost elements here
+abbrev pub after_first : First → ℕ → Context → Context → List Element → Operand → Rule
+after_first (first.Fraction rule own) place c outer xs x =
     of_one place c (λ y. fraction (fraction_rule_of rule) (option_map style_of own) x.element y.element)
-after_first (first.Outlined o) place c outer x = of_one place c (λ y. outlined_fraction (outline_of o) x.element y.element)
-after_first (first.Stack s) place c outer x = of_one place outer (λ y. stack (side_of s) y.class x.element (as_base outer.style y.class y).element)
-after_first first.StackedRelation place c outer x = of_one place outer (λ y. stack Above Relation x.element (as_base outer.style Relation y).element)
+after_first (first.Outlined o) place c outer xs x = of_one place c (λ y. outlined_fraction (outline_of o) x.element y.element)
+after_first (first.Stack s) place c outer xs x = of_one place outer (λ y. stack (side_of s) y.class x.element (as_base outer.style y.class y).element)
+after_first first.StackedRelation place c outer xs x = of_one place outer (λ y. stack Above Relation x.element (as_base outer.style Relation y).element)
+after_first first.InBlock place c outer xs x = reads_operand place c (λ y. of_two place c c (λ z w. choice c.style x y z))
+after_first (first.InLine o) place c outer xs y = of_two place c c (λ z w. choice c.style (operand_in o xs) y z)
+after_first (first.InScripts o) place c outer xs z = of_one place c (λ w. choice c.style (operand_in o (drop 1 xs)) (operand_in o xs) z)
 
 -- how many marks of primes are above the other elements of a script that is being read
 abbrev pub primes_put : Side → ℕ → ℕ
@@ -152,7 +161,7 @@ ScriptMade l c scripts s xs (Refused r) = AtomMade l (Refused r)
 abbrev pub enter : Start → Frame → List Element → Level → Level
 enter s (frame.Row e place c row) xs l = level.row (ending_of e place) (context_of c) (row_with row xs) (RowMade s e place (drop (row_count row) xs) l)
 enter s (frame.Last made place c) xs l = level.operand place (context_of c) (Then (λ y. gives (made_of made xs y)) (CoreMade l))
-enter s (frame.First one place c) xs l = level.operand place (context_of c) (Then (after_first one place (context_of c) (context_at l)) (CoreMade l))
+enter s (frame.First one place c) xs l = level.operand place (context_of c) (Then (after_first one place (context_of c) (context_at l) xs) (CoreMade l))
 enter s (frame.Negation place c) xs l = level.core place (context_of c) (Then (λ x. struck_atom place x (struck x.atom.element)) (CoreMade l))
 enter s (frame.Script base scripts on place c) xs l = level.operand place (context_of c) (ScriptMade l base scripts on xs)
 enter s frame.Text xs l = level.part (Then (λ ws. gives (core (words_atom ws))) (CoreMade l))
@@ -173,11 +182,18 @@ last_count (last.Stack s style) = 1
 last_count (last.StackedRelation style) = 1
 last_count last.OverArrow = 1
 last_count last.OverAndUnderArrow = 2
+last_count (last.Choice style o) = 3
 last_count l = 0
+
+abbrev pub first_count : First → ℕ
+first_count (first.InLine o) = 1
+first_count (first.InScripts o) = 2
+first_count f = 0
 
 abbrev pub element_count : Frame → ℕ
 element_count (frame.Row e place c row) = row_count row + ending_count e
 element_count (frame.Last made place c) = last_count made
+element_count (frame.First one place c) = first_count one
 element_count (frame.Script base scripts on place c) = primes_put on scripts.primes + (script_count scripts + 1)
 element_count f = 0
 

@@ -1,4 +1,5 @@
 pub mod Answers
+pub mod Choices
 pub mod Frames
 pub mod Innermost
 pub mod Levels

@@ -25,7 +25,7 @@ use Rattle.latex2mathml_tex_grammar.specs.{Formulas.shown}
 use Rattle.latex2mathml_tex_grammar.specs.Units.{Units, Next, End, Stop}
 use Rattle.latex2mathml_tex_units.specs.{Errors.refusal_of, Taking.piece_of, Taking.unit_of}
 use Rattle.latex2mathml_tex.specs.Innermost.{IsInnermost}
-use Rattle.latex2mathml_tex.specs.Frames.{RowMade, ScriptMade, Start, Whole, after_first, base_of, context_at, element_count, ending_count, ending_of, inside, primes_put, within}
+use Rattle.latex2mathml_tex.specs.Frames.{RowMade, ScriptMade, Start, Whole, after_first, base_of, context_at, element_count, ending_count, ending_of, first_count, inside, primes_put, within}
 use Rattle.latex2mathml_tex_units.specs.Left.{unit_count, units_at}
 use Rattle.latex2mathml_tex.specs.Levels.{AtomMade, CoreMade, Leads, Level, OperandMade, PartMade, RestLeads, RuleLeads, ScriptsLead, Then, WordLeads, as_atom}
 use Rattle.latex2mathml_tex_commands.specs.Meanings.{alphabet_of, limit_place_of, style_of}
@@ -270,10 +270,10 @@ pub record TookScript (c : CodeCore) (scripts : CodeScripts) (on : Side) (s : St
   pub leads : (class : Class) (high : Bool) → ScriptMade (level (primes_put on scripts.primes + (script_count scripts + 2)) s p) c scripts on (drop 1 (elements_of p))
       (Read (record { element = top (elements_of p); class = class; high = high }) (left_of p))
 
--- The first of two operands was read; its element is uppermost.
+-- An operand that others follow was read; its element is uppermost, and below it are those of the operands before it.
 pub record FirstRead (one : First) (place : ℕ) (c : Context) (operand : CodeOperand) (s : Start) (p : Parser) : Type 0 where
   pub style : s.style ≡ style_of p.style
-  pub leads : Then (after_first one place (context_of c) (context_at (level 1 s p))) (CoreMade (level 1 s p)) (Read (operand_with operand (top (elements_of p))) (left_of p))
+  pub leads : Then (after_first one place (context_of c) (context_at (level (first_count one + 1) s p)) (drop 1 (elements_of p))) (CoreMade (level (first_count one + 1) s p)) (Read (operand_with operand (top (elements_of p))) (left_of p))
 
 -- A unit that is this piece was taken at a place, as a part of words after these.
 pub record BeginsWordOf (ws : CodeWords) (piece : grammar.Piece) (place : ℕ) (a : Option Alphabet) (s : Start) (p : Parser) : Type 0 where

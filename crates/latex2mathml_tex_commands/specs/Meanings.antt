@@ -116,6 +116,7 @@ meaning_of (code_meaning.Fraction x y) = meant.Fraction (fraction_rule_of x) (op
 meaning_of code_meaning.Root = meant.Root
 meaning_of (code_meaning.Accent x y z) = meant.Accent (side_of x) y (stretch_of z)
 meaning_of (code_meaning.Brace x y) = meant.Brace (side_of x) y
+meaning_of code_meaning.Choice = meant.Choice
 meaning_of (code_meaning.Stack x) = meant.Stack (side_of x)
 meaning_of code_meaning.StackedRelation = meant.StackedRelation
 meaning_of code_meaning.OperatorName = meant.OperatorName

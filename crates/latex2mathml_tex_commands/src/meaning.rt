@@ -212,6 +212,8 @@ pub enum Meaning {
     Accent(Side, char, Stretch),
     /// A brace, which takes scripts as labels.
     Brace(Side, char),
+    /// The first of four operands in the style of a block, the second in that of a line, and the third in scripts.
+    Choice,
     /// A first operand above or below the second.
     Stack(Side),
     /// A first operand above the second, which together are a relation.

@@ -5,12 +5,12 @@ use Rattle.latex2mathml_elements.specs.{Element.Element, Element.token, Element.
 use Rattle.latex2mathml_elements.specs.Characters.{is_forbidden, IsAllowed, HasAllowedTexts}
 use Rattle.latex2mathml_elements.proofs.{Characters.allowed_both, Characters.allowed_char, Characters.allowed_plain, Plain.IsPlain}
 use Rattle.latex2mathml_tex_grammar.specs.{Commands.meaning_of, Commands.symbol_of, Delimiters.entry_of_name, Delimiters.negated_of, Delimiters.delimiter_of, TextCommands.text_commands, Dots.centered_dots, Dots.low_dots}
-use Rattle.latex2mathml_tex_grammar.specs.Makes.{Core, core, Scripts, letter, symbol, spacing, struck, text, in_box, raised_by, black, arrow, Outline, quotient, between_any, outlined_fraction}
+use Rattle.latex2mathml_tex_grammar.specs.Makes.{Core, core, Scripts, letter, symbol, spacing, struck, text, in_box, raised_by, black, arrow, Outline, quotient, between_any, outlined_fraction, choice}
 use Rattle.latex2mathml_tex_grammar.specs.Refusal.{Refusal, OutsideTable, MisplacedCharacter, CharacterInWords, refusal_at}
-use Rattle.latex2mathml_tex_grammar.specs.Meaning.{Meaning, Shows, FunctionName, Dots, Spacing, Styled, Words as TakesWordsIn, Fraction, Root, Accent, Brace, Stack, StackedRelation, OperatorName, Negation, Slash, Sized, Left, Middle, Right, Limits, NoLimits, Classed, Changes, ToAlphabet, ToStyle, Divides, ToColor, BeginTable, EndTable, LineBreak, Substack, Skip, SkipInBraces, Boxed, Smash, ContinuedFraction, GeneralFraction, Bar, FractionRule, Box, Phantom, PhantomWidth, PhantomHeight, Smashed, WithoutHeight, WithoutDepth, OverRight, OverLeft, OverBoth, Frame, StrikeUp, StrikeDown, StrikeTwice, Raise, InColor, Highlight, Rectangle, Arrow, Raised, Colored, OnColor}
+use Rattle.latex2mathml_tex_grammar.specs.Meaning.{Meaning, Shows, FunctionName, Dots, Spacing, Styled, Words as TakesWordsIn, Fraction, Root, Accent, Brace, Stack, StackedRelation, OperatorName, Negation, Slash, Sized, Left, Middle, Right, Limits, NoLimits, Classed, Changes, ToAlphabet, ToStyle, Divides, ToColor, BeginTable, EndTable, LineBreak, Substack, Skip, SkipInBraces, Boxed, Smash, ContinuedFraction, GeneralFraction, Choice, Bar, FractionRule, Box, Phantom, PhantomWidth, PhantomHeight, Smashed, WithoutHeight, WithoutDepth, OverRight, OverLeft, OverBoth, Frame, StrikeUp, StrikeDown, StrikeTwice, Raise, InColor, Highlight, Rectangle, Arrow, Raised, Colored, OnColor}
 use Rattle.latex2mathml_tex_grammar.specs.{Colors.color_of, Lengths.width_of}
 use Rattle.latex2mathml_tex_grammar.specs.Rows.{lone, Operand, row_element}
-use Rattle.latex2mathml_tex_grammar.specs.Rules.{Context, Rule, gives, refuses, takes_if, a_character, a_digit, decimal, after_digits, a_number, a_symbol, begins_none, character_rule, struck_atom, slashed, a_box, a_fraction, meaning_rule, command_rule, rule, with_value, a_bar, a_left_brace, a_right_brace, empty_braces, an_outer_delimiter, has_width, a_line, numbered_style, a_style, an_outlined_fraction, a_general_fraction}
+use Rattle.latex2mathml_tex_grammar.specs.Rules.{Context, Rule, gives, refuses, takes_if, a_character, a_digit, decimal, after_digits, a_number, a_symbol, begins_none, character_rule, struck_atom, slashed, a_box, a_fraction, meaning_rule, command_rule, rule, with_value, a_bar, a_left_brace, a_right_brace, empty_braces, an_outer_delimiter, has_width, a_line, numbered_style, a_style, an_outlined_fraction, a_general_fraction, a_choice}
 use Rattle.latex2mathml_tex_grammar.specs.Starts.{OperandStart, NoStart, GroupStart, DigitStart, operand_start, start_of_digit, Mark, Prime, Below, Above as AboveMark, LimitsAt, step_of, step_of_mark}
 use Rattle.latex2mathml_tex_grammar.specs.Symbols.{InDisplay, InText, InScript, Ordinary, Relation, Alphabet, Style, Symbol}
 use Rattle.latex2mathml_tex_grammar.specs.Units.{Piece, Space, Open, Close, Command, Character}
@@ -18,6 +18,7 @@ use Rattle.latex2mathml_tex_grammar.specs.Words.{Word, Shown, Formula, Nothing, 
 use Rattle.latex2mathml_tex_grammar.proofs.Allowed.{IsAllowedPiece, AreAllowedElements, IsAllowedElement, IsAllowedCore, IsAllowedOperand, AreAllowedScripts, AreAllowedWords, IsAllowedWord, IsAllowedWordRule, IsAllowedStep, IsAllowedRule, AreGiven}
 use Rattle.latex2mathml_tex_grammar.proofs.AllowedMakes.{letter_allowed, upright_letter_allowed, symbol_allowed, number_allowed, lone_allowed, row_element_allowed, single_allowed, struck_allowed, as_base_allowed, classed_allowed, accent_allowed, brace_allowed, stack_allowed, fraction_allowed, fenced_allowed, in_style_allowed, between_allowed, behind_primes_allowed}
 use Rattle.latex2mathml_elements.specs.Columns.{Alike, Dense}
+use Rattle.latex2mathml_elements.specs.{Columns.Alike, Columns.Dense, Groups.grouped}
 use Rattle.latex2mathml_tex_grammar.specs.Environments.{environment_of}
 use Rattle.latex2mathml_tex_grammar.proofs.AllowedRows.{a_table_allowed, environment_allowed, environment_passes}
 use Rattle.latex2mathml_tex_grammar.proofs.AllowedTables.{IsAllowedText, Passes, allowed_text, in_alphabet_allowed, is_allowed, is_allowed_meaning, is_allowed_symbol, meaning_passes, negated_allowed, delimiter_allowed, not_forbidden, symbol_passes, text_command_passes}
@@ -162,6 +163,23 @@ a_box_allowed place c box = λ x k. in_box_allowed box _ (as_base_allowed c.styl
 a_fraction_allowed : (place : ℕ) (c : Context) (rule : FractionRule) (own : Option Style) → IsAllowedRule (a_fraction place c rule own)
 a_fraction_allowed place c rule own = λ above k below i. fraction_allowed rule own above.element below.element k i
 
+grouped_allowed : (x : Element) → HasAllowedTexts x → HasAllowedTexts (grouped x)
+grouped_allowed (token t a text) h = (h, tt)
+grouped_allowed (space width) h = h
+grouped_allowed (rectangle e) h = h
+grouped_allowed (container t a xs) h = h
+grouped_allowed (pair p a x y) h = h
+grouped_allowed (triple t a x y z) h = h
+grouped_allowed (table a rows) h = h
+
+choice_allowed : (style : Style) (display text script : Operand) → IsAllowedOperand display → IsAllowedOperand text → IsAllowedOperand script → IsAllowedCore (choice style display text script)
+choice_allowed InDisplay display text script h k i = grouped_allowed display.element h
+choice_allowed InText display text script h k i = grouped_allowed text.element k
+choice_allowed InScript display text script h k i = grouped_allowed script.element i
+
+choice_rule_allowed : (place : ℕ) (c : Context) → IsAllowedRule (a_choice place c)
+choice_rule_allowed place c = λ display h text k script i smallest j. choice_allowed c.style display text script h k i
+
 -- an outline whose delimiters are allowed
 abbrev IsAllowedOutline : Outline → Type 0
 IsAllowedOutline o = IsAllowed o.opening × IsAllowed o.closing
@@ -247,6 +265,7 @@ meaning_rule_allowed place c (Fraction rule own) h = a_fraction_allowed place c 
 meaning_rule_allowed place c ContinuedFraction h =
     (λ left given. a_fraction_allowed place c Bar (Some InDisplay), (λ right given. a_fraction_allowed place c Bar (Some InDisplay), a_fraction_allowed place c Bar (Some InDisplay)))
 meaning_rule_allowed place c GeneralFraction h = general_fraction_allowed place c
+meaning_rule_allowed place c Choice h = choice_rule_allowed place c
 meaning_rule_allowed place c Root h =
     (λ bracket given degree k x i. (i, row_element_allowed degree.elements k), λ x k. (k, tt))
 meaning_rule_allowed place c (Accent side mark width) h = λ x k. accent_allowed side mark width x.element (not_forbidden mark h) k
@@ -368,6 +387,7 @@ word_of_meaning_allowed name (Some (Boxed box)) h = tt
 word_of_meaning_allowed name (Some Smash) h = tt
 word_of_meaning_allowed name (Some ContinuedFraction) h = tt
 word_of_meaning_allowed name (Some GeneralFraction) h = tt
+word_of_meaning_allowed name (Some Choice) h = tt
 word_of_meaning_allowed name (Some Raise) h = tt
 word_of_meaning_allowed name (Some InColor) h = tt
 word_of_meaning_allowed name (Some Highlight) h = tt

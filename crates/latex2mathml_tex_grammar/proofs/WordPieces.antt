@@ -2,7 +2,7 @@
 use Rattle.std.proofs.Common.{◌≡◌, ℕ, Bool, true, false, List, Option, Some, None, refl, ◌==◌, if◌then◌else◌, ◌||◌}
 use Rattle.std.specs.Str.{byte}
 use Rattle.latex2mathml_tex_grammar.specs.{Commands.meaning_of, Delimiters.entry_of_name, TextCommands.text_commands}
-use Rattle.latex2mathml_tex_grammar.specs.Meaning.{Meaning, takes_words, Shows, FunctionName, Dots, Spacing, Styled, Words as TakesWordsIn, Fraction, Root, Accent, Brace, Stack, StackedRelation, OperatorName, Negation, Slash, Sized, Left, Middle, Right, Limits, NoLimits, Classed, Changes, ToAlphabet, ToStyle, Divides, ToColor, BeginTable, EndTable, LineBreak, Substack, Skip, SkipInBraces, Boxed, Smash, ContinuedFraction, GeneralFraction, Raise, InColor, Highlight, Rectangle, Arrow}
+use Rattle.latex2mathml_tex_grammar.specs.Meaning.{Meaning, takes_words, Shows, FunctionName, Dots, Spacing, Styled, Words as TakesWordsIn, Fraction, Root, Accent, Brace, Stack, StackedRelation, OperatorName, Negation, Slash, Sized, Left, Middle, Right, Limits, NoLimits, Classed, Changes, ToAlphabet, ToStyle, Divides, ToColor, BeginTable, EndTable, LineBreak, Substack, Skip, SkipInBraces, Boxed, Smash, ContinuedFraction, GeneralFraction, Choice, Raise, InColor, Highlight, Rectangle, Arrow}
 use Rattle.latex2mathml_tex_grammar.specs.{Next.is_space_piece, Refusal.Kind, Symbols.Alphabet}
 use Rattle.latex2mathml_tex_grammar.specs.Spacing.{Standing, BeforeWords, InWords, BetweenDollars, standing_behind, is_in_words}
 use Rattle.latex2mathml_tex_grammar.specs.Units.{Piece, Space, Open, Close, Command, Character}
@@ -77,6 +77,7 @@ by_meaning name (Some (Boxed box)) e = no_word_here
 by_meaning name (Some Smash) e = no_word_here
 by_meaning name (Some ContinuedFraction) e = no_word_here
 by_meaning name (Some GeneralFraction) e = no_word_here
+by_meaning name (Some Choice) e = no_word_here
 by_meaning name (Some Raise) e = no_word_here
 by_meaning name (Some InColor) e = no_word_here
 by_meaning name (Some Highlight) e = no_word_here

@@ -1,7 +1,7 @@
 -- The commands from those that begin with m, in the order of their names' bytes. A name is its bytes, without the
 -- backslash; a character is its code point, and is also shown after its line.
 use Rattle.std.specs.Prelude.{ℕ, pos, negsuc, List, [], ◌∷◌, Some, None, codes}
-use Rattle.latex2mathml_tex_grammar.specs.Meaning.{Meaning, Shows, FunctionName, Spacing, Skip, SkipInBraces, Boxed, Smash, Styled, Words, Fraction, Root, Accent, Brace, Stack, StackedRelation, OperatorName, Negation, Slash, Middle, Right, NoLimits, Classed, Changes, ToAlphabet, ToStyle, Divides, words_apart, LineBreak, Substack, Raise, InColor, Highlight, Rectangle, Arrow}
+use Rattle.latex2mathml_tex_grammar.specs.Meaning.{Meaning, Shows, FunctionName, Spacing, Skip, SkipInBraces, Boxed, Smash, Styled, Words, Fraction, Root, Accent, Brace, Stack, StackedRelation, OperatorName, Negation, Slash, Middle, Right, NoLimits, Classed, Changes, ToAlphabet, ToStyle, Divides, words_apart, LineBreak, Substack, Raise, InColor, Highlight, Rectangle, Arrow, Choice}
 use Rattle.latex2mathml_tex_grammar.specs.Symbols.{Letter, UprightLetter, Sign, BigOperator, Integral, Ordinary, Operator, Binary, Relation, Opening, Closing, Punctuation, Inner, Upright, Italic, Bold, BoldItalic, DoubleStruck, Fraktur, Calligraphic, SansSerif, Monospace, InText, InScript}
 use Rattle.latex2mathml_elements.specs.Attributes.{Above, Below, Stretching, Rigid}
 use Rattle.latex2mathml_tex_grammar.specs.Meaning.{Phantom, PhantomHeight, OverRight, OverLeft, OverBoth, StrikeTwice, Beside, ByStyle, Bar, NoBar}
@@ -17,6 +17,7 @@ commands_from_m =
     (codes "mathbf", Styled Bold) ∷
     (codes "mathbin", Classed Binary) ∷
     (codes "mathcal", Styled Calligraphic) ∷
+    (codes "mathchoice", Choice) ∷
     (codes "mathclap", Boxed OverBoth) ∷
     (codes "mathclose", Classed Closing) ∷
     (codes "mathcolorbox", Highlight) ∷

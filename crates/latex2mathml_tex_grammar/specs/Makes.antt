@@ -5,6 +5,7 @@ use Rattle.latex2mathml_elements.specs.Attributes.{Attributes, Side, Above, Belo
 use Rattle.latex2mathml_elements.specs.Element.{Mi, Mn, Mo, Mrow, Msqrt, Mstyle, Mpadded, Mphantom, Mfrac, Mroot, Msub, Msup, Munder, Mover, Msubsup, Munderover, Element, token, space, rectangle, container, pair, triple, children}
 use Rattle.latex2mathml_elements.specs.Extents.{wide}
 use Rattle.latex2mathml_tex_grammar.specs.{Alphabets.in_alphabet, Rows.Row, Rows.Operand, Rows.lone, Rows.row_element}
+use Rattle.latex2mathml_elements.specs.{Extents.wide, Groups.grouped}
 use Rattle.latex2mathml_tex_grammar.specs.Atoms.{Atom, Kind, SignOf, PlusOrMinus, Plain, UprightLetters, FunctionWord, Blank, Divider, atom}
 use Rattle.latex2mathml_tex_grammar.specs.Meaning.{FractionRule, Bar, NoBar, Braced, Bracketed, Bare, LimitPlace, Beside, ByStyle, Movable, Stacked, Box, Phantom, PhantomWidth, PhantomHeight, Smashed, WithoutHeight, WithoutDepth, OverRight, OverLeft, OverBoth, Frame, StrikeUp, StrikeDown, StrikeTwice, Raised, Colored, OnColor}
 use Rattle.latex2mathml_tex_grammar.specs.Symbols.{Class, Ordinary, Operator, Binary, Relation, Opening, Closing, Punctuation, Inner, Style, InDisplay, InText, InScript, Alphabet, Upright, Symbol, Letter, UprightLetter, Sign, BigOperator, Integral}
@@ -168,6 +169,16 @@ classed class x = core (atom (Plain class) x.high x.element)
 -- an operand as the name of a function, with limits at this place
 abbrev pub operator_name : LimitPlace → Operand → Core
 operator_name limits x = operator limits (atom FunctionWord x.high x.element)
+
+-- an operand as an atom that keeps its class
+abbrev pub shown : Operand → Core
+shown x = core (atom (Plain x.class) x.high (grouped x.element))
+
+-- one of three operands, by the style
+abbrev pub choice : Style → Operand → Operand → Operand → Core
+choice InDisplay display text script = shown display
+choice InText display text script = shown text
+choice InScript display text script = shown script
 
 -- Boxes
 

@@ -97,6 +97,8 @@ pub data Meaning : Type 0 where
   Accent : Side → ℕ → Stretch → Meaning
   -- a brace, which takes scripts as labels
   Brace : Side → ℕ → Meaning
+  -- the first of four operands in display style, the second in text style, and the third in scripts
+  Choice : Meaning
   -- a first operand above or below the second
   Stack : Side → Meaning
   -- a first operand above the second; together they are a relation

@@ -5,8 +5,8 @@ use Rattle.std.specs.{Char.is_ascii_alphabetic, Char.is_ascii_digit, Str.byte, S
 use Rattle.latex2mathml_elements.specs.{Attributes.Above, Columns.Columns, Columns.Centered, Columns.LeftAligned, Columns.RightAligned, Columns.Dense, Columns.Alike, Columns.Listed, Element.Element}
 use Rattle.latex2mathml_tex_grammar.specs.{Atoms.Plain, Atoms.atom, Commands.meaning_of, Commands.symbol_of, Delimiters.delimiter_of, Delimiters.negated_of, Dots.centered_dots, Dots.centers_dots, Dots.low_dots, Rows.Row, Rows.Operand, Rows.as_base, Rows.row_element}
 use Rattle.latex2mathml_tex_grammar.specs.Environments.{Environment, Bracket, NoBracket, Position, Alignment, columns_of, environment_of, pairs}
-use Rattle.latex2mathml_tex_grammar.specs.Makes.{Core, core, letter, upright_letter, number, relation, symbol, function_name, spacing, braced, group, classed, no_letters, operator_name, accent, brace, stack, fraction, square_root, root, between_delimiters, sized, struck, blank, boxed_atom, bar, arrow, Outline, outlined_fraction}
-use Rattle.latex2mathml_tex_grammar.specs.Meaning.{Meaning, Shows, FunctionName, Dots, Spacing, Styled, Words as TakesWordsIn, Fraction, Root, Accent, Brace, Stack, StackedRelation, OperatorName, Negation, Slash, Sized, Left, Middle, Right, Limits, NoLimits, Classed, Changes, Beside, ByStyle, FractionRule, BeginTable, EndTable, LineBreak, Substack, Skip, SkipInBraces, Box, Smashed, WithoutHeight, WithoutDepth, Boxed, Smash, Raise, InColor, Highlight, Rectangle, Arrow, Raised, Colored, OnColor, ContinuedFraction, GeneralFraction, Bar}
+use Rattle.latex2mathml_tex_grammar.specs.Makes.{Core, core, letter, upright_letter, number, relation, symbol, function_name, spacing, braced, group, classed, no_letters, operator_name, accent, brace, stack, fraction, square_root, root, between_delimiters, sized, struck, blank, boxed_atom, bar, arrow, Outline, outlined_fraction, choice}
+use Rattle.latex2mathml_tex_grammar.specs.Meaning.{Meaning, Shows, FunctionName, Dots, Spacing, Styled, Words as TakesWordsIn, Fraction, Root, Accent, Brace, Stack, StackedRelation, OperatorName, Negation, Slash, Sized, Left, Middle, Right, Limits, NoLimits, Classed, Changes, Beside, ByStyle, FractionRule, BeginTable, EndTable, LineBreak, Substack, Skip, SkipInBraces, Box, Smashed, WithoutHeight, WithoutDepth, Boxed, Smash, Raise, InColor, Highlight, Rectangle, Arrow, Raised, Colored, OnColor, ContinuedFraction, GeneralFraction, Bar, Choice}
 use Rattle.latex2mathml_tex_grammar.specs.Refusal.{UnknownCommand, MissingArgument, MissingDelimiter, ChangeAsArgument, UnopenedBrace, RightWithoutLeft, MiddleWithoutLeft, LimitsWithoutOperator, NothingToNegate, OutsideTable, MisplacedCharacter, Refusal, refusal_at, UnknownEnvironment, EndWithoutBegin, OtherName, TooManyColumns, LengthTooLarge, UnknownColor}
 use Rattle.latex2mathml_tex_grammar.specs.Scanning.{Spot, Argument, Name, ColumnList, Number, BeforeArgument, BeforeBrace, BeforePosition, AtUnit, BeforeLengthInBraces, BeforeStar, InLength, AtBracket, ColorName}
 use Rattle.latex2mathml_tex_grammar.specs.{Colors.color_of, Lengths.width_of}
@@ -352,6 +352,11 @@ an_outlined_fraction place c o =
 abbrev pub a_general_fraction : ℕ → Context → Rule
 a_general_fraction place c = an_outline place (an_outlined_fraction place c)
 
+-- one of four operands, by the style; the fourth is for scripts of scripts, which are in the style of scripts here
+abbrev pub a_choice : ℕ → Context → Rule
+a_choice place c =
+    reads_operand place c (λ display. reads_operand place c (λ text. of_two place c c (λ script smallest. choice c.style display text script)))
+
 -- the rule of a command with this meaning, at this place
 abbrev pub meaning_rule : ℕ → Context → Meaning → Rule
 meaning_rule place c (Shows s) = gives (symbol c.alphabet s)
@@ -375,6 +380,7 @@ meaning_rule place c GeneralFraction = a_general_fraction place c
 meaning_rule place c Root = a_root place c
 meaning_rule place c (Accent side mark width) = of_one place c (λ x. accent side mark width x.element)
 meaning_rule place c (Brace side mark) = of_one place c (λ x. brace side mark x.element)
+meaning_rule place c Choice = a_choice place c
 meaning_rule place c (Stack side) = of_two place (styled c InScript) c (λ mark base. stack side base.class mark.element (as_base c.style base.class base).element)
 meaning_rule place c StackedRelation = of_two place (styled c InScript) c (λ mark base. stack Above Relation mark.element (as_base c.style Relation base).element)
 meaning_rule place c OperatorName = an_operator_name place c

@@ -39,6 +39,7 @@ usual_entries =
     (codes "dotso", 0, codes "\\ldots") ∷
     (codes "em", 0, codes "\\it") ∷
     (codes "ensuremath", 1, codes "#1") ∷
+    (codes "eqno", 0, codes "\\qquad\\textstyle") ∷
     (codes "fbox", 1, codes "\\boxed{\\text{#1}}") ∷
     (codes "footnotesize", 0, codes "") ∷
     (codes "hdots", 0, codes "\\ldots") ∷
@@ -50,19 +51,19 @@ usual_entries =
     (codes "ket", 1, codes "|#1\\rangle") ∷
     (codes "label", 1, codes "") ∷
     (codes "large", 0, codes "") ∷
+    (codes "leqno", 0, codes "\\qquad\\textstyle") ∷
     (codes "llap", 1, codes "\\mathllap{\\text{#1}}") ∷
-    (codes "mathchoice", 4, codes "#2") ∷
     (codes "mathstrut", 0, codes "\\vphantom{(}") ∷
     (codes "mdseries", 0, codes "") ∷
-    (codes "mod", 1, codes "\\quad\\operatorname{mod}\\;#1") ∷
+    (codes "mod", 1, codes "\\mathchoice{\\mkern18mu}{\\mkern12mu}{\\mkern12mu}{\\mkern12mu}\\mathrm{mod}\\,\\,#1") ∷
     (codes "nobreak", 0, codes "") ∷
     (codes "nonumber", 0, codes "") ∷
     (codes "normalfont", 0, codes "") ∷
     (codes "normalsize", 0, codes "") ∷
     (codes "notag", 0, codes "") ∷
     (codes "operatornamewithlimits", 0, codes "\\operatorname*") ∷
-    (codes "pmod", 1, codes "\\quad(\\operatorname{mod}\\;#1)") ∷
-    (codes "pod", 1, codes "\\quad(#1)") ∷
+    (codes "pmod", 1, codes "\\pod{\\mathrm{mod}\\mkern6mu#1}") ∷
+    (codes "pod", 1, codes "\\mathchoice{\\mkern18mu}{\\mkern8mu}{\\mkern8mu}{\\mkern8mu}(#1)") ∷
     (codes "qed", 0, codes "\\square") ∷
     (codes "raisebox", 2, codes "\\raisemath{#1}{\\text{#2}}") ∷
     (codes "relax", 0, codes "") ∷

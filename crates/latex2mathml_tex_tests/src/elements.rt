@@ -132,6 +132,27 @@ fn space_below_and_fence(rt: HostRuntime) -> Result<(), Fail> {
     )
 }
 
+/// Pushes a letter, which is the second of three.
+fn push_kept(builder: &mut Builder) -> Result<(), AllocError>
+    ensures { OnOk result (length (elements_in builder.new)
+        ≡ suc (length (elements_in builder.old))) }
+{
+    let plain = Attributes::plain();
+    builder.text(Token::Mi, plain, "a")?;
+    builder.text(Token::Mi, plain, "b")?;
+    builder.text(Token::Mi, plain, "c")?;
+    builder.keep(1, 3)
+}
+
+#[test]
+fn others_are_lost(rt: HostRuntime) -> Result<(), Fail> {
+    let mut builder = Builder::new(rt.alloc());
+    push_kept(&mut builder)?;
+    assert!(rt; builder.len() == 1);
+    builder.text(Token::Mi, Attributes::plain(), "d")?;
+    expect(rt.alloc(), &builder, 2, "<mrow><mi>b</mi></mrow><mi>d</mi>")
+}
+
 /// Pushes a large delimiter in a style, and an empty row.
 fn push_every_other_attribute(builder: &mut Builder) -> Result<(), AllocError>
     ensures { OnOk result (2 ≤ length (elements_in builder.new)) }

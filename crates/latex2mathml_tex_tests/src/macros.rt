@@ -50,7 +50,11 @@ static USES: [(&str, &str, &str); 5] = [
         "\\argmax_x",
         "\\operatorname*{arg\\,max}_x",
     ),
-    ("% none\n", "a \\pmod n", "a\\quad(\\operatorname{mod}\\;n)"),
+    (
+        "% none\n",
+        "a \\pmod n",
+        "a\\mkern8mu(\\mathrm{mod}\\mkern6mu n)",
+    ),
 ];
 
 #[test]

@@ -16,13 +16,13 @@ is_turning_form first second len =
     else if first == byte "b" then (if second == byte "f" then len == 8 else if second == byte "m" then len == 4 else if second == byte "r" then len == 3 || len == 6 else false)
     else if first == byte "c" then (if second == byte "e" then len == 9 else if second == byte "l" then len == 4 else if second == byte "o" then len == 5 || len == 7 || len == 8 || len == 16 else false)
     else if first == byte "d" then (if second == byte "e" then len == 3 else if second == byte "o" then len == 5 else false)
-    else if first == byte "e" then (if second == byte "m" then len == 2 else if second == byte "n" then len == 10 else false)
+    else if first == byte "e" then (if second == byte "m" then len == 2 else if second == byte "n" then len == 10 else if second == byte "q" then len == 4 else false)
     else if first == byte "f" then (if second == byte "b" then len == 4 else if second == byte "o" then len == 12 else false)
     else if first == byte "h" then (if second == byte "d" then len == 5 else if second == byte "u" then len == 4 else false)
     else if first == byte "i" then (if second == byte "f" then len == 3 else if second == byte "m" then len == 7 || len == 9 else if second == byte "t" then len == 7 else false)
     else if first == byte "k" || first == byte "q" then second == byte "e" && len == 3
-    else if first == byte "l" then (if second == byte "a" then len == 5 else if second == byte "l" then len == 4 else false)
-    else if first == byte "m" then (if second == byte "a" then len == 9 || len == 10 else if second == byte "d" then len == 8 else if second == byte "o" then len == 3 else false)
+    else if first == byte "l" then (if second == byte "a" || second == byte "e" then len == 5 else if second == byte "l" then len == 4 else false)
+    else if first == byte "m" then (if second == byte "a" then len == 9 else if second == byte "d" then len == 8 else if second == byte "o" then len == 3 else false)
     else if first == byte "n" then (if second == byte "e" then len == 10 else if second == byte "o" then len == 5 || len == 7 || len == 8 || len == 10 else false)
     else if first == byte "o" then second == byte "p" && len == 22
     else if first == byte "p" then (if second == byte "m" then len == 4 else if second == byte "o" then len == 3 else if second == byte "r" then len == 14 else false)

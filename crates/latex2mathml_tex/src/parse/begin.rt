@@ -214,6 +214,7 @@ impl<'a> Parser<'a> {
             Meaning::Brace(side, mark) => {
                 self.open(Frame::Last(Last::Brace(side, mark), place, context), next)
             }
+            Meaning::Choice => self.open(Frame::First(First::InBlock, place, context), next),
             Meaning::Stack(side) => self.open(
                 Frame::First(First::Stack(side), place, context.styled(Style::InScript)),
                 next,

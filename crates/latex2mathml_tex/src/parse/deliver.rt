@@ -1,13 +1,14 @@
 //! How parsing goes on after an atom without scripts, and after an operand.
-ghost use Rattle.std.specs.Prelude.{◌≡◌, ◌+◌, OnOk, Ok, drop};
+ghost use Rattle.std.specs.Prelude.{◌≡◌, ◌+◌, ◌<◌, Ok, drop};
 ghost use Rattle.latex2mathml_tex_grammar.specs.{Makes.struck, Rules.gives, Rules.struck_atom};
-ghost use Rattle.latex2mathml_tex.specs.Frames.{Start, last_count, made_of};
+ghost use Rattle.latex2mathml_tex.specs.Choices.{depth_in, in_line, in_scripts};
+ghost use Rattle.latex2mathml_tex.specs.Frames.{first_count, last_count, made_of};
 ghost use Rattle.latex2mathml_tex_atoms.specs.Models.{core_with, operand_with, top};
 ghost use Rattle.latex2mathml_tex_grammar.specs.Makes;
 ghost use Rattle.latex2mathml_elements.specs.Element.{Element};
 ghost use Rattle.latex2mathml_tex_commands.specs.Meanings.{class_of};
 ghost use Rattle.latex2mathml_tex_atoms.specs.declared.atoms.{Core.Core, Operand.Operand};
-ghost use Rattle.latex2mathml_tex.specs.Steps.{Begins, CanMake, FirstRead, Holds, HoldsIn, Advances, LeadsOn, Ready, core_made, elements_of};
+ghost use Rattle.latex2mathml_tex.specs.Steps.{Begins, CanMake, FirstRead, HoldsIn, Advances, LeadsOn, Ready, core_made, elements_of};
 
 use crate::parse::frames::{First, Frame, Last};
 use crate::parse::{Parser, State};
@@ -20,7 +21,7 @@ use latex2mathml_tex_atoms::outlines::put_outlined;
 use latex2mathml_tex_atoms::shapes::{
     is_sign, make_base, put_accent, put_brace, put_stack, with_atom,
 };
-use latex2mathml_tex_commands::meaning::{Class, LimitPlace};
+use latex2mathml_tex_commands::meaning::{Class, LimitPlace, Style};
 use latex2mathml_tex_units::error::TexErrorKind;
 use std::alloc::AllocError;
 
@@ -81,25 +82,27 @@ impl<'a> Parser<'a> {
     {
         match self.frames.take(self.style) {
             Frame::Last(last, _, _) => self.make(last, operand, next),
-            Frame::First(first, place, context) => self.after_first(first, place, context, next),
+            Frame::First(first, place, context) => {
+                self.after_first(first, place, context, operand, next)
+            }
             Frame::Script(core, scripts, side, _, _) => self.with_script(core, scripts, side, next),
             _ => unreachable!(),
         }
     }
 
-    /// Goes on after the first of two operands.
+    /// Goes on after an operand that others follow.
     fn after_first(
         &mut self,
         first: First,
         place: usize,
         context: Context,
+        operand: Operand,
         next: &mut State,
     ) -> Result<(), AllocError>
-        requires { CanMake core_made 1 self.old }
-        ensures holds { (s : Start) (operand : Operand)
-            → FirstRead first place context operand s self.old
-            → OnOk result (Holds s self.new next.new) }
-        ensures step { Advances 6 self.old self.new next.new result }
+        requires { CanMake core_made (first_count first + 1) self.old }
+        ensures holds { LeadsOn (FirstRead first place context operand)
+            self.old self.new next.new result }
+        ensures step { Advances 10 self.old self.new next.new result }
     {
         let outer = self.frames.innermost(self.style).context();
         self.open(
@@ -115,6 +118,17 @@ impl<'a> Parser<'a> {
                     Last::StackedRelation(outer.style),
                     place,
                     outer,
+                ),
+                First::InBlock => Frame::First(First::InLine(operand), place, context),
+                First::InLine(before) => Frame::First(
+                    First::InScripts(in_line(context.style, before, operand)),
+                    place,
+                    context,
+                ),
+                First::InScripts(before) => Frame::Last(
+                    Last::Choice(context.style, in_scripts(context.style, before, operand)),
+                    place,
+                    context,
                 ),
             },
             next,
@@ -220,6 +234,11 @@ impl<'a> Parser<'a> {
                 *next = State::Core(Core::new(Kind::Plain(Class::Relation), true));
                 Ok(())
             }
+            Last::Choice(style, shown) => {
+                self.builder.keep(depth_in(style), 4)?;
+                *next = State::Core(Core::new(Kind::Plain(shown.class), shown.high));
+                Ok(())
+            }
         }
     }
 }
@@ -233,6 +252,39 @@ fn ordinary(high: bool) -> Core
     } }
 {
     Core::new(Kind::Plain(Class::Ordinary), high)
+}
+
+/// Returns the operand that a choice shows in this style, if it is one of these: the one before that for a line of text, or
+/// that one.
+fn in_line(style: Style, before: Operand, operand: Operand) -> Operand
+    ensures { result ≡ in_line style before operand }
+{
+    match style {
+        Style::InDisplay => before,
+        Style::InText | Style::InScript => operand,
+    }
+}
+
+/// Returns the operand that a choice shows in this style: one before that for scripts, or that one.
+fn in_scripts(style: Style, before: Operand, operand: Operand) -> Operand
+    ensures { result ≡ in_scripts style before operand }
+{
+    match style {
+        Style::InScript => operand,
+        Style::InDisplay | Style::InText => before,
+    }
+}
+
+/// Returns how many of the four operands of a choice come after the one for this style.
+fn depth_in(style: Style) -> usize
+    ensures is { result ≡ depth_in style }
+    ensures few { result < 4 }
+{
+    match style {
+        Style::InDisplay => 3,
+        Style::InText => 2,
+        Style::InScript => 1,
+    }
 }
 
 /// Returns an operand, which may be a sign, as an atom of this class.

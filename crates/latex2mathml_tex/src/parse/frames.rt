@@ -16,7 +16,7 @@ ghost use Rattle.latex2mathml_tex_units.specs.Taking.{piece_of};
 
 use latex2mathml_attributes::attributes::{Side, Stretch};
 use latex2mathml_attributes::columns::{Column, Columns};
-use latex2mathml_tex_atoms::atoms::{Before, Context, Core, Row, Scripts, Words};
+use latex2mathml_tex_atoms::atoms::{Before, Context, Core, Operand, Row, Scripts, Words};
 use latex2mathml_tex_atoms::outlines::Outline;
 use latex2mathml_tex_commands::meaning::{
     Alphabet, Class, FractionRule, LimitPlace, OperandBox, Style,
@@ -105,9 +105,12 @@ pub(crate) enum Last {
     OverArrow,
     /// The label above an arrow; the next elements below are the label below the arrow, and the arrow.
     OverAndUnderArrow,
+    /// What a choice shows in scripts of scripts, which is lost. In this style it shows this operand. The next elements below are
+    /// what it shows in scripts, in a line of text and in a block.
+    Choice(Style, Operand),
 }
 
-/// What the first of two operands is.
+/// What an operand is that others follow.
 #[derive(Clone, Copy)]
 pub(crate) enum First {
     /// A numerator.
@@ -118,6 +121,13 @@ pub(crate) enum First {
     Stack(Side),
     /// What is shown above a relation.
     StackedRelation,
+    /// What a choice shows in a block.
+    InBlock,
+    /// What it shows in a line of text. The one before it is the element below, and is this operand.
+    InLine(Operand),
+    /// What it shows in scripts. The ones before it are the elements below, and the one that is to be shown is this operand, if
+    /// it is one of them.
+    InScripts(Operand),
 }
 
 /// Something open that began at a place, and what it waits for.
@@ -127,7 +137,7 @@ pub(crate) enum Frame {
     Row(Ending, usize, Context, Row),
     /// The last operand of a command, in this context.
     Last(Last, usize, Context),
-    /// The first of two operands, in this context.
+    /// An operand that others follow, in this context.
     First(First, usize, Context),
     /// An atom that is negated.
     Negation(usize, Context),

@@ -18,7 +18,7 @@ pub(crate) fn letter_m() -> &'static [Entry]
 }
 
 #[rattlefmt::skip]
-static LETTER_M: [Entry; 48] = [
+static LETTER_M: [Entry; 49] = [
     Entry { name: "maltese", key: 0x6d616c7465736500, meaning: Meaning::Shows(Symbol::Sign(Class::Ordinary, '✠')) },
     Entry { name: "mapsto", key: 0x6d617073746f0000, meaning: Meaning::Shows(Symbol::Sign(Class::Relation, '↦')) },
     Entry { name: "mars", key: 0x6d61727300000000, meaning: Meaning::Shows(Symbol::Sign(Class::Ordinary, '♂')) },
@@ -27,6 +27,7 @@ static LETTER_M: [Entry; 48] = [
     Entry { name: "mathbf", key: 0x6d61746862660000, meaning: Meaning::Styled(Alphabet::Bold) },
     Entry { name: "mathbin", key: 0x6d61746862696e00, meaning: Meaning::Classed(Class::Binary) },
     Entry { name: "mathcal", key: 0x6d61746863616c00, meaning: Meaning::Styled(Alphabet::Calligraphic) },
+    Entry { name: "mathchoice", key: 0x6d61746863686f69, meaning: Meaning::Choice },
     Entry { name: "mathclap", key: 0x6d617468636c6170, meaning: Meaning::Boxed(OperandBox::OverBoth) },
     Entry { name: "mathclose", key: 0x6d617468636c6f73, meaning: Meaning::Classed(Class::Closing) },
     Entry { name: "mathcolorbox", key: 0x6d617468636f6c6f, meaning: Meaning::Highlight },

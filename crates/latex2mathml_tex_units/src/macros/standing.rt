@@ -183,6 +183,7 @@ fn is_turning_form(first: u8, second: u8, len: usize) -> bool
         b'e' => match second {
             b'm' => len == 2,
             b'n' => len == 10,
+            b'q' => len == 4,
             _ => false,
         },
         b'f' => match second {
@@ -203,12 +204,12 @@ fn is_turning_form(first: u8, second: u8, len: usize) -> bool
         },
         b'k' | b'q' => second == b'e' && len == 3,
         b'l' => match second {
-            b'a' => len == 5,
+            b'a' | b'e' => len == 5,
             b'l' => len == 4,
             _ => false,
         },
         b'm' => match second {
-            b'a' => matches!(len, 9 | 10),
+            b'a' => len == 9,
             b'd' => len == 8,
             b'o' => len == 3,
             _ => false,

@@ -30,7 +30,7 @@ fn entries() -> &'static [Usual]
 
 /// An entry for each macro, in the order of their names' bytes.
 #[rattlefmt::skip]
-static ENTRIES: [Usual; 86] = [
+static ENTRIES: [Usual; 87] = [
     Usual { name: "*", arity: 0, body: "" },
     Usual { name: "-", arity: 0, body: "" },
     Usual { name: "/", arity: 0, body: "" },
@@ -62,6 +62,7 @@ static ENTRIES: [Usual; 86] = [
     Usual { name: "dotso", arity: 0, body: "\\ldots" },
     Usual { name: "em", arity: 0, body: "\\it" },
     Usual { name: "ensuremath", arity: 1, body: "#1" },
+    Usual { name: "eqno", arity: 0, body: "\\qquad\\textstyle" },
     Usual { name: "fbox", arity: 1, body: "\\boxed{\\text{#1}}" },
     Usual { name: "footnotesize", arity: 0, body: "" },
     Usual { name: "hdots", arity: 0, body: "\\ldots" },
@@ -73,19 +74,19 @@ static ENTRIES: [Usual; 86] = [
     Usual { name: "ket", arity: 1, body: "|#1\\rangle" },
     Usual { name: "label", arity: 1, body: "" },
     Usual { name: "large", arity: 0, body: "" },
+    Usual { name: "leqno", arity: 0, body: "\\qquad\\textstyle" },
     Usual { name: "llap", arity: 1, body: "\\mathllap{\\text{#1}}" },
-    Usual { name: "mathchoice", arity: 4, body: "#2" },
     Usual { name: "mathstrut", arity: 0, body: "\\vphantom{(}" },
     Usual { name: "mdseries", arity: 0, body: "" },
-    Usual { name: "mod", arity: 1, body: "\\quad\\operatorname{mod}\\;#1" },
+    Usual { name: "mod", arity: 1, body: "\\mathchoice{\\mkern18mu}{\\mkern12mu}{\\mkern12mu}{\\mkern12mu}\\mathrm{mod}\\,\\,#1" },
     Usual { name: "nobreak", arity: 0, body: "" },
     Usual { name: "nonumber", arity: 0, body: "" },
     Usual { name: "normalfont", arity: 0, body: "" },
     Usual { name: "normalsize", arity: 0, body: "" },
     Usual { name: "notag", arity: 0, body: "" },
     Usual { name: "operatornamewithlimits", arity: 0, body: "\\operatorname*" },
-    Usual { name: "pmod", arity: 1, body: "\\quad(\\operatorname{mod}\\;#1)" },
-    Usual { name: "pod", arity: 1, body: "\\quad(#1)" },
+    Usual { name: "pmod", arity: 1, body: "\\pod{\\mathrm{mod}\\mkern6mu#1}" },
+    Usual { name: "pod", arity: 1, body: "\\mathchoice{\\mkern18mu}{\\mkern8mu}{\\mkern8mu}{\\mkern8mu}(#1)" },
     Usual { name: "qed", arity: 0, body: "\\square" },
     Usual { name: "raisebox", arity: 2, body: "\\raisemath{#1}{\\text{#2}}" },
     Usual { name: "relax", arity: 0, body: "" },

@@ -4,7 +4,7 @@ use Rattle.latex2mathml_tex_grammar.specs.Rules.{an_outline, an_outlined_fractio
 use Rattle.latex2mathml_tex_commands.specs.Meanings.{style_of}
 use Rattle.latex2mathml_tex.specs.{Frames.after_first, Frames.context_at, TakenBy.TookBy}
 use Rattle.latex2mathml_tex_atoms.specs.{Models.context_of, Outlines.outline_of}
-use Rattle.latex2mathml_tex.specs.Steps.{Begins, level}
+use Rattle.latex2mathml_tex.specs.Steps.{Begins, elements_of, level}
 use Rattle.latex2mathml_tex_atoms.specs.declared.outlines.Outline.{Outline}
 use Rattle.latex2mathml_tex.specs.declared.parse.frames.First.TheVariants as first
 use Rattle.latex2mathml_tex.proofs.{HandingOn.handed_on, HandingOn.handed_within, HandingOn.stopped, HandingOn.stopped_within, Leading.operand_due, RuleSteps.own_style_is}
@@ -40,7 +40,7 @@ returns-clause-holds c = λ s g.
     let style : smaller (own_style own (style_of c.args.context.style)) ≡ style_of c.smaller-style.result = sym (c.smaller-style.ensures ∙ ap smaller chosen) in
     let part = in_context (style_of c.smaller-style.result) alphabet in
     let due = subst (λ st. Begins (of_two place (in_context st alphabet) (in_context st alphabet) (λ above below. outlined_fraction (outline_of outline) above.element below.element)) 0 s q) style begins in
-    c.open.ensures.holds s due.style (rw c.styled.ensures (operand_due (after_first (first.Outlined outline) place part (context_at (level 0 s q))) due.leads))
+    c.open.ensures.holds s due.style (rw c.styled.ensures (operand_due (after_first (first.Outlined outline) place part (context_at (level 0 s q)) (elements_of q)) due.leads))
 
 pub returns-clause-step : goal.returns-clause-step
 returns-clause-step c =

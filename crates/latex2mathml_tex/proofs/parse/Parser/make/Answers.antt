@@ -1,11 +1,11 @@
-use Rattle.std.proofs.Common.{◌≡◌, ◌≤◌, ◌&&◌, arith, ◌∷◌, [], drop, length, not, refl, sym, ◌∙◌}
+use Rattle.std.proofs.Common.{◌≡◌, ◌≤◌, ◌&&◌, ap, arith, ◌∷◌, [], drop, length, not, refl, sym, ◌∙◌}
 use Rattle.latex2mathml_elements.specs.Attributes.{plain}
 use Rattle.latex2mathml_elements.specs.Element.{Mover, Mroot, Msqrt, Munderover, children, container, pair, triple}
-use Rattle.latex2mathml_builder.specs.{Built.elements_in, Stacks.is_token, Stacks.pair_with}
+use Rattle.latex2mathml_builder.specs.{Built.elements_in, Stacks.group_at, Stacks.is_token, Stacks.pair_with}
 use Rattle.latex2mathml_tex_commands.specs.declared.meaning.Class.TheVariants as class
 use Rattle.latex2mathml_tex_atoms.specs.Models.{top}
 use Rattle.latex2mathml_tex.specs.Steps.{elements_of}
-use Rattle.latex2mathml_tex.proofs.Making.{base, behind_changed, behind_two_changed, classed_put, enough, made, made_held, made_put, made_step, one_taken, ordinary, slash_put, three_reversed, top_changed, top_first, two_exchanged, two_ordered}
+use Rattle.latex2mathml_tex.proofs.Making.{base, behind_changed, behind_two_changed, choice_put, classed_put, enough, made, made_held, made_put, made_step, one_taken, ordinary, shown_core, slash_put, three_reversed, top_changed, top_first, two_exchanged, two_ordered}
 use Rattle.latex2mathml_tex.proofs.parse.Parser.make.Goals as goal
 use Rattle.latex2mathml_tex.proofs.parse.Parser.make.Goals.{then-not-is_token, else-not-is_token}
 
@@ -165,4 +165,16 @@ returns-in_ok-triple-in-OverAndUnderArrow c =
     record {
       holds = λ s g. rw c.new-in-OverAndUnderArrow.ensures (made_put p c.args.last c.args.operand s c.triple.new.self _ x (rw c.in-OverAndUnderArrow.is put) (rw c.in-OverAndUnderArrow.is refl) g);
       step = rw c.new-in-OverAndUnderArrow.ensures (made_step p c.args.last c.args.operand c.triple.new.self _ x (rw c.in-OverAndUnderArrow.is put) c.requires);
+    }
+
+pub returns-in_ok-keep-in-Choice : goal.returns-in_ok-keep-in-Choice
+returns-in_ok-keep-in-Choice c =
+    let p = c.args.self.now in
+    let xs = elements_of p in
+    let four : 4 ≤ length xs = enough 4 p (rw c.in-Choice.is at c.requires.elements) in
+    let put = choice_put c.in-Choice.style c.in-Choice.shown xs four in
+    let is = c.in_ok-keep-in-Choice.ensures.elements ∙ ap (λ n. group_at n xs ∷ drop 4 xs) c.depth_in.ensures.is in
+    record {
+      holds = λ s g. rw c.new-in-Choice.ensures (made_held p c.args.last c.args.operand s c.keep.new.self (shown_core c.in-Choice.shown) (record { element = is ∙ rw c.in-Choice.is put.element; is = rw c.in-Choice.is put.is }) g);
+      step = rw c.new-in-Choice.ensures (made_step p c.args.last c.args.operand c.keep.new.self (shown_core c.in-Choice.shown) (made p c.args.last c.args.operand).atom.element (is ∙ rw c.in-Choice.is put.element) c.requires);
     }

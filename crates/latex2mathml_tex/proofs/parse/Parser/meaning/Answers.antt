@@ -9,7 +9,7 @@ use Rattle.latex2mathml_tex_grammar.specs.Symbols.{InScript, Relation}
 use Rattle.latex2mathml_tex.specs.Frames.{after_first, context_at}
 use Rattle.latex2mathml_tex_commands.specs.Meanings.{class_of, style_of}
 use Rattle.latex2mathml_tex_atoms.specs.Models.{context_of}
-use Rattle.latex2mathml_tex.specs.Steps.{Begins, level}
+use Rattle.latex2mathml_tex.specs.Steps.{Begins, elements_of, level}
 use Rattle.latex2mathml_tex.specs.declared.parse.frames.First.TheVariants as first
 use Rattle.latex2mathml_tex.proofs.{Leading.operand_due, Rows.refused_step, Rows.step_within, RuleSteps.begun, RuleSteps.rule_refuses}
 use Rattle.latex2mathml_tex.proofs.parse.Parser.meaning.Goals as goal
@@ -61,13 +61,18 @@ pub returns-in-Brace-clause-holds : goal.returns-in-Brace-clause-holds
 returns-in-Brace-clause-holds c = λ s g.
     c.open-in-Brace.ensures.holds s g.style (operand_due (λ x. gives (brace (side_of c.in-Brace.side) c.in-Brace.mark x.element)) (rw c.in-Brace.is at g.leads))
 
+pub returns-in-Choice-clause-holds : goal.returns-in-Choice-clause-holds
+returns-in-Choice-clause-holds c = λ s g.
+    let p = c.args.self.now in
+    c.open-in-Choice.ensures.holds s g.style (operand_due (after_first first.InBlock c.args.place (context_of c.args.context) (context_at (level 0 s p)) (elements_of p)) (rw c.in-Choice.is at g.leads))
+
 pub returns-in-Stack-clause-holds : goal.returns-in-Stack-clause-holds
 returns-in-Stack-clause-holds c = λ s g.
     let p = c.args.self.now in
     let place = c.args.place in
     let mark = styled (context_of c.args.context) InScript in
     let begins = subst (λ d. Begins (of_two place mark d (λ m base. stack (side_of c.in-Stack.side) base.class m.element (as_base d.style base.class base).element)) 0 s p) g.context (begun (rw c.in-Stack.is at g)) in
-    c.open-in-Stack.ensures.holds s g.style (rw c.styled.ensures (operand_due (after_first (first.Stack c.in-Stack.side) place mark (context_at (level 0 s p))) begins.leads))
+    c.open-in-Stack.ensures.holds s g.style (rw c.styled.ensures (operand_due (after_first (first.Stack c.in-Stack.side) place mark (context_at (level 0 s p)) (elements_of p)) begins.leads))
 
 pub returns-in-StackedRelation-clause-holds : goal.returns-in-StackedRelation-clause-holds
 returns-in-StackedRelation-clause-holds c = λ s g.
@@ -75,7 +80,7 @@ returns-in-StackedRelation-clause-holds c = λ s g.
     let place = c.args.place in
     let mark = styled (context_of c.args.context) InScript in
     let begins = subst (λ d. Begins (of_two place mark d (λ m base. stack Above Relation m.element (as_base d.style Relation base).element)) 0 s p) g.context (begun (rw c.in-StackedRelation.is at g)) in
-    c.open-in-StackedRelation.ensures.holds s g.style (rw c.styled-in-StackedRelation.ensures (operand_due (after_first first.StackedRelation place mark (context_at (level 0 s p))) begins.leads))
+    c.open-in-StackedRelation.ensures.holds s g.style (rw c.styled-in-StackedRelation.ensures (operand_due (after_first first.StackedRelation place mark (context_at (level 0 s p)) (elements_of p)) begins.leads))
 
 pub returns-in-Slash-clause-holds : goal.returns-in-Slash-clause-holds
 returns-in-Slash-clause-holds c = λ s g.
@@ -132,6 +137,9 @@ returns-in-Accent-clause-step c = step_within c.args.self.now c.args.self.now c.
 
 pub returns-in-Brace-clause-step : goal.returns-in-Brace-clause-step
 returns-in-Brace-clause-step c = step_within c.args.self.now c.args.self.now c.open-in-Brace.new.self c.open-in-Brace.new.next c.open-in-Brace.result 6 13 (omega arith) c.open-in-Brace.ensures.step
+
+pub returns-in-Choice-clause-step : goal.returns-in-Choice-clause-step
+returns-in-Choice-clause-step c = step_within c.args.self.now c.args.self.now c.open-in-Choice.new.self c.open-in-Choice.new.next c.open-in-Choice.result 10 13 (omega arith) c.open-in-Choice.ensures.step
 
 pub returns-in-Stack-clause-step : goal.returns-in-Stack-clause-step
 returns-in-Stack-clause-step c = step_within c.args.self.now c.args.self.now c.open-in-Stack.new.self c.open-in-Stack.new.next c.open-in-Stack.result 10 13 (omega arith) c.open-in-Stack.ensures.step

@@ -4,7 +4,7 @@ use Rattle.latex2mathml_tex_grammar.specs.Rules.{in_context, of_two, own_style}
 use Rattle.latex2mathml_tex.specs.Frames.{after_first, context_at}
 use Rattle.latex2mathml_tex_commands.specs.Meanings.{fraction_rule_of, style_of}
 use Rattle.latex2mathml_tex_atoms.specs.Models.{context_of}
-use Rattle.latex2mathml_tex.specs.Steps.{Begins, level}
+use Rattle.latex2mathml_tex.specs.Steps.{Begins, elements_of, level}
 use Rattle.latex2mathml_tex.specs.declared.parse.frames.First.TheVariants as first
 use Rattle.latex2mathml_tex.proofs.{RuleSteps.own_style_is, Leading.operand_due}
 use Rattle.latex2mathml_tex.proofs.parse.Parser.open_fraction.Goals as goal
@@ -20,4 +20,4 @@ returns-clause-holds c = λ s g.
     let style : smaller (own_style own (style_of c.args.context.style)) ≡ style_of c.smaller-style.result = sym (c.smaller-style.ensures ∙ ap smaller chosen) in
     let part = in_context (style_of c.smaller-style.result) alphabet in
     let begins = subst (λ st. Begins (of_two place (in_context st alphabet) (in_context st alphabet) (λ above below. fraction rule own above.element below.element)) 0 s p) style g in
-    c.open.ensures.holds s g.style (rw c.styled.ensures (operand_due (after_first (first.Fraction c.args.rule c.args.own) place part (context_at (level 0 s p))) begins.leads))
+    c.open.ensures.holds s g.style (rw c.styled.ensures (operand_due (after_first (first.Fraction c.args.rule c.args.own) place part (context_at (level 0 s p)) (elements_of p)) begins.leads))
