@@ -1,17 +1,17 @@
 -- The columns that the code finds are those of the definitions.
 use Rattle.std.proofs.Common.{◌≡◌, ℕ, zero, suc, ◌%◌, ◌<◌, ◌≤◌, List, [], ◌∷◌, length, map, take, refl, arith}
 use Rattle.std.proofs.Math.ListN.{get_or}
-use Rattle.latex2mathml_elements.specs.Columns.{Centered, FirstOfPair, SecondOfPair, InPairs, Listed, column_at}
+use Rattle.latex2mathml_elements.specs.Columns.{Centered, FirstOfPair, SecondOfPair, InPairs, Listed, column_at, unlined}
 use Rattle.latex2mathml_attributes.specs.{Columns.column_of, declared.columns.Column.Column as Own}
 
 -- Pairs
 
-pub first_of_pair : (k : ℕ) → k % 2 ≡ 0 → column_at InPairs k ≡ FirstOfPair
+pub first_of_pair : (k : ℕ) → k % 2 ≡ 0 → column_at InPairs k ≡ unlined FirstOfPair
 first_of_pair zero h = refl
 first_of_pair (suc zero) h = absurd (omega arith)
 first_of_pair (suc (suc k)) h = first_of_pair k (omega arith)
 
-pub second_of_pair : (k : ℕ) → k % 2 ≡ 1 → column_at InPairs k ≡ SecondOfPair
+pub second_of_pair : (k : ℕ) → k % 2 ≡ 1 → column_at InPairs k ≡ unlined SecondOfPair
 second_of_pair zero h = absurd (omega arith)
 second_of_pair (suc zero) h = refl
 second_of_pair (suc (suc k)) h = second_of_pair k (omega arith)
@@ -25,7 +25,7 @@ listed_there (c ∷ cs) (suc len) zero d h i = refl
 listed_there (c ∷ cs) (suc len) (suc k) d h i = listed_there cs len k d (omega arith) (omega arith)
 
 -- a place after the listed columns
-pub none_behind : (cs : List Own) (len k : ℕ) → len ≤ k → column_at (Listed (map column_of (take len cs))) k ≡ Centered
+pub none_behind : (cs : List Own) (len k : ℕ) → len ≤ k → column_at (Listed (map column_of (take len cs))) k ≡ unlined Centered
 none_behind [] zero k h = refl
 none_behind [] (suc len) k h = refl
 none_behind (c ∷ cs) zero k h = refl
@@ -33,7 +33,7 @@ none_behind (c ∷ cs) (suc len) zero h = absurd (omega arith)
 none_behind (c ∷ cs) (suc len) (suc k) h = none_behind cs len k (omega arith)
 
 -- a place beyond the room for listed columns
-pub none_beyond : (cs : List Own) (len k : ℕ) → length cs ≤ k → column_at (Listed (map column_of (take len cs))) k ≡ Centered
+pub none_beyond : (cs : List Own) (len k : ℕ) → length cs ≤ k → column_at (Listed (map column_of (take len cs))) k ≡ unlined Centered
 none_beyond [] zero k h = refl
 none_beyond [] (suc len) k h = refl
 none_beyond (c ∷ cs) zero k h = refl

@@ -1,12 +1,12 @@
 //! The columns of tables.
-ghost use Rattle.std.specs.Prelude.{◌≡◌, ◌∷◌, []};
-ghost use Rattle.latex2mathml_elements.specs.Print.{column_text};
-ghost use Rattle.latex2mathml_elements.specs.Columns.{Alike, Centered, InPairs, LeftAligned, Listed, RightAligned, column_at};
-ghost use Rattle.latex2mathml_attributes.specs.Columns.{column_of, columns_of, has_room, listed_behind};
+ghost use Rattle.std.specs.Prelude.{◌≡◌, ◌∷◌, ◌++◌, []};
+ghost use Rattle.latex2mathml_elements.specs.Print.{cell_tag};
+ghost use Rattle.latex2mathml_elements.specs.Columns.{Alike, Centered, InPairs, LeftAligned, Listed, RightAligned, column_at, unlined};
+ghost use Rattle.latex2mathml_attributes.specs.Columns.{alignment_of, column_of, columns_of, has_room, listed_behind, tag_end, tag_start};
 
 /// How the cells of a column are aligned.
 #[derive(Debug, Clone, Copy)]
-pub enum Column {
+pub enum Alignment {
     Centered,
     LeftAligned,
     RightAligned,
@@ -16,6 +16,21 @@ pub enum Column {
     SecondOfPair,
     /// Centered, with little space around.
     Dense,
+}
+
+/// Where lines are drawn next to a column.
+#[derive(Debug, Clone, Copy)]
+pub enum Borders {
+    NoLine,
+    LineBefore,
+    LineAfter,
+    LinesAround,
+}
+
+#[derive(Debug, Clone, Copy)]
+pub struct Column {
+    pub alignment: Alignment,
+    pub borders: Borders,
 }
 
 /// All columns of a table, however many there are. Contracts refer to them as `columns_of`, as the definitions have them.
@@ -29,37 +44,76 @@ pub struct Columns {
 
 #[derive(Debug, Clone, Copy)]
 enum Kind {
-    Alike(Column),
+    Alike(Alignment),
     InPairs,
     Listed,
 }
 
-impl Column {
-    /// Returns the attributes of a cell.
-    pub fn text(self) -> &'static str
-        ensures { result.now ≡ column_text (column_of self) }
+impl Alignment {
+    /// Returns the start tag of a cell up to the style of its lines.
+    fn tag_start(self) -> &'static str
+        ensures { result.now ≡ tag_start (alignment_of self) }
     {
         match self {
-            Column::Centered => "",
-            Column::LeftAligned => " columnalign=\"left\" style=\"text-align: left\"",
-            Column::RightAligned =>
-                " columnalign=\"right\" style=\"text-align: right; text-align: -webkit-right\"",
-            Column::FirstOfPair =>
-                " columnalign=\"right\" style=\"text-align: right; text-align: -webkit-right; padding-right: 0\"",
-            Column::SecondOfPair =>
-                " columnalign=\"left\" style=\"text-align: left; padding-left: 0\"",
-            Column::Dense => " style=\"padding: 0.1em 0.3em\"",
+            Alignment::Centered => "<mtd",
+            Alignment::LeftAligned => "<mtd columnalign=\"left\" style=\"text-align: left",
+            Alignment::RightAligned =>
+                "<mtd columnalign=\"right\" style=\"text-align: right; text-align: -webkit-right",
+            Alignment::FirstOfPair =>
+                "<mtd columnalign=\"right\" style=\"text-align: right; text-align: -webkit-right; padding-right: 0",
+            Alignment::SecondOfPair =>
+                "<mtd columnalign=\"left\" style=\"text-align: left; padding-left: 0",
+            Alignment::Dense => "<mtd style=\"padding: 0.1em 0.3em",
+        }
+    }
+}
+
+impl Column {
+    /// Returns a column without lines.
+    pub fn unlined(alignment: Alignment) -> Column
+        ensures { column_of result ≡ unlined (alignment_of alignment) }
+    {
+        Column {
+            alignment,
+            borders: Borders::NoLine,
+        }
+    }
+
+    /// Returns the start tag of a cell, in two pieces.
+    pub fn tag(self) -> (&'static str, &'static str)
+        ensures { result.0.now ++ result.1.now ≡ cell_tag (column_of self) }
+    {
+        (self.alignment.tag_start(), self.tag_end())
+    }
+
+    /// Returns the start tag of a cell from the style of its lines on.
+    fn tag_end(self) -> &'static str
+        ensures { result.now ≡ tag_end (column_of self) }
+    {
+        match (self.alignment, self.borders) {
+            (Alignment::Centered, Borders::NoLine) => ">",
+            (Alignment::Centered, Borders::LineBefore) =>
+                " style=\"border-left: thin solid; padding-left: 0.4em\">",
+            (Alignment::Centered, Borders::LineAfter) =>
+                " style=\"border-right: thin solid; padding-right: 0.4em\">",
+            (Alignment::Centered, Borders::LinesAround) =>
+                " style=\"border-left: thin solid; padding-left: 0.4em; border-right: thin solid; padding-right: 0.4em\">",
+            (_, Borders::NoLine) => "\">",
+            (_, Borders::LineBefore) => "; border-left: thin solid; padding-left: 0.4em\">",
+            (_, Borders::LineAfter) => "; border-right: thin solid; padding-right: 0.4em\">",
+            (_, Borders::LinesAround) =>
+                "; border-left: thin solid; padding-left: 0.4em; border-right: thin solid; padding-right: 0.4em\">",
         }
     }
 }
 
 impl Columns {
-    /// Returns columns that are all like this one.
-    pub fn alike(column: Column) -> Columns
-        ensures { columns_of result ≡ Alike (column_of column) }
+    /// Returns columns that are all aligned like this.
+    pub fn alike(alignment: Alignment) -> Columns
+        ensures { columns_of result ≡ Alike (alignment_of alignment) }
     {
         Columns {
-            kind: Kind::Alike(column),
+            kind: Kind::Alike(alignment),
             ..Columns::none()
         }
     }
@@ -76,11 +130,12 @@ impl Columns {
 
     /// Returns a right-aligned, a centered and a left-aligned column, followed by centered ones.
     pub fn right_center_left() -> Columns
-        ensures { columns_of result ≡ Listed (RightAligned ∷ Centered ∷ LeftAligned ∷ []) }
+        ensures { columns_of result ≡ Listed (unlined RightAligned ∷ unlined Centered
+            ∷ unlined LeftAligned ∷ []) }
     {
-        let mut listed = [Column::Centered; 16];
-        listed[0] = Column::RightAligned;
-        listed[2] = Column::LeftAligned;
+        let mut listed = [Column::unlined(Alignment::Centered); 16];
+        listed[0] = Column::unlined(Alignment::RightAligned);
+        listed[2] = Column::unlined(Alignment::LeftAligned);
         Columns {
             kind: Kind::Listed,
             listed,
@@ -94,7 +149,7 @@ impl Columns {
     {
         Columns {
             kind: Kind::Listed,
-            listed: [Column::Centered; 16],
+            listed: [Column::unlined(Alignment::Centered); 16],
             len: 0,
         }
     }
@@ -120,11 +175,14 @@ impl Columns {
     {
         let listed = self.listed.as_slice();
         match self.kind {
-            Kind::Alike(column) => column,
-            Kind::InPairs if place % 2 == 0 => Column::FirstOfPair,
-            Kind::InPairs => Column::SecondOfPair,
+            Kind::Alike(alignment) => Column::unlined(alignment),
+            Kind::InPairs if place % 2 == 0 => Column::unlined(Alignment::FirstOfPair),
+            Kind::InPairs => Column::unlined(Alignment::SecondOfPair),
             Kind::Listed if place < listed.len() && place < self.len as usize => listed[place],
-            Kind::Listed => Column::Centered,
+            Kind::Listed => Column {
+                alignment: Alignment::Centered,
+                borders: Borders::NoLine,
+            },
         }
     }
 }

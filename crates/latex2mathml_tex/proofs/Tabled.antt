@@ -5,11 +5,11 @@ use Rattle.latex2mathml_elements.specs.Columns.{Columns, column_at}
 use Rattle.latex2mathml_elements.specs.Element.{Element}
 use Rattle.latex2mathml_builder.specs.Built.{Built, elements_in}
 use Rattle.latex2mathml_attributes.specs.Columns.{columns_of}
-use Rattle.latex2mathml_tex_grammar.specs.{Environments.before_cell, Rows.Row, Rows.row_element, Scanning.past_break}
+use Rattle.latex2mathml_tex_grammar.specs.{Rows.Row, Rows.row_element, Scanning.past_break}
 use Rattle.latex2mathml_tex_grammar.specs.Reading.{Outcome, Read, Refused, ReadsAtoms, ReadsRows, cell_read, cell_refused, next_cell, next_row, table_ends, text_ends_table}
 use Rattle.latex2mathml_tex_grammar.specs.Rules.{Context as RuleContext, InCell, TableEnd, in_context, styled}
 use Rattle.latex2mathml_tex_grammar.specs.Starts.{PartsCells, EndsRow, EndsTable as TableEnds, cell_end}
-use Rattle.latex2mathml_tex_grammar.specs.Tables.{Lines, a_row, begun_cell, with_last}
+use Rattle.latex2mathml_tex_grammar.specs.Tables.{Lines, a_row, before_cell, begun_cell, with_last}
 use Rattle.latex2mathml_tex_grammar.specs.Units.{Units, End}
 use Rattle.latex2mathml_tex.specs.Frames.{Start, context_at, inside}
 use Rattle.latex2mathml_tex.specs.Innermost.{frame_context}
@@ -36,7 +36,7 @@ cell_due k (Read row m) d = λ o ds. k o (cell_read d ds)
 cell_due k (Refused r) d = k (Refused r) (cell_refused d)
 
 -- the row of the cell, before its first atom
-begun_is : (row : CodeRow) (columns : Columns) (n k : ℕ) (xs : List Element) → row ≡ record empty_row { before = row.before } → before_of row.before ≡ before_cell (column_at columns n) → k ≡ n → row_with row xs ≡ begun_cell columns k
+begun_is : (row : CodeRow) (columns : Columns) (n k : ℕ) (xs : List Element) → row ≡ record empty_row { before = row.before } → before_of row.before ≡ before_cell (column_at columns n).alignment → k ≡ n → row_with row xs ≡ begun_cell columns k
 begun_is row columns n k xs is before e = ap (λ r. row_with r xs) is ∙ rw (before, e) refl
 
 module _ (s : Start) (p : Parser) (t : Table) (place : ℕ) where
@@ -49,7 +49,7 @@ module _ (s : Start) (p : Parser) (t : Table) (place : ℕ) where
   abbrev Cell : RuleContext → Row → List Element → ℕ → Type 0
   Cell c r xs n = (o : Outcome Row) → ReadsAtoms (InCell (table_end t) place) c r (left_of p) o → TableMade t place xs (context_at (inside s p.frames.stack.items (drop n (elements_of p)))) (CoreMade (inside s p.frames.stack.items (drop n (elements_of p)))) o
 
-  pub cell_begins : (f : Frame) (around context : Context) (st : Style) (row : CodeRow) → CanMake core_made beside p → around ≡ frame_context f → InnermostIs f p → context ≡ record around { style = st } → style_of st ≡ style_in t.kind → row ≡ record empty_row { before = row.before } → before_of row.before ≡ before_cell (column_at (columns_of t.columns) t.cells) → GoesOnTable t place s p → Leads (level_within (frame.Row (ending.Cell t) place context row) 0 s p) (left_of p)
+  pub cell_begins : (f : Frame) (around context : Context) (st : Style) (row : CodeRow) → CanMake core_made beside p → around ≡ frame_context f → InnermostIs f p → context ≡ record around { style = st } → style_of st ≡ style_in t.kind → row ≡ record empty_row { before = row.before } → before_of row.before ≡ before_cell (column_at (columns_of t.columns) t.cells).alignment → GoesOnTable t place s p → Leads (level_within (frame.Row (ending.Cell t) place context row) 0 s p) (left_of p)
   cell_begins f around context st row can is inner restyled same row_is before g =
       let outer : context_of around ≡ context_at around_it = ap context_of is ∙ context_is s p.style p.frames.stack.items f (drop beside (elements_of p)) g.style inner in
       let own : context_of context ≡ cell_context t (context_at around_it) =

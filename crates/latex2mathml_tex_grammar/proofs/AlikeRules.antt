@@ -4,7 +4,7 @@ use Rattle.std.proofs.lemmas.Bool.{cases_Bool}
 use Rattle.std.specs.{Char.is_ascii_alphabetic, Char.is_ascii_digit, Str.byte, Str.bytes_eq}
 use Rattle.latex2mathml_elements.specs.Element.{Element}
 use Rattle.latex2mathml_elements.specs.Columns.{Columns}
-use Rattle.latex2mathml_tex_grammar.specs.Environments.{Environment, Bracket, NoBracket, Position, Alignment, environment_of}
+use Rattle.latex2mathml_tex_grammar.specs.Environments.{Environment, Bracket, NoBracket, Position, Alignment, columns_of, environment_of}
 use Rattle.latex2mathml_tex_grammar.specs.Scanning.{Spot, Argument, Name, ColumnList, Number, ColorName, InLength, AtBracket, AtUnit, BeforeLengthInBraces}
 use Rattle.latex2mathml_tex_grammar.specs.Tables.{Lines}
 use Rattle.latex2mathml_tex_grammar.specs.{Commands.meaning_of, Commands.symbol_of, Delimiters.delimiter_of, Makes.Core, Makes.Outline, Refusal.Refusal, Rows.Row, Rows.Operand, Symbols.Alphabet, Symbols.Style, Symbols.Symbol, Words.Words}
@@ -227,12 +227,12 @@ ended_too p q c e columns lines false = refuses_too refl
 rows_of_too : {at : Standing} (p q : ℕ) (c : Context) (name : List ℕ) (e : Environment) (columns : Columns) → AlikeRules at at (rows_rule p c name e columns) (rows_rule q c name e columns)
 rows_of_too p q c name e columns = rows_too (λ lines j k. scanned_too (λ other. ended_too j k c e columns lines (bytes_eq other name)))
 
-listed_too : {at : Standing} (p q : ℕ) (c : Context) (name : List ℕ) (e : Environment) (letters : List ℕ) → AlikeRules at at (listed_rule p c name e letters) (listed_rule q c name e letters)
-listed_too p q c name e letters = either (nat_le (length letters) most_columns) (rows_of_too p q c name e _) (refuses_too refl)
+listed_too : {at : Standing} (p q : ℕ) (c : Context) (name : List ℕ) (e : Environment) (signs : List ℕ) → AlikeRules at at (listed_rule p c name e signs) (listed_rule q c name e signs)
+listed_too p q c name e signs = either (nat_le (length (columns_of signs)) most_columns) (rows_of_too p q c name e _) (refuses_too refl)
 
 argument_too : {at : Standing} (p q : ℕ) (c : Context) (name : List ℕ) (e : Environment) (argument : Option Argument) → AlikeRules at at (argument_rule p c name e argument) (argument_rule q c name e argument)
 argument_too p q c name e None = rows_of_too p q c name e _
-argument_too p q c name e (Some ColumnList) = scanned_too (λ letters. listed_too p q c name e letters)
+argument_too p q c name e (Some ColumnList) = scanned_too (λ signs. listed_too p q c name e signs)
 argument_too p q c name e (Some Number) = scanned_too (λ number. rows_of_too p q c name e _)
 argument_too p q c name e (Some Name) = rows_of_too p q c name e _
 argument_too p q c name e (Some ColorName) = rows_of_too p q c name e _

@@ -102,8 +102,8 @@ ended_allowed place c e columns lines false h k = tt
 rows_rule_allowed : (place : ℕ) (c : Context) (name : List ℕ) (e : Environment) (columns : Columns) → are_allowed_delimiters e.delimiters ≡ true → IsAllowedRule (rows_rule place c name e columns)
 rows_rule_allowed place c name e columns h = λ lines at k other. ended_allowed at c e columns lines (bytes_eq other name) h k
 
-listed_allowed : (place : ℕ) (c : Context) (name : List ℕ) (e : Environment) (letters : List ℕ) → are_allowed_delimiters e.delimiters ≡ true → IsAllowedRule (listed_rule place c name e letters)
-listed_allowed place c name e letters h = of_either IsAllowedRule (nat_le (length letters) most_columns) (rows_rule_allowed place c name e (Listed (columns_of letters)) h) tt
+listed_allowed : (place : ℕ) (c : Context) (name : List ℕ) (e : Environment) (signs : List ℕ) → are_allowed_delimiters e.delimiters ≡ true → IsAllowedRule (listed_rule place c name e signs)
+listed_allowed place c name e signs h = of_either IsAllowedRule (nat_le (length (columns_of signs)) most_columns) (rows_rule_allowed place c name e (Listed (columns_of signs)) h) tt
 
 argument_allowed : (place : ℕ) (c : Context) (name : List ℕ) (e : Environment) (argument : Option Argument) → are_allowed_delimiters e.delimiters ≡ true → IsAllowedRule (argument_rule place c name e argument)
 argument_allowed place c name e None h = rows_rule_allowed place c name e e.columns h

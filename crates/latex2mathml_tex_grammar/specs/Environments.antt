@@ -1,24 +1,40 @@
 -- The environments: each is a table. A name is its bytes.
-use Rattle.std.specs.Prelude.{ℕ, ◌==◌, List, [], ◌∷◌, Option, Some, None, codes, if◌then◌else◌}
+use Rattle.std.specs.Prelude.{ℕ, ◌==◌, Bool, true, false, List, [], ◌∷◌, Option, Some, None, codes, if◌then◌else◌}
 use Rattle.std.specs.{Str.byte, Str.bytes_eq}
-use Rattle.latex2mathml_elements.specs.Columns.{Column, Centered, LeftAligned, RightAligned, SecondOfPair, Dense, Columns, Alike, InPairs, Listed}
-use Rattle.latex2mathml_tex_grammar.specs.Atoms.{Before, After, Nothing}
+use Rattle.latex2mathml_elements.specs.Columns.{Centered, LeftAligned, RightAligned, Dense, Borders, NoLine, LineBefore, LineAfter, LinesAround, Column, unlined, Columns, Alike, InPairs, Listed}
 use Rattle.latex2mathml_tex_grammar.specs.Scanning.{Argument, ColumnList, Number}
-use Rattle.latex2mathml_tex_grammar.specs.Symbols.{Style, InDisplay, InText, InScript, Ordinary}
+use Rattle.latex2mathml_tex_grammar.specs.Symbols.{Style, InDisplay, InText, InScript}
 
--- what precedes the first atom of a cell: the second of a pair continues the first
-abbrev pub before_cell : Column → Before
-before_cell SecondOfPair = After Ordinary
-before_cell column = Nothing
+-- whether signs of columns begin with a line
+abbrev pub begins_with_line : List ℕ → Bool
+begins_with_line [] = false
+begins_with_line (c ∷ cs) = c == byte "|"
 
--- the column of a letter, and those of a text of letters
-abbrev pub column_of : ℕ → Column
-column_of c = if c == byte "l" then LeftAligned else if c == byte "r" then RightAligned else Centered
+-- the lines next to a column: whether there is one before it, and whether there is one after it
+abbrev pub borders : Bool → Bool → Borders
+borders false false = NoLine
+borders true false = LineBefore
+borders false true = LineAfter
+borders true true = LinesAround
 
--- the columns that these letters say
+-- the column of a letter, with these lines
+abbrev pub column_of : ℕ → Borders → Column
+column_of c lines = record {
+  alignment = if c == byte "l" then LeftAligned else if c == byte "r" then RightAligned else Centered;
+  borders = lines;
+}
+
+-- the columns of these signs, where a line may come before the first: a letter is a column, and has a line after it if a line
+-- comes next
+abbrev pub columns_behind : Bool → List ℕ → List Column
+columns_behind line [] = []
+columns_behind line (c ∷ cs) =
+    if c == byte "|" then columns_behind line cs
+    else column_of c (borders line (begins_with_line cs)) ∷ columns_behind false cs
+
+-- the columns that these signs say
 abbrev pub columns_of : List ℕ → List Column
-columns_of [] = []
-columns_of (c ∷ cs) = column_of c ∷ columns_of cs
+columns_of signs = columns_behind (begins_with_line signs) signs
 
 -- what may be in brackets after the name of an environment
 pub data Bracket : Type 0 where
@@ -73,7 +89,7 @@ with_argument argument e = record e { argument = Some argument }
 
 -- the two sides of a relation, and the relation between them
 abbrev pub around_relation : Environment
-around_relation = cells_in (Listed (RightAligned ∷ Centered ∷ LeftAligned ∷ [])) InDisplay
+around_relation = cells_in (Listed (unlined RightAligned ∷ unlined Centered ∷ unlined LeftAligned ∷ [])) InDisplay
 
 -- the table of environments, in the order of bytes
 unfoldable pub environments : List (List ℕ × Environment)

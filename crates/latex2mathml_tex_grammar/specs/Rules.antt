@@ -198,13 +198,13 @@ most_columns = 16
 
 -- the rows of an environment, in the columns that its author lists
 abbrev pub listed_rule : ℕ → Context → List ℕ → Environment → List ℕ → Rule
-listed_rule place c name e letters =
-    if nat_le (length letters) most_columns then rows_rule place c name e (Listed (columns_of letters)) else refuses (refusal_at TooManyColumns place)
+listed_rule place c name e signs =
+    if nat_le (length (columns_of signs)) most_columns then rows_rule place c name e (Listed (columns_of signs)) else refuses (refusal_at TooManyColumns place)
 
 -- the rows of an environment, after what is in braces after its name
 abbrev pub argument_rule : ℕ → Context → List ℕ → Environment → Option Argument → Rule
 argument_rule place c name e None = rows_rule place c name e e.columns
-argument_rule place c name e (Some ColumnList) = takes_found (BeforeArgument ColumnList) place (λ letters. listed_rule place c name e letters)
+argument_rule place c name e (Some ColumnList) = takes_found (BeforeArgument ColumnList) place (λ signs. listed_rule place c name e signs)
 argument_rule place c name e (Some Number) = takes_found (BeforeArgument Number) place (λ number. rows_rule place c name e e.columns)
 argument_rule place c name e (Some Name) = rows_rule place c name e e.columns
 argument_rule place c name e (Some ColorName) = rows_rule place c name e e.columns

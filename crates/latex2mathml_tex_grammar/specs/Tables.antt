@@ -1,15 +1,19 @@
 -- Tables: rows of cells. Here what was read last comes first.
 use Rattle.std.specs.Prelude.{ℕ, true, List, [], ◌∷◌, reverse, Option, Some, None}
 use Rattle.latex2mathml_elements.specs.Attributes.{plain, MathStyle}
-use Rattle.latex2mathml_elements.specs.{Columns.Columns, Columns.column_at, Tables.rows_in}
+use Rattle.latex2mathml_elements.specs.{Columns.Alignment, Columns.SecondOfPair, Columns.Columns, Columns.column_at, Tables.rows_in}
 use Rattle.latex2mathml_elements.specs.Element.{Mrow, Element, Rows, container, table, children}
-use Rattle.latex2mathml_tex_grammar.specs.{Atoms.Plain, Atoms.atom, Makes.Core, Makes.core, Makes.fenced, Makes.math_style, Rows.Row, Rows.empty_row, Rows.row_element}
-use Rattle.latex2mathml_tex_grammar.specs.Environments.{before_cell}
+use Rattle.latex2mathml_tex_grammar.specs.{Atoms.Before, Atoms.After, Atoms.Nothing, Atoms.Plain, Atoms.atom, Makes.Core, Makes.core, Makes.fenced, Makes.math_style, Rows.Row, Rows.empty_row, Rows.row_element}
 use Rattle.latex2mathml_tex_grammar.specs.Symbols.{Class, Ordinary, Inner, Style, InDisplay, InText}
+
+-- what precedes the first atom of a cell: the second of a pair continues the first
+abbrev pub before_cell : Alignment → Before
+before_cell SecondOfPair = After Ordinary
+before_cell alignment = Nothing
 
 -- the row of a cell that has this many cells before it, before its first atom
 abbrev pub begun_cell : Columns → ℕ → Row
-begun_cell columns k = record empty_row { before = before_cell (column_at columns k) }
+begun_cell columns k = record empty_row { before = before_cell (column_at columns k).alignment }
 
 -- Rows: until a table is made of it, a row is an `mrow` of its cells
 

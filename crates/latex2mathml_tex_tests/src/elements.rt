@@ -5,7 +5,7 @@ ghost use Rattle.latex2mathml_builder.specs.Built.{elements_in};
 use latex2mathml_attributes::attributes::{
     Attributes, Form, MathStyle, Side, Size, Space, Stretch,
 };
-use latex2mathml_attributes::columns::{Column, Columns};
+use latex2mathml_attributes::columns::{Alignment, Borders, Column, Columns};
 use latex2mathml_attributes::tag::{Container, Pair, Token, Triple};
 use latex2mathml_builder::builder::Builder;
 use latex2mathml_builder::works::Works;
@@ -260,16 +260,20 @@ fn push_tables(builder: &mut Builder, listed: Columns, alike: Columns) -> Result
 #[test]
 fn columns_of_each_kind(rt: HostRuntime) -> Result<(), Fail> {
     let mut listed = Columns::none();
-    assert!(rt; listed.push(Column::LeftAligned));
-    let mut alike = Columns::alike(Column::Dense);
-    assert!(rt; !alike.push(Column::LeftAligned));
+    let left = Column {
+        alignment: Alignment::LeftAligned,
+        borders: Borders::LineAfter,
+    };
+    assert!(rt; listed.push(left));
+    let mut alike = Columns::alike(Alignment::Dense);
+    assert!(rt; !alike.push(left));
     let mut builder = Builder::new(rt.alloc());
     push_tables(&mut builder, listed, alike)?;
     expect(
         rt.alloc(),
         &builder,
         3,
-        "<mtable><mtr><mtd columnalign=\"right\" style=\"text-align: right; text-align: -webkit-right\"><mi>a</mi></mtd><mtd><mi>b</mi></mtd><mtd columnalign=\"left\" style=\"text-align: left\"><mi>c</mi></mtd></mtr></mtable><mtable><mtr><mtd columnalign=\"left\" style=\"text-align: left\"><mi>d</mi></mtd><mtd><mi>e</mi></mtd></mtr></mtable><mtable><mtr><mtd style=\"padding: 0.1em 0.3em\"><mi>f</mi></mtd></mtr></mtable>",
+        "<mtable><mtr><mtd columnalign=\"right\" style=\"text-align: right; text-align: -webkit-right\"><mi>a</mi></mtd><mtd><mi>b</mi></mtd><mtd columnalign=\"left\" style=\"text-align: left\"><mi>c</mi></mtd></mtr></mtable><mtable><mtr><mtd columnalign=\"left\" style=\"text-align: left; border-right: thin solid; padding-right: 0.4em\"><mi>d</mi></mtd><mtd><mi>e</mi></mtd></mtr></mtable><mtable><mtr><mtd style=\"padding: 0.1em 0.3em\"><mi>f</mi></mtd></mtr></mtable>",
     )
 }
 
@@ -301,7 +305,7 @@ fn push_deep_tables(builder: &mut Builder, depth: usize) -> Result<(), AllocErro
     builder.character(Token::Mi, plain, 'x')?;
     for _ in 0..depth {
         builder.container(Container::Mrow, plain, 1)?;
-        builder.table(None, Columns::alike(Column::Centered), 1)?;
+        builder.table(None, Columns::alike(Alignment::Centered), 1)?;
     }
     Ok(())
 }

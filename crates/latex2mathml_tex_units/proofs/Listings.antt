@@ -1,11 +1,10 @@
 -- Environments that are looked up, and columns that are listed.
-use Rattle.std.proofs.Common.{◌≡◌, ◌==◌, ℕ, ◌+◌, ◌<◌, ◌≤◌, Bool, true, false, ◌||◌, List, [], ◌∷◌, ◌++◌, Some, suc, get_or, length, map, take, nat_le, nat_lt, refl, sym, ap, arith, ◌∙◌, if◌then◌else◌}
-use Rattle.std.proofs.Math.Seq.{take-suc}
-use Rattle.std.proofs.lemmas.{Bool.Decides.nat_tests, List.length-take-le}
-use Rattle.std.specs.Str.{bytes_eq}
+use Rattle.std.proofs.Common.{◌≡◌, ◌==◌, ℕ, ◌≤◌, Bool, true, false, ◌||◌, List, [], ◌∷◌, ◌++◌, append_assoc, append-nil, Some, drop, get_or, length, map, nat_le, nat_lt, refl, sym, ap, arith, ◌∙◌, if◌then◌else◌}
+use Rattle.std.proofs.lemmas.{Bool.Decides.nat_tests, List.length-append}
+use Rattle.std.specs.Str.{byte, bytes_eq}
 use Rattle.latex2mathml_elements.specs.Columns.{Column, Columns, Listed}
 use Rattle.latex2mathml_attributes.specs.Columns.{has_room, listed_behind}
-use Rattle.latex2mathml_tex_grammar.specs.Environments.{column_of, columns_of, entry_environment}
+use Rattle.latex2mathml_tex_grammar.specs.Environments.{begins_with_line, borders, column_of, columns_behind, columns_of, entry_environment}
 use Rattle.latex2mathml_tex_units.specs.{Environments.entry_of, Environments.environment_of, declared.environments.Environment.Environment}
 
 pub entry_found : (es : List Environment) (name : List ℕ) (d : Environment) → (length es == 0) ≡ false → bytes_eq (get_or es 0 d).name.now name ≡ true → entry_environment (map entry_of es) name ≡ Some (environment_of (get_or es 0 d))
@@ -16,35 +15,56 @@ entry_found (e ∷ es) name d some h = rw h refl
 pub one_of_nine : (a b c d e f g h i : Bool) → a ≡ false → b ≡ false → c ≡ false → d ≡ false → e ≡ false → f ≡ false → g ≡ false → h ≡ false → i ≡ false → ((((((((a || b) || c) || d) || e) || f) || g) || h) || i) ≡ false
 one_of_nine a b c d e f g h i p q r s t u v w x = rw (p, q, r, s, t, u, v, w, x) refl
 
--- Letters that represent columns
+-- Signs that represent columns
 
-length-columns : (cs : List ℕ) → length (columns_of cs) ≡ length cs
-length-columns [] = refl
-length-columns (c ∷ cs) = (let more = length-columns cs in omega (arith, more))
+-- the columns that were listed of these signs, where the last ones are left, before the first of which a line may come
+pub record AreListed (columns : Columns) (line : Bool) (rest signs : List ℕ) : Type 0 where
+  pub so_far : List Column
+  pub listed : columns ≡ Listed so_far
+  pub all : so_far ++ columns_behind line rest ≡ columns_of signs
+  pub few : length so_far ≤ 16
 
-columns-append : (cs : List ℕ) (c : ℕ) → columns_of (cs ++ c ∷ []) ≡ columns_of cs ++ column_of c ∷ []
-columns-append [] c = refl
-columns-append (d ∷ cs) c = ap (λ k. column_of d ∷ k) (columns-append cs c)
+pub none_listed : (columns : Columns) (signs : List ℕ) → columns ≡ Listed [] → AreListed columns (begins_with_line signs) signs signs
+none_listed columns signs is = record { so_far = []; listed = is; all = refl; few = omega arith }
 
-so_many : (n : ℕ) (letters : List ℕ) → n < length letters → length (columns_of (take n letters)) ≡ n
-so_many n letters h = length-columns (take n letters) ∙ length-take-le n letters (omega (arith, h))
+pub all_listed : (columns : Columns) (line : Bool) (rest signs : List ℕ) → (length rest == 0) ≡ true → AreListed columns line rest signs → (nat_le (length (columns_of signs)) 16 ≡ true) × (columns ≡ Listed (columns_of signs))
+all_listed columns line [] signs none h =
+    let same : h.so_far ≡ columns_of signs = sym (append-nil h.so_far) ∙ h.all in
+    let few : nat_le (length h.so_far) 16 ≡ true = grind (arith, nat_tests, h.few) in
+    (ap (λ l. nat_le (length l) 16) (sym same) ∙ few, h.listed ∙ ap Listed same)
+all_listed columns line (c ∷ cs) signs none h = (grind (arith, nat_tests, none), grind (arith, nat_tests, none))
 
-pub too_many : (n : ℕ) (letters : List ℕ) (before : Columns) → n < length letters → before ≡ Listed (columns_of (take n letters)) → false ≡ has_room before → nat_le (length letters) 16 ≡ false
-too_many n letters before h is full =
-    let count = so_many n letters h in
-    let room : nat_lt n 16 ≡ false = sym (full ∙ ap has_room is ∙ ap (λ k. nat_lt k 16) count) in
-    grind (arith, nat_tests)
+line_next : (line : Bool) (c : ℕ) (cs : List ℕ) → (c == byte "|") ≡ true → columns_behind line (c ∷ cs) ≡ columns_behind line cs
+line_next line c cs is = rw is refl
 
-pub one_more_room : (n : ℕ) (letters : List ℕ) (before : Columns) → n < length letters → before ≡ Listed (columns_of (take n letters)) → true ≡ has_room before → n + 1 ≤ 16
-one_more_room n letters before h is room =
-    let count = so_many n letters h in
-    let less : nat_lt n 16 ≡ true = sym (room ∙ ap has_room is ∙ ap (λ k. nat_lt k 16) count) in
-    grind (arith, nat_tests)
+column_next : (line : Bool) (c : ℕ) (cs : List ℕ) → (c == byte "|") ≡ false → columns_behind line (c ∷ cs) ≡ column_of c (borders line (begins_with_line cs)) ∷ columns_behind false cs
+column_next line c cs is = rw is refl
 
-pub one_more : (n : ℕ) (letters : List ℕ) (before after : Columns) (column : Column) → n < length letters → before ≡ Listed (columns_of (take n letters)) → true ≡ has_room before → after ≡ listed_behind column before → column ≡ column_of (get_or letters n 0) → after ≡ Listed (columns_of (take (n + 1) letters))
-one_more n letters before after column h is room put same =
-    let so_far = columns_of (take n letters) in
-    let less : nat_lt (length so_far) 16 ≡ true = sym (room ∙ ap has_room is) in
-    let longer : take (n + 1) letters ≡ take n letters ++ get_or letters n 0 ∷ [] = (let next : n + 1 ≡ suc n = omega arith in ap (λ k. take k letters) next ∙ take-suc letters n 0 h) in
-    let listed : listed_behind column (Listed so_far) ≡ Listed (so_far ++ column ∷ []) = ap (λ (b : Bool). Listed (if b then so_far ++ column ∷ [] else so_far)) less in
-    put ∙ ap (listed_behind column) is ∙ listed ∙ ap (λ k. Listed (so_far ++ k ∷ [])) same ∙ ap Listed (sym (columns-append (take n letters) (get_or letters n 0))) ∙ ap (λ k. Listed (columns_of k)) (sym longer)
+pub line_passed : (columns : Columns) (line : Bool) (rest signs : List ℕ) → (length rest == 0) ≡ false → (get_or rest 0 0 == byte "|") ≡ true → AreListed columns line rest signs → AreListed columns line (drop 1 rest) signs
+line_passed columns line [] signs some is h = cc
+line_passed columns line (c ∷ cs) signs some is h = record {
+  so_far = h.so_far;
+  listed = h.listed;
+  all = ap (λ l. h.so_far ++ l) (sym (line_next line c cs is)) ∙ h.all;
+  few = h.few;
+}
+
+pub too_many : (columns : Columns) (line : Bool) (rest signs : List ℕ) → (length rest == 0) ≡ false → (get_or rest 0 0 == byte "|") ≡ false → has_room columns ≡ false → AreListed columns line rest signs → nat_le (length (columns_of signs)) 16 ≡ false
+too_many columns line [] signs some is full h = cc
+too_many columns line (c ∷ cs) signs some is full h =
+    let no_room : nat_lt (length h.so_far) 16 ≡ false = ap has_room (sym h.listed) ∙ full in
+    let all = ap (λ l. h.so_far ++ l) (sym (column_next line c cs is)) ∙ h.all in
+    ap (λ l. nat_le (length l) 16) (sym all) ∙ grind (arith, nat_tests, length-append {A = Column}, no_room)
+
+pub column_listed : (before after : Columns) (line : Bool) (rest signs : List ℕ) → (length rest == 0) ≡ false → (get_or rest 0 0 == byte "|") ≡ false → has_room before ≡ true → after ≡ listed_behind (column_of (get_or rest 0 0) (borders line (begins_with_line (drop 1 rest)))) before → AreListed before line rest signs → AreListed after false (drop 1 rest) signs
+column_listed before after line [] signs some is room put h = cc
+column_listed before after line (c ∷ cs) signs some is room put h =
+    let column = column_of c (borders line (begins_with_line cs)) in
+    let less : nat_lt (length h.so_far) 16 ≡ true = ap has_room (sym h.listed) ∙ room in
+    let longer : listed_behind column (Listed h.so_far) ≡ Listed (h.so_far ++ column ∷ []) = ap (λ (b : Bool). Listed (if b then h.so_far ++ column ∷ [] else h.so_far)) less in
+    record {
+      so_far = h.so_far ++ column ∷ [];
+      listed = put ∙ ap (listed_behind column) h.listed ∙ longer;
+      all = append_assoc h.so_far (column ∷ []) (columns_behind false cs) ∙ ap (λ l. h.so_far ++ l) (sym (column_next line c cs is)) ∙ h.all;
+      few = grind (arith, nat_tests, length-append {A = Column}, less);
+    }

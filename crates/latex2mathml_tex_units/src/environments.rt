@@ -5,7 +5,7 @@ ghost use Rattle.latex2mathml_tex_units.specs.Environments.{entry_of, environmen
 ghost use Rattle.latex2mathml_attributes.specs.Columns.{columns_of};
 
 use crate::scanning::Argument;
-use latex2mathml_attributes::columns::{Column, Columns};
+use latex2mathml_attributes::columns::{Alignment, Columns};
 use latex2mathml_tex_commands::meaning::Style;
 use latex2mathml_tex_commands::named::are_same;
 
@@ -52,9 +52,9 @@ impl Layout {
         ensures { columns_of result ≡ layout_of self }
     {
         match self {
-            Layout::Centered => Columns::alike(Column::Centered),
-            Layout::LeftAligned => Columns::alike(Column::LeftAligned),
-            Layout::Dense => Columns::alike(Column::Dense),
+            Layout::Centered => Columns::alike(Alignment::Centered),
+            Layout::LeftAligned => Columns::alike(Alignment::LeftAligned),
+            Layout::Dense => Columns::alike(Alignment::Dense),
             Layout::InPairs => Columns::in_pairs(),
             Layout::AroundRelation => Columns::right_center_left(),
         }

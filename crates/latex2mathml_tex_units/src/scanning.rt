@@ -100,8 +100,7 @@ fn column_deed(c: char) -> Deed
     ensures { deed_of result ≡ Scanning.column_deed c }
 {
     match c {
-        'l' | 'c' | 'r' => Deed::Adds(c, Spot::InArgument(Argument::ColumnList)),
-        '|' => Deed::Passes(Spot::InArgument(Argument::ColumnList)),
+        'l' | 'c' | 'r' | '|' => Deed::Adds(c, Spot::InArgument(Argument::ColumnList)),
         'p' | 'm' | 'b' => Deed::Adds('l', Spot::BeforeGap),
         '@' => Deed::Passes(Spot::BeforeGap),
         _ => Deed::Refuses,

@@ -1,6 +1,6 @@
 //! Environments: how they begin.
 ghost use Rattle.std.specs.Prelude.{◌≡◌, MatchOption, Some, false, length, true, nat_le};
-ghost use Rattle.latex2mathml_attributes.specs.Columns.{column_of, columns_of};
+ghost use Rattle.latex2mathml_attributes.specs.Columns.{borders_of, column_of, columns_of};
 ghost use Rattle.latex2mathml_elements.specs.Columns.{Listed};
 ghost use Rattle.latex2mathml_tex_grammar.specs.Environments;
 ghost use Rattle.latex2mathml_tex_grammar.specs.{Meaning.BeginTable};
@@ -12,7 +12,7 @@ ghost use Rattle.latex2mathml_tex.specs.Steps.{BeginsIn, CanBegin, Advances, Lea
 
 use crate::parse::frames::{Table, TableKind};
 use crate::parse::{Parser, State};
-use latex2mathml_attributes::columns::{Column, Columns};
+use latex2mathml_attributes::columns::{Alignment, Borders, Column, Columns};
 use latex2mathml_tex_atoms::atoms::Context;
 use latex2mathml_tex_units::environments;
 use latex2mathml_tex_units::environments::{Bracket, Environment};
@@ -87,15 +87,15 @@ impl<'a> Parser<'a> {
         ensures step { Advances 13 self.old self.new next.new result }
     {
         if self.input.take_in_brackets('l') {
-            let columns = Columns::alike(Column::LeftAligned);
+            let columns = Columns::alike(Alignment::LeftAligned);
             return self.begin_rows(environment, columns, place, context, next);
         }
         if self.input.take_in_brackets('c') {
-            let columns = Columns::alike(Column::Centered);
+            let columns = Columns::alike(Alignment::Centered);
             return self.begin_rows(environment, columns, place, context, next);
         }
         if self.input.take_in_brackets('r') {
-            let columns = Columns::alike(Column::RightAligned);
+            let columns = Columns::alike(Alignment::RightAligned);
             return self.begin_rows(environment, columns, place, context, next);
         }
         self.begin_rows(
@@ -206,17 +206,17 @@ impl<'a> Parser<'a> {
         requires begin { CanBegin 0 self.old }
         ensures holds { LeadsOn
             (BeginsIn context (takes_found (BeforeArgument ColumnList) place
-            (λ letters. listed_rule place (context_of context) environment.now.name.now
-            (environment_of environment.now) letters)) 0)
+            (λ signs. listed_rule place (context_of context) environment.now.name.now
+            (environment_of environment.now) signs)) 0)
             self.old self.new next.new result }
         ensures step { Advances 13 self.old self.new next.new result }
     {
         let spot = Spot::BeforeArgument(Argument::ColumnList);
-        let Some(letters) = self.take_text(place, spot)? else {
+        let Some(signs) = self.take_text(place, spot)? else {
             *next = State::Refused;
             return Ok(());
         };
-        let Some(columns) = listed(letters.as_str()) else {
+        let Some(columns) = listed(signs.as_str()) else {
             *next = self.refuse(TexErrorKind::TooManyColumns, place);
             return Ok(());
         };
@@ -250,28 +250,58 @@ impl<'a> Parser<'a> {
     }
 }
 
-/// Returns the column that a letter specifies.
-fn column(letter: u8) -> Column
-    ensures { column_of result ≡ Environments.column_of letter }
+/// Returns the column that a letter specifies, with these lines.
+fn column(letter: u8, borders: Borders) -> Column
+    ensures { column_of result ≡ Environments.column_of letter (borders_of borders) }
 {
-    match letter {
-        b'l' => Column::LeftAligned,
-        b'r' => Column::RightAligned,
-        _ => Column::Centered,
+    let alignment = match letter {
+        b'l' => Alignment::LeftAligned,
+        b'r' => Alignment::RightAligned,
+        _ => Alignment::Centered,
+    };
+    Column { alignment, borders }
+}
+
+/// Returns the lines next to a column: whether there is one before it, and whether there is one after it.
+fn borders(before: bool, after: bool) -> Borders
+    ensures { borders_of result ≡ Environments.borders before after }
+{
+    match (before, after) {
+        (false, false) => Borders::NoLine,
+        (true, false) => Borders::LineBefore,
+        (false, true) => Borders::LineAfter,
+        (true, true) => Borders::LinesAround,
     }
 }
 
-/// Returns the columns that these letters specify, unless there are too many.
-fn listed(letters: &str) -> Option<Columns>
-    ensures { MatchOption result (nat_le (length letters.now) most_columns ≡ false)
-        (λ columns. (nat_le (length letters.now) most_columns ≡ true)
-        × (columns_of columns ≡ Listed (Environments.columns_of letters.now))) }
+/// Whether signs of columns begin with a line.
+fn begins_with_line(signs: &[u8]) -> bool
+    ensures { result ≡ Environments.begins_with_line signs.now }
+{
+    !signs.is_empty() && signs[0] == b'|'
+}
+
+/// Returns the columns that these signs specify, unless there are too many.
+fn listed(signs: &str) -> Option<Columns>
+    ensures { let columns = Environments.columns_of signs.now
+        in MatchOption result (nat_le (length columns) most_columns ≡ false)
+        (λ few. (nat_le (length columns) most_columns ≡ true)
+        × (columns_of few ≡ Listed columns)) }
 {
     let mut columns = Columns::none();
-    'letters: for &letter in letters.as_bytes() {
-        if !columns.push(column(letter)) {
+    let mut rest = signs.as_bytes();
+    let mut line_before = begins_with_line(rest);
+    'signs: while !rest.is_empty() {
+        let sign = rest[0];
+        rest = &rest[1..];
+        if sign == b'|' {
+            continue 'signs;
+        }
+        let lines = borders(line_before, begins_with_line(rest));
+        if !columns.push(column(sign, lines)) {
             return None;
         }
+        line_before = false;
     }
     Some(columns)
 }

@@ -1,7 +1,7 @@
 //! The open frames, and how much of each was read.
 ghost use Rattle.std.specs.Prelude.{◌≡◌, ℕ, ◌∷◌, ◌++◌, [], false, IfSome, IsTrue, List, MatchOption, None, OnOk, Some, if◌then◌else◌, option_map};
 ghost use Rattle.latex2mathml_tex_grammar.specs.Starts.{DividerStart, atom_start, change_by, ends, mark_of, start_of_mark};
-ghost use Rattle.latex2mathml_tex_grammar.specs.{Refusal.refusal_at, Starts.unended, Environments.before_cell, Rules.InCell};
+ghost use Rattle.latex2mathml_tex_grammar.specs.{Refusal.refusal_at, Starts.unended, Tables.before_cell, Rules.InCell};
 ghost use Rattle.latex2mathml_elements.specs.Columns.{column_at};
 ghost use Rattle.latex2mathml_attributes.specs.Columns.{columns_of};
 ghost use Rattle.latex2mathml_tex.specs.Frames.{ending_of};
@@ -15,7 +15,7 @@ ghost use Rattle.latex2mathml_tex_atoms.specs.Models.{empty_row};
 ghost use Rattle.latex2mathml_tex_units.specs.Taking.{piece_of};
 
 use latex2mathml_attributes::attributes::{Side, Stretch};
-use latex2mathml_attributes::columns::{Column, Columns};
+use latex2mathml_attributes::columns::{Column, Columns, Alignment};
 use latex2mathml_tex_atoms::atoms::{Before, Context, Core, Operand, Row, Scripts, Words};
 use latex2mathml_tex_atoms::outlines::Outline;
 use latex2mathml_tex_commands::meaning::{
@@ -221,10 +221,10 @@ impl Table {
     pub(crate) fn begun_cell(self) -> Row
         ensures row { result ≡ record empty_row { before = result.before } }
         ensures before { before_of result.before
-            ≡ before_cell (column_at (columns_of self.columns) self.cells) }
+            ≡ before_cell (column_at (columns_of self.columns) self.cells).alignment }
     {
-        let before = match self.columns.column_at(self.cells) {
-            Column::SecondOfPair => Before::After(Class::Ordinary),
+        let before = match self.columns.column_at(self.cells).alignment {
+            Alignment::SecondOfPair => Before::After(Class::Ordinary),
             _ => Before::Nothing,
         };
         Row {

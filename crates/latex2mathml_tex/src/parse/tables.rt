@@ -18,7 +18,7 @@ ghost use Rattle.latex2mathml_tex.specs.Steps.{BeginsIn, CanBegin, CanMake, Begi
 use crate::parse::frames::{Ending, Frame, Table, TableKind};
 use crate::parse::{Parser, State};
 use latex2mathml_attributes::attributes::{Attributes, MathStyle};
-use latex2mathml_attributes::columns::{Column, Columns};
+use latex2mathml_attributes::columns::{Alignment, Columns};
 use latex2mathml_attributes::tag::Container;
 use latex2mathml_builder::builder::Builder;
 use latex2mathml_tex_atoms::atoms::{Context, Core, Kind, Row};
@@ -77,7 +77,7 @@ impl<'a> Parser<'a> {
         self.input.pass(self.alloc, Spot::BeforeRow)?;
         let table = Table {
             kind: TableKind::Braces,
-            columns: Columns::alike(Column::Dense),
+            columns: Columns::alike(Alignment::Dense),
             rows: 0,
             cells: 0,
         };

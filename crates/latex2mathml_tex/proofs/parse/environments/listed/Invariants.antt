@@ -1,12 +1,11 @@
--- The columns of the letters so far, of which there are no more than can be listed.
-use Rattle.std.proofs.Common.{◌≡◌, ◌≤◌, take}
-use Rattle.latex2mathml_elements.specs.Columns.{Listed}
-use Rattle.latex2mathml_attributes.specs.Columns as builder
-use Rattle.latex2mathml_tex_grammar.specs.Environments.{columns_of}
+-- The columns of the signs so far, of which there are no more than can be listed.
+use Rattle.std.proofs.Common.{length}
+use Rattle.latex2mathml_attributes.specs.Columns.{columns_of}
+use Rattle.latex2mathml_tex_units.proofs.Listings.{AreListed}
 use Rattle.latex2mathml_tex.proofs.parse.environments.listed.Given as goal
 
-abbrev pub invariant-letters : goal.invariant-letters
-invariant-letters l = record {
-  so_far : builder.columns_of l.columns ≡ Listed (columns_of (take l.letter-index l.letters));
-  few : l.letter-index ≤ 16;
-}
+abbrev pub invariant-signs : goal.invariant-signs
+invariant-signs l = AreListed (columns_of l.columns) l.line_before l.rest l.signs
+
+abbrev pub decreases-signs : goal.decreases-signs
+decreases-signs l = length l.rest
