@@ -1,12 +1,10 @@
 -- The columns of the code, as values of the definitions.
-use Rattle.std.specs.Prelude.{ℕ, Bool, false, nat_lt, List, [], ◌∷◌, ◌++◌, codes, length, map, take, if◌then◌else◌}
+use Rattle.std.specs.Prelude.{Bool, false, nat_lt, List, [], ◌∷◌, ◌++◌, length, map, take, if◌then◌else◌}
 use Rattle.latex2mathml_elements.specs.Columns as defined
-use Rattle.latex2mathml_elements.specs.Print.{alignment_style, alignment_text, border_style}
 use Rattle.latex2mathml_attributes.specs.declared.columns.Alignment.{Alignment}
 use Rattle.latex2mathml_attributes.specs.declared.columns.Alignment.TheVariants as alignment
-use Rattle.latex2mathml_attributes.specs.declared.columns.Borders.{Borders}
-use Rattle.latex2mathml_attributes.specs.declared.columns.Borders.TheVariants as borders
 use Rattle.latex2mathml_attributes.specs.declared.columns.Column.{Column}
+use Rattle.latex2mathml_attributes.specs.declared.columns.Column.TheVariants as column
 use Rattle.latex2mathml_attributes.specs.declared.columns.Columns.{Columns}
 use Rattle.latex2mathml_attributes.specs.declared.columns.Kind.{Kind}
 use Rattle.latex2mathml_attributes.specs.declared.columns.Kind.TheVariants as kind
@@ -19,14 +17,26 @@ alignment_of alignment.FirstOfPair = defined.FirstOfPair
 alignment_of alignment.SecondOfPair = defined.SecondOfPair
 alignment_of alignment.Dense = defined.Dense
 
-abbrev pub borders_of : Borders → defined.Borders
-borders_of borders.NoLine = defined.NoLine
-borders_of borders.LineBefore = defined.LineBefore
-borders_of borders.LineAfter = defined.LineAfter
-borders_of borders.LinesAround = defined.LinesAround
+-- a column with these lines
+abbrev lined : defined.Alignment → defined.Borders → defined.Column
+lined alignment borders = record { alignment = alignment; borders = borders }
 
 abbrev pub column_of : Column → defined.Column
-column_of c = record { alignment = alignment_of c.alignment; borders = borders_of c.borders }
+column_of column.Centered = defined.unlined defined.Centered
+column_of column.CenteredBehindLine = lined defined.Centered defined.LineBefore
+column_of column.CenteredBeforeLine = lined defined.Centered defined.LineAfter
+column_of column.CenteredBetweenLines = lined defined.Centered defined.LinesAround
+column_of column.LeftAligned = defined.unlined defined.LeftAligned
+column_of column.LeftAlignedBehindLine = lined defined.LeftAligned defined.LineBefore
+column_of column.LeftAlignedBeforeLine = lined defined.LeftAligned defined.LineAfter
+column_of column.LeftAlignedBetweenLines = lined defined.LeftAligned defined.LinesAround
+column_of column.RightAligned = defined.unlined defined.RightAligned
+column_of column.RightAlignedBehindLine = lined defined.RightAligned defined.LineBefore
+column_of column.RightAlignedBeforeLine = lined defined.RightAligned defined.LineAfter
+column_of column.RightAlignedBetweenLines = lined defined.RightAligned defined.LinesAround
+column_of column.FirstOfPair = defined.unlined defined.FirstOfPair
+column_of column.SecondOfPair = defined.unlined defined.SecondOfPair
+column_of column.Dense = defined.unlined defined.Dense
 
 -- columns of this kind; the list is that of listed columns
 abbrev pub columns_with : Kind → List defined.Column → defined.Columns
@@ -46,23 +56,3 @@ has_room columns = false
 abbrev pub listed_behind : defined.Column → defined.Columns → defined.Columns
 listed_behind column (defined.Listed columns) = defined.Listed (if nat_lt (length columns) 16 then columns ++ column ∷ [] else columns)
 listed_behind column columns = columns
-
--- The start tag of a cell, in two pieces: up to the style of its lines, and from there on
-
--- a style that begins an attribute, which may continue
-abbrev pub begun_style : List ℕ → List ℕ
-begun_style [] = []
-begun_style (c ∷ cs) = codes " style=\"" ++ c ∷ cs
-
--- a style that ends an attribute, after the first style, and the end of the tag
-abbrev pub ended_style : List ℕ → List ℕ → List ℕ
-ended_style [] [] = codes ">"
-ended_style [] (d ∷ ds) = codes " style=\"" ++ (d ∷ ds ++ codes "\">")
-ended_style (c ∷ cs) [] = codes "\">"
-ended_style (c ∷ cs) (d ∷ ds) = codes "; " ++ (d ∷ ds ++ codes "\">")
-
-abbrev pub tag_start : defined.Alignment → List ℕ
-tag_start a = codes "<mtd" ++ (alignment_text a ++ begun_style (alignment_style a))
-
-abbrev pub tag_end : defined.Column → List ℕ
-tag_end c = ended_style (alignment_style c.alignment) (border_style c.borders)

@@ -1,8 +1,8 @@
 //! The columns of tables.
-ghost use Rattle.std.specs.Prelude.{◌≡◌, ◌∷◌, ◌++◌, []};
+ghost use Rattle.std.specs.Prelude.{◌≡◌, ◌∷◌, []};
 ghost use Rattle.latex2mathml_elements.specs.Print.{cell_tag};
 ghost use Rattle.latex2mathml_elements.specs.Columns.{Alike, Centered, InPairs, LeftAligned, Listed, RightAligned, column_at, unlined};
-ghost use Rattle.latex2mathml_attributes.specs.Columns.{alignment_of, column_of, columns_of, has_room, listed_behind, tag_end, tag_start};
+ghost use Rattle.latex2mathml_attributes.specs.Columns.{alignment_of, column_of, columns_of, has_room, listed_behind};
 
 /// How the cells of a column are aligned.
 #[derive(Debug, Clone, Copy)]
@@ -18,19 +18,25 @@ pub enum Alignment {
     Dense,
 }
 
-/// Where lines are drawn next to a column.
+/// How the cells of a column are aligned, and where lines are drawn next to it. A byte has all of it, since arrays of columns are
+/// copied.
 #[derive(Debug, Clone, Copy)]
-pub enum Borders {
-    NoLine,
-    LineBefore,
-    LineAfter,
-    LinesAround,
-}
-
-#[derive(Debug, Clone, Copy)]
-pub struct Column {
-    pub alignment: Alignment,
-    pub borders: Borders,
+pub enum Column {
+    Centered,
+    CenteredBehindLine,
+    CenteredBeforeLine,
+    CenteredBetweenLines,
+    LeftAligned,
+    LeftAlignedBehindLine,
+    LeftAlignedBeforeLine,
+    LeftAlignedBetweenLines,
+    RightAligned,
+    RightAlignedBehindLine,
+    RightAlignedBeforeLine,
+    RightAlignedBetweenLines,
+    FirstOfPair,
+    SecondOfPair,
+    Dense,
 }
 
 /// All columns of a table, however many there are. Contracts refer to them as `columns_of`, as the definitions have them.
@@ -49,60 +55,53 @@ enum Kind {
     Listed,
 }
 
-impl Alignment {
-    /// Returns the start tag of a cell up to the style of its lines.
-    fn tag_start(self) -> &'static str
-        ensures { result.now ≡ tag_start (alignment_of self) }
-    {
-        match self {
-            Alignment::Centered => "<mtd",
-            Alignment::LeftAligned => "<mtd columnalign=\"left\" style=\"text-align: left",
-            Alignment::RightAligned =>
-                "<mtd columnalign=\"right\" style=\"text-align: right; text-align: -webkit-right",
-            Alignment::FirstOfPair =>
-                "<mtd columnalign=\"right\" style=\"text-align: right; text-align: -webkit-right; padding-right: 0",
-            Alignment::SecondOfPair =>
-                "<mtd columnalign=\"left\" style=\"text-align: left; padding-left: 0",
-            Alignment::Dense => "<mtd style=\"padding: 0.1em 0.3em",
-        }
-    }
-}
-
 impl Column {
     /// Returns a column without lines.
     pub fn unlined(alignment: Alignment) -> Column
         ensures { column_of result ≡ unlined (alignment_of alignment) }
     {
-        Column {
-            alignment,
-            borders: Borders::NoLine,
+        match alignment {
+            Alignment::Centered => Column::Centered,
+            Alignment::LeftAligned => Column::LeftAligned,
+            Alignment::RightAligned => Column::RightAligned,
+            Alignment::FirstOfPair => Column::FirstOfPair,
+            Alignment::SecondOfPair => Column::SecondOfPair,
+            Alignment::Dense => Column::Dense,
         }
     }
 
-    /// Returns the start tag of a cell, in two pieces.
-    pub fn tag(self) -> (&'static str, &'static str)
-        ensures { result.0.now ++ result.1.now ≡ cell_tag (column_of self) }
+    /// Returns the start tag of a cell.
+    pub fn tag(self) -> &'static str
+        ensures { result.now ≡ cell_tag (column_of self) }
     {
-        (self.alignment.tag_start(), self.tag_end())
-    }
-
-    /// Returns the start tag of a cell from the style of its lines on.
-    fn tag_end(self) -> &'static str
-        ensures { result.now ≡ tag_end (column_of self) }
-    {
-        match (self.alignment, self.borders) {
-            (Alignment::Centered, Borders::NoLine) => ">",
-            (Alignment::Centered, Borders::LineBefore) =>
-                " style=\"border-left: thin solid; padding-left: 0.4em\">",
-            (Alignment::Centered, Borders::LineAfter) =>
-                " style=\"border-right: thin solid; padding-right: 0.4em\">",
-            (Alignment::Centered, Borders::LinesAround) =>
-                " style=\"border-left: thin solid; padding-left: 0.4em; border-right: thin solid; padding-right: 0.4em\">",
-            (_, Borders::NoLine) => "\">",
-            (_, Borders::LineBefore) => "; border-left: thin solid; padding-left: 0.4em\">",
-            (_, Borders::LineAfter) => "; border-right: thin solid; padding-right: 0.4em\">",
-            (_, Borders::LinesAround) =>
-                "; border-left: thin solid; padding-left: 0.4em; border-right: thin solid; padding-right: 0.4em\">",
+        match self {
+            Column::Centered => "<mtd>",
+            Column::CenteredBehindLine =>
+                "<mtd style=\"border-left: thin solid; padding-left: 0.4em\">",
+            Column::CenteredBeforeLine =>
+                "<mtd style=\"border-right: thin solid; padding-right: 0.4em\">",
+            Column::CenteredBetweenLines =>
+                "<mtd style=\"border-left: thin solid; padding-left: 0.4em; border-right: thin solid; padding-right: 0.4em\">",
+            Column::LeftAligned => "<mtd columnalign=\"left\" style=\"text-align: left\">",
+            Column::LeftAlignedBehindLine =>
+                "<mtd columnalign=\"left\" style=\"text-align: left; border-left: thin solid; padding-left: 0.4em\">",
+            Column::LeftAlignedBeforeLine =>
+                "<mtd columnalign=\"left\" style=\"text-align: left; border-right: thin solid; padding-right: 0.4em\">",
+            Column::LeftAlignedBetweenLines =>
+                "<mtd columnalign=\"left\" style=\"text-align: left; border-left: thin solid; padding-left: 0.4em; border-right: thin solid; padding-right: 0.4em\">",
+            Column::RightAligned =>
+                "<mtd columnalign=\"right\" style=\"text-align: right; text-align: -webkit-right\">",
+            Column::RightAlignedBehindLine =>
+                "<mtd columnalign=\"right\" style=\"text-align: right; text-align: -webkit-right; border-left: thin solid; padding-left: 0.4em\">",
+            Column::RightAlignedBeforeLine =>
+                "<mtd columnalign=\"right\" style=\"text-align: right; text-align: -webkit-right; border-right: thin solid; padding-right: 0.4em\">",
+            Column::RightAlignedBetweenLines =>
+                "<mtd columnalign=\"right\" style=\"text-align: right; text-align: -webkit-right; border-left: thin solid; padding-left: 0.4em; border-right: thin solid; padding-right: 0.4em\">",
+            Column::FirstOfPair =>
+                "<mtd columnalign=\"right\" style=\"text-align: right; text-align: -webkit-right; padding-right: 0\">",
+            Column::SecondOfPair =>
+                "<mtd columnalign=\"left\" style=\"text-align: left; padding-left: 0\">",
+            Column::Dense => "<mtd style=\"padding: 0.1em 0.3em\">",
         }
     }
 }
@@ -133,9 +132,9 @@ impl Columns {
         ensures { columns_of result ≡ Listed (unlined RightAligned ∷ unlined Centered
             ∷ unlined LeftAligned ∷ []) }
     {
-        let mut listed = [Column::unlined(Alignment::Centered); 16];
-        listed[0] = Column::unlined(Alignment::RightAligned);
-        listed[2] = Column::unlined(Alignment::LeftAligned);
+        let mut listed = [Column::Centered; 16];
+        listed[0] = Column::RightAligned;
+        listed[2] = Column::LeftAligned;
         Columns {
             kind: Kind::Listed,
             listed,
@@ -149,7 +148,7 @@ impl Columns {
     {
         Columns {
             kind: Kind::Listed,
-            listed: [Column::unlined(Alignment::Centered); 16],
+            listed: [Column::Centered; 16],
             len: 0,
         }
     }
@@ -176,13 +175,10 @@ impl Columns {
         let listed = self.listed.as_slice();
         match self.kind {
             Kind::Alike(alignment) => Column::unlined(alignment),
-            Kind::InPairs if place % 2 == 0 => Column::unlined(Alignment::FirstOfPair),
-            Kind::InPairs => Column::unlined(Alignment::SecondOfPair),
+            Kind::InPairs if place % 2 == 0 => Column::FirstOfPair,
+            Kind::InPairs => Column::SecondOfPair,
             Kind::Listed if place < listed.len() && place < self.len as usize => listed[place],
-            Kind::Listed => Column {
-                alignment: Alignment::Centered,
-                borders: Borders::NoLine,
-            },
+            Kind::Listed => Column::Centered,
         }
     }
 }

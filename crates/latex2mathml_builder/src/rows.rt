@@ -144,7 +144,5 @@ fn start_cell(column: Column, out: &mut String) -> Result<(), AllocError>
     ensures { OnOk result (string_bytes out.new
         ≡ string_bytes out.old ++ cell_tag (column_of column)) }
 {
-    let (start, end) = column.tag();
-    out.push_str(start)?;
-    out.push_str(end)
+    out.push_str(column.tag())
 }

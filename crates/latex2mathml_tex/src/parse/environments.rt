@@ -1,6 +1,6 @@
 //! Environments: how they begin.
 ghost use Rattle.std.specs.Prelude.{◌≡◌, MatchOption, Some, false, length, true, nat_le};
-ghost use Rattle.latex2mathml_attributes.specs.Columns.{borders_of, column_of, columns_of};
+ghost use Rattle.latex2mathml_attributes.specs.Columns.{column_of, columns_of};
 ghost use Rattle.latex2mathml_elements.specs.Columns.{Listed};
 ghost use Rattle.latex2mathml_tex_grammar.specs.Environments;
 ghost use Rattle.latex2mathml_tex_grammar.specs.{Meaning.BeginTable};
@@ -12,7 +12,7 @@ ghost use Rattle.latex2mathml_tex.specs.Steps.{BeginsIn, CanBegin, Advances, Lea
 
 use crate::parse::frames::{Table, TableKind};
 use crate::parse::{Parser, State};
-use latex2mathml_attributes::columns::{Alignment, Borders, Column, Columns};
+use latex2mathml_attributes::columns::{Alignment, Column, Columns};
 use latex2mathml_tex_atoms::atoms::Context;
 use latex2mathml_tex_units::environments;
 use latex2mathml_tex_units::environments::{Bracket, Environment};
@@ -250,27 +250,24 @@ impl<'a> Parser<'a> {
     }
 }
 
-/// Returns the column that a letter specifies, with these lines.
-fn column(letter: u8, borders: Borders) -> Column
-    ensures { column_of result ≡ Environments.column_of letter (borders_of borders) }
+/// Returns the column that a letter specifies, with a line before it and a line after it, if so.
+fn column(letter: u8, before: bool, after: bool) -> Column
+    ensures { column_of result
+        ≡ Environments.column_of letter (Environments.borders before after) }
 {
-    let alignment = match letter {
-        b'l' => Alignment::LeftAligned,
-        b'r' => Alignment::RightAligned,
-        _ => Alignment::Centered,
-    };
-    Column { alignment, borders }
-}
-
-/// Returns the lines next to a column: whether there is one before it, and whether there is one after it.
-fn borders(before: bool, after: bool) -> Borders
-    ensures { borders_of result ≡ Environments.borders before after }
-{
-    match (before, after) {
-        (false, false) => Borders::NoLine,
-        (true, false) => Borders::LineBefore,
-        (false, true) => Borders::LineAfter,
-        (true, true) => Borders::LinesAround,
+    match (letter, before, after) {
+        (b'l', false, false) => Column::LeftAligned,
+        (b'l', true, false) => Column::LeftAlignedBehindLine,
+        (b'l', false, true) => Column::LeftAlignedBeforeLine,
+        (b'l', true, true) => Column::LeftAlignedBetweenLines,
+        (b'r', false, false) => Column::RightAligned,
+        (b'r', true, false) => Column::RightAlignedBehindLine,
+        (b'r', false, true) => Column::RightAlignedBeforeLine,
+        (b'r', true, true) => Column::RightAlignedBetweenLines,
+        (_, false, false) => Column::Centered,
+        (_, true, false) => Column::CenteredBehindLine,
+        (_, false, true) => Column::CenteredBeforeLine,
+        (_, true, true) => Column::CenteredBetweenLines,
     }
 }
 
@@ -297,8 +294,8 @@ fn listed(signs: &str) -> Option<Columns>
         if sign == b'|' {
             continue 'signs;
         }
-        let lines = borders(line_before, begins_with_line(rest));
-        if !columns.push(column(sign, lines)) {
+        let column = column(sign, line_before, begins_with_line(rest));
+        if !columns.push(column) {
             return None;
         }
         line_before = false;
