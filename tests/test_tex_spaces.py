@@ -9,9 +9,11 @@ from tests.browsers import chromium
 from tests.support import Case, requires, tex_program
 from tests.test_page import judge, settle, spaces_between
 
+# a relation that joins no other one, since it has a size of its own
+SIZED = r"\bigm|"
 # atoms of each class of TeX; an operator is a name, since a browser gives a sign such as the sum a space of its own
 ATOMS = {"ordinary": ["c", "2", r"\frac cd", r"\sqrt c", "{=}", "{,}", "|"], "operator": [r"\sin", r"\mathop{c}", r"\lim_c"],
-         "binary": ["+", "-"], "relation": ["=", r"\to", ":", r"\bigm|"], "opening": ["(", r"\bigl("], "closing": [")", r"\rangle"],
+         "binary": ["+", "-"], "relation": ["=", r"\to", ":", SIZED], "opening": ["(", r"\bigl("], "closing": [")", r"\rangle"],
          "punctuation": [",", ";"], "inner": [r"\ldots", r"\left(c\right)", r"\begin{pmatrix}c\end{pmatrix}"]}
 # the ems of the spaces that the table names
 EMS = {"0": 0, "1": 3 / 18, "2": 4 / 18, "3": 5 / 18}
@@ -38,12 +40,18 @@ def pairs():
 
 
 def due(left, right, in_script):
-    """The ems that TeX leaves in a formula of atoms of these classes between two letters, and whether that depends on what
-    follows a binary sign. `tex_to_mathml` decides where the sign is put, before it has read what follows."""
+    """The ems that TeX leaves in a formula of atoms of these classes between two letters."""
     classes = settle(["ordinary", left, right, "ordinary"])
     cells = [spaces_between()[neighbours] for neighbours in itertools.pairwise(classes)]
-    looks_ahead = left == "binary" and right in {"relation", "closing", "punctuation"}
-    return [0 if in_script and cell.startswith("(") else EMS[cell.strip("()")] for cell in cells], looks_ahead
+    return [0 if in_script and cell.startswith("(") else EMS[cell.strip("()")] for cell in cells]
+
+
+def keeps_space(left, right, one, other):
+    """Whether a sign has space there, except in scripts, where TeX leaves none: docs/DECISIONS.md says why."""
+    if left == right == "relation":
+        return SIZED in (one, other)
+    return (left in {"binary", "relation"} and right in {"closing", "punctuation"} or (left, right) == ("binary", "relation")
+            or left in {"opening", "punctuation"} and right == "relation")
 
 
 @requires("chromium")
@@ -55,13 +63,13 @@ class AsTexSpaces(Case):
         markups = [reply.split("\n", 1)[1] for reply in done.stdout.decode().split("\0")[:-1]]
         (self.folder / "spaces.html").write_text(PAGE % "".join(f"<p>{markup}</p>" for markup in markups))
         found = judge(chromium, self.folder, ["spaces.html"])["spaces.html"]
-        for (left, right, _, _), formula, gaps in zip(pairs(), formulas, found, strict=True):
+        for (left, right, one, other), formula, gaps in zip(pairs(), formulas, found, strict=True):
             with self.subTest(formula):
-                ems, looks_ahead = due(left, right, in_script)
+                ems = due(left, right, in_script)
                 # relations next to each other are one sign
                 wanted = [ems[0], ems[-1]] if len(gaps) == 2 else ems
-                alike = [math.isclose(gap, em, abs_tol=NEARLY) for gap, em in zip(gaps, wanted, strict=True)]
-                self.assertEqual(all(alike), not looks_ahead or in_script, f"found {gaps}, TeX {wanted}")
+                alike = all(math.isclose(gap, em, abs_tol=NEARLY) for gap, em in zip(gaps, wanted, strict=True))
+                self.assertEqual(alike, in_script or not keeps_space(left, right, one, other), f"found {gaps}, TeX {wanted}")
 
     def test_in_text(self):
         self.compare("{}", in_script=False)
