@@ -48,6 +48,8 @@ abbrev pub space_of : Space → attributes.Space
 space_of space.NoSpace = attributes.NoSpace
 space_of space.Narrow = attributes.Narrow
 space_of space.Thick = attributes.Thick
+space_of space.NoSpaceBefore = attributes.NoSpaceBefore
+space_of space.ThickAfter = attributes.ThickAfter
 
 abbrev pub stretch_of : Stretch → attributes.Stretch
 stretch_of stretch.Stretching = attributes.Stretching

@@ -28,14 +28,18 @@ pub enum Stretch {
     Rigid,
 }
 
-/// The space on both sides of an operator.
+/// The space at the sides of an operator.
 #[derive(Debug, Clone, Copy)]
 pub enum Space {
     NoSpace,
-    /// A twentieth of an em.
+    /// A twentieth of an em on both sides.
     Narrow,
-    /// TeX's thick space: five eighteenths of an em.
+    /// TeX's thick space on both sides: five eighteenths of an em.
     Thick,
+    /// No space before it. The browser decides what follows it.
+    NoSpaceBefore,
+    /// No space before it, and a thick space after it.
+    ThickAfter,
 }
 
 /// The height of a delimiter.
@@ -200,6 +204,7 @@ fn usual_tag(
 {
     match (form, stretch, space) {
         (None, None, Some(Space::NoSpace)) => Some("<mo lspace=\"0\" rspace=\"0\">"),
+        (None, None, Some(Space::NoSpaceBefore)) => Some("<mo lspace=\"0\">"),
         (None, Some(Stretch::Stretching), None) => Some("<mo stretchy=\"true\">"),
         (None, Some(Stretch::Rigid), None) => Some("<mo stretchy=\"false\">"),
         (None, Some(Stretch::Rigid), Some(Space::NoSpace)) => Some(
@@ -280,6 +285,8 @@ fn space_text(space: Option<Space>) -> &'static str
         Some(Space::NoSpace) => " lspace=\"0\" rspace=\"0\"",
         Some(Space::Narrow) => " lspace=\"0.05em\" rspace=\"0.05em\"",
         Some(Space::Thick) => " lspace=\"0.278em\" rspace=\"0.278em\"",
+        Some(Space::NoSpaceBefore) => " lspace=\"0\"",
+        Some(Space::ThickAfter) => " lspace=\"0\" rspace=\"0.278em\"",
     }
 }
 

@@ -18,11 +18,17 @@ pub data Stretch : Type 0 where
   Stretching : Stretch
   Rigid : Stretch
 
--- the space on both sides of an operator: no space, a twentieth of an em, or TeX's thick space, five eighteenths of an em
+-- the space at the sides of an operator
 pub data Space : Type 0 where
   NoSpace : Space
+  -- a twentieth of an em on both sides
   Narrow : Space
+  -- TeX's thick space on both sides, five eighteenths of an em
   Thick : Space
+  -- no space before it; the browser decides what follows it
+  NoSpaceBefore : Space
+  -- no space before it, and a thick space after it
+  ThickAfter : Space
 
 -- the height of a delimiter
 pub data Size : Type 0 where

@@ -1,6 +1,6 @@
 -- How elements are written.
 use Rattle.std.specs.Prelude.{ℕ, Bool, true, false, List, [], ◌∷◌, ◌++◌, Option, Some, None, codes}
-use Rattle.latex2mathml_elements.specs.Attributes.{Attributes, Side, Above, Below, Form, Prefix, Infix, Postfix, Stretch, Stretching, Rigid, Space, NoSpace, Narrow, Thick, Size, Big, Bigger, VeryBig, Biggest, MathStyle, DisplayStyle, TextStyle, ScriptStyle, Boxing, NoWidth, Flat, NoHeight, NoDepth, ByItsWidth, ByHalfItsWidth, Framed, StruckUp, StruckDown, StruckTwice}
+use Rattle.latex2mathml_elements.specs.Attributes.{Attributes, Side, Above, Below, Form, Prefix, Infix, Postfix, Stretch, Stretching, Rigid, Space, NoSpace, Narrow, Thick, NoSpaceBefore, ThickAfter, Size, Big, Bigger, VeryBig, Biggest, MathStyle, DisplayStyle, TextStyle, ScriptStyle, Boxing, NoWidth, Flat, NoHeight, NoDepth, ByItsWidth, ByHalfItsWidth, Framed, StruckUp, StruckDown, StruckTwice}
 use Rattle.latex2mathml_elements.specs.Columns.{Alignment, Centered, LeftAligned, RightAligned, FirstOfPair, SecondOfPair, Dense, Borders, NoLine, LineBefore, LineAfter, LinesAround, Column}
 use Rattle.latex2mathml_elements.specs.Element.{Token, Mi, Mn, Mo, Mtext, Container, Mrow, Msqrt, Mstyle, Mpadded, Mphantom, Pair, Mfrac, Mroot, Msub, Msup, Munder, Mover, Triple, Msubsup, Munderover, Element, Elements, Rows, Cells, token, space, rectangle, container, pair, triple, table, none, more, one_row, more_rows, one_cell, more_cells}
 use Rattle.latex2mathml_elements.specs.{Colors.color_text, Extents.extent_text, Extents.length_if_any}
@@ -72,6 +72,8 @@ space_text None = []
 space_text (Some NoSpace) = codes " lspace=\"0\" rspace=\"0\""
 space_text (Some Narrow) = codes " lspace=\"0.05em\" rspace=\"0.05em\""
 space_text (Some Thick) = codes " lspace=\"0.278em\" rspace=\"0.278em\""
+space_text (Some NoSpaceBefore) = codes " lspace=\"0\""
+space_text (Some ThickAfter) = codes " lspace=\"0\" rspace=\"0.278em\""
 
 -- the attribute for an accent
 abbrev pub accent_text : Option Side → List ℕ

@@ -5,7 +5,7 @@ ghost use Rattle.latex2mathml_tex_grammar.specs.Atoms;
 ghost use Rattle.latex2mathml_tex_grammar.specs.Makes;
 ghost use Rattle.latex2mathml_tex_grammar.specs.Rows;
 ghost use Rattle.latex2mathml_tex_commands.specs.Meanings.{class_of, limit_place_of, style_of};
-ghost use Rattle.latex2mathml_tex_atoms.specs.Models.{IsFinished, has_script, empty_row, before_of, joining_of, kind_of};
+ghost use Rattle.latex2mathml_tex_atoms.specs.Models.{IsFinished, begun_row, has_script, empty_row, before_of, joining_of, kind_of};
 ghost use Rattle.latex2mathml_tex_atoms.specs.Adding.{IsAdded};
 
 use crate::signs::is_put_as_it_is;
@@ -153,6 +153,25 @@ impl Before {
         }
     }
 
+    /// Whether a relation has no space before it there.
+    #[inline(always)]
+    pub(crate) fn leads_relation(self) -> bool
+        ensures { result ≡ Atoms.leads_relation (before_of self) }
+    {
+        matches!(self, Before::After(Class::Opening | Class::Punctuation))
+    }
+
+    /// Whether an operator has no space before it there.
+    #[inline(always)]
+    pub(crate) fn leads_operator(self) -> bool
+        ensures { result ≡ Atoms.leads_operator (before_of self) }
+    {
+        match self {
+            Before::Nothing | Before::AfterName => false,
+            other => other.begins_operand(),
+        }
+    }
+
     /// Returns the class that an atom of this class has there.
     #[inline(always)]
     pub fn class_there(self, class: Class) -> Class
@@ -296,6 +315,16 @@ impl Row {
             restyled: None,
             settled: 0,
             under: None,
+        }
+    }
+
+    /// Returns a row without atoms, at the beginning of a formula: what follows is as if after an opening sign.
+    pub fn begun() -> Row
+        ensures { result ≡ begun_row }
+    {
+        Row {
+            before: Before::After(Class::Opening),
+            ..Row::empty()
         }
     }
 

@@ -1,5 +1,6 @@
 //! Signs: how they are adapted to their position in a row.
-ghost use Rattle.std.specs.Prelude.{◌≡◌, ◌≢◌, false, IsTrue};
+ghost use Rattle.std.specs.Prelude.{◌≡◌, ◌≢◌, false, IsTrue, option_map};
+ghost use Rattle.latex2mathml_attributes.specs.Names.{space_of};
 ghost use Rattle.latex2mathml_elements.specs.Element.{Element};
 ghost use Rattle.latex2mathml_tex_grammar.specs.Atoms;
 ghost use Rattle.latex2mathml_tex_grammar.specs.Rows;
@@ -33,8 +34,11 @@ pub(crate) fn is_put_as_it_is(
     }
     match kind {
         Kind::Plain(Class::Inner) | Kind::SignOf(Class::Inner) => false,
+        Kind::Plain(Class::Operator) | Kind::SignOf(Class::Operator) => !before.leads_operator(),
         Kind::Plain(_) => true,
-        Kind::SignOf(Class::Relation) => keeps_space(style) && !is_relation(last),
+        Kind::SignOf(Class::Relation) => {
+            keeps_space(style) && !is_relation(last) && !before.leads_relation()
+        }
         Kind::SignOf(Class::Binary) => keeps_space(style) && (first || !before.begins_operand()),
         Kind::SignOf(_) => keeps_space(style),
         Kind::PlusOrMinus => keeps_space(style) && !first && !before.begins_operand(),
@@ -60,60 +64,80 @@ pub(crate) fn keeps_space(style: Style) -> bool
     !matches!(style, Style::InScript)
 }
 
-/// Adapts the top element to the position of its atom. A sign may be a prefix, or between two operands. In scripts it has no
-/// space, nor has a binary sign where no binary operator can be. The atom may be the first of its row.
-pub(crate) fn adapt(builder: &mut Builder, style: Style, first: bool, before: Before, kind: Kind)
+/// Adapts the element of an atom to its position. It has `depth` others above it. A sign may be a prefix, or between two operands.
+/// In scripts it has no space, nor has a binary sign where no binary operator can be. The element may be the first of its row.
+pub fn adapt(
+    builder: &mut Builder,
+    depth: usize,
+    style: Style,
+    first: bool,
+    before: Before,
+    kind: Kind,
+)
     ensures { ChangesAt
-        (Atoms.element_there (style_of style) first (before_of before) (kind_of kind)) 0
+        (Atoms.element_there (style_of style) first (before_of before) (kind_of kind)) depth
         builder.old builder.new }
 {
     match kind {
-        Kind::SignOf(class) => adapt_sign(builder, style, first, before, class),
+        Kind::SignOf(class) => adapt_sign(builder, depth, style, first, before, class),
+        Kind::Plain(Class::Operator) => lead(builder, depth, before.leads_operator()),
         Kind::PlusOrMinus => {
             if before.begins_operand() {
-                make_prefix(builder);
+                make_prefix(builder, depth);
             } else {
-                make_infix(builder, first);
-                tighten(builder, style);
+                make_infix(builder, depth, first);
+                tighten(builder, depth, style);
             }
         }
         _ => {}
     }
 }
 
-/// Adapts the top element, which is a sign of this class.
-fn adapt_sign(builder: &mut Builder, style: Style, first: bool, before: Before, class: Class)
+/// Adapts an element that is a sign of this class.
+fn adapt_sign(
+    builder: &mut Builder,
+    depth: usize,
+    style: Style,
+    first: bool,
+    before: Before,
+    class: Class,
+)
     ensures { ChangesAt (Atoms.element_there (style_of style) first (before_of before)
-        (Atoms.SignOf (class_of class))) 0 builder.old builder.new }
+        (Atoms.SignOf (class_of class))) depth builder.old builder.new }
 {
     match class {
         Class::Binary if before.begins_operand() => {
             if !first {
-                remove_space(builder);
+                remove_space(builder, depth);
             }
         }
-        Class::Binary | Class::Relation | Class::Punctuation => tighten(builder, style),
+        Class::Relation => {
+            lead(builder, depth, before.leads_relation());
+            tighten(builder, depth, style);
+        }
+        Class::Binary | Class::Punctuation => tighten(builder, depth, style),
+        Class::Operator => lead(builder, depth, before.leads_operator()),
         _ => {}
     }
 }
 
 /// Removes the space around a sign, if the style is that of scripts.
-fn tighten(builder: &mut Builder, style: Style)
-    ensures { ChangesAt (Atoms.tight (style_of style)) 0 builder.old builder.new }
+fn tighten(builder: &mut Builder, depth: usize, style: Style)
+    ensures { ChangesAt (Atoms.tight (style_of style)) depth builder.old builder.new }
 {
     match style {
-        Style::InScript => remove_space(builder),
+        Style::InScript => remove_space(builder, depth),
         Style::InDisplay | Style::InText => {}
     }
 }
 
 /// Removes the space around a sign.
-pub(crate) fn remove_space(builder: &mut Builder)
-    ensures { ChangesAt Atoms.without_space 0 builder.old builder.new }
+pub(crate) fn remove_space(builder: &mut Builder, depth: usize)
+    ensures { ChangesAt Atoms.without_space depth builder.old builder.new }
 {
-    if let Some((_, attributes)) = builder.token_at(0) {
+    if let Some((_, attributes)) = builder.token_at(depth) {
         builder.give(
-            0,
+            depth,
             Attributes {
                 space: Some(Space::NoSpace),
                 ..attributes
@@ -122,12 +146,38 @@ pub(crate) fn remove_space(builder: &mut Builder)
     }
 }
 
-fn make_prefix(builder: &mut Builder)
-    ensures { ChangesAt Atoms.as_prefix 0 builder.old builder.new }
+/// Removes the space before a sign, if it leads what follows it.
+fn lead(builder: &mut Builder, depth: usize, leads: bool)
+    ensures { ChangesAt (Atoms.led leads) depth builder.old builder.new }
 {
-    if let Some((_, attributes)) = builder.token_at(0) {
+    if leads && let Some((_, attributes)) = builder.token_at(depth) {
         builder.give(
-            0,
+            depth,
+            Attributes {
+                space: space_behind(attributes.space),
+                ..attributes
+            },
+        );
+    }
+}
+
+/// Returns the space of a sign that has none before it.
+fn space_behind(space: Option<Space>) -> Option<Space>
+    ensures { option_map space_of result ≡ Atoms.space_behind (option_map space_of space) }
+{
+    match space {
+        None => Some(Space::NoSpaceBefore),
+        Some(Space::Thick) => Some(Space::ThickAfter),
+        space => space,
+    }
+}
+
+fn make_prefix(builder: &mut Builder, depth: usize)
+    ensures { ChangesAt Atoms.as_prefix depth builder.old builder.new }
+{
+    if let Some((_, attributes)) = builder.token_at(depth) {
+        builder.give(
+            depth,
             Attributes {
                 form: Some(Form::Prefix),
                 ..attributes
@@ -136,13 +186,13 @@ fn make_prefix(builder: &mut Builder)
     }
 }
 
-/// Makes the top element a sign between two operands, which may be the first of its row.
-fn make_infix(builder: &mut Builder, first: bool)
-    ensures { ChangesAt (Atoms.as_infix first) 0 builder.old builder.new }
+/// Makes an element a sign between two operands. It may be the first of its row.
+fn make_infix(builder: &mut Builder, depth: usize, first: bool)
+    ensures { ChangesAt (Atoms.as_infix first) depth builder.old builder.new }
 {
-    if first && let Some((_, attributes)) = builder.token_at(0) {
+    if first && let Some((_, attributes)) = builder.token_at(depth) {
         builder.give(
-            0,
+            depth,
             Attributes {
                 form: Some(Form::Infix),
                 ..attributes

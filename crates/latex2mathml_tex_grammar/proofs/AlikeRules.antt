@@ -9,7 +9,7 @@ use Rattle.latex2mathml_tex_grammar.specs.Scanning.{Spot, Argument, Name, Column
 use Rattle.latex2mathml_tex_grammar.specs.Tables.{Lines}
 use Rattle.latex2mathml_tex_grammar.specs.{Commands.meaning_of, Commands.symbol_of, Delimiters.delimiter_of, Makes.Core, Makes.Outline, Refusal.Refusal, Rows.Row, Rows.Operand, Symbols.Alphabet, Symbols.Style, Symbols.Symbol, Words.Words}
 use Rattle.latex2mathml_tex_grammar.specs.Meaning.{Meaning, takes_words, Shows, FunctionName, Dots, Spacing, Styled, Words as TakesWordsIn, Fraction, Root, Accent, Brace, Stack, StackedRelation, OperatorName, Negation, Slash, Sized, Left, Middle, Right, Limits, NoLimits, Classed, Changes, BeginTable, EndTable, LineBreak, Substack, Skip, SkipInBraces, Boxed, Smash, ContinuedFraction, GeneralFraction, Choice, Raise, InColor, Highlight, Rectangle, Arrow}
-use Rattle.latex2mathml_tex_grammar.specs.Rules.{Context, Ending, WholeText, InBraces, InBrackets, InDollars, InDelimiters, Rule, gives, refuses, reads_operand, reads_core, reads_atoms, reads_words, takes_if, if_follows, takes_digits, takes_delimiter, of_one, of_two, decimal, after_digits, a_number, a_symbol, begins_none, character_rule, struck_atom, command_rule, rule, TableEnd, ByName, ByBrace, InCell, takes_found, passes_over, reads_rows, ended_table, rows_rule, listed_rule, argument_rule, alignment_rule, bracket_rule, environment_rule, most_columns, ByText, in_brackets, with_value, a_length, a_bar, a_color, a_left_brace, a_right_brace, empty_braces, an_outer_delimiter, has_width, a_line, numbered_style, a_style, an_outlined_fraction}
+use Rattle.latex2mathml_tex_grammar.specs.Rules.{Context, Ending, WholeText, InBraces, InBrackets, InDollars, InDelimiters, begun, Rule, gives, refuses, reads_operand, reads_core, reads_atoms, reads_words, takes_if, if_follows, takes_digits, takes_delimiter, of_one, of_two, decimal, after_digits, a_number, a_symbol, begins_none, character_rule, struck_atom, command_rule, rule, TableEnd, ByName, ByBrace, InCell, takes_found, passes_over, reads_rows, ended_table, rows_rule, listed_rule, argument_rule, alignment_rule, bracket_rule, environment_rule, most_columns, ByText, in_brackets, with_value, a_length, a_bar, a_color, a_left_brace, a_right_brace, empty_braces, an_outer_delimiter, has_width, a_line, numbered_style, a_style, an_outlined_fraction}
 use Rattle.latex2mathml_tex_grammar.specs.{Colors.color_of, Lengths.width_of}
 use Rattle.latex2mathml_elements.specs.Colors.{Color}
 use Rattle.latex2mathml_tex_grammar.specs.Spacing.{Standing, BeforeWords, InWords, BetweenDollars, standing_behind, behind_unit, AreAlike, same_piece}
@@ -46,6 +46,14 @@ same_start both_brackets piece = refl
 same_start both_dollars piece = refl
 same_start both_delimiters piece = refl
 same_start (both_cells end) piece = refl
+
+pub same_begun : {e f : Ending} → AlikeEndings e f → begun e ≡ begun f
+same_begun both_whole = refl
+same_begun both_braces = refl
+same_begun both_brackets = refl
+same_begun both_dollars = refl
+same_begun both_delimiters = refl
+same_begun (both_cells end) = refl
 
 pub unended_too : {e f : Ending} → AlikeEndings e f → unended e ≡ None → unended f ≡ None
 unended_too both_whole h = refl

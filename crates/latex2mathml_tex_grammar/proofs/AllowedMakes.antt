@@ -7,8 +7,8 @@ use Rattle.latex2mathml_elements.specs.Characters.{is_forbidden, IsAllowed, HasA
 use Rattle.latex2mathml_elements.specs.Element.{Mi, Mn, Mo, Mtext, Element, token, space, rectangle, container, pair, triple, table, children}
 use Rattle.latex2mathml_elements.proofs.{Characters.allowed_both, Characters.allowed_char, Characters.allowed_plain, Characters.plain_is_allowed, Plain.IsPlain, Plain.is_plain}
 use Rattle.latex2mathml_tex_grammar.specs.Alphabets.{in_alphabet}
-use Rattle.latex2mathml_tex_grammar.specs.Atoms.{Atom, Kind, SignOf, PlusOrMinus, Plain, UprightLetters, FunctionWord, Blank, Divider, Before, begins_operand, as_prefix, as_infix, without_space, tight, as_ordinary, element_there, is_parted, lone_sign, element_as}
-use Rattle.latex2mathml_tex_grammar.specs.Makes.{text, letter, upright_letter, number, symbol, struck, classed, on_side, accent, brace, stack, in_style, fenced, fraction_element, fraction, lowered_divider, lowered, between_delimiters, Scripts, primes_text, prime_mark, behind_primes, superscript, are_stacked, fixed_base, with_scripts, scripted_atom, scripted}
+use Rattle.latex2mathml_tex_grammar.specs.Atoms.{Atom, Kind, SignOf, PlusOrMinus, Plain, UprightLetters, FunctionWord, Blank, Divider, Before, begins_operand, as_prefix, as_infix, without_space, without_space_before, led, leads_operator, leads_relation, tight, as_ordinary, element_there, is_parted, lone_sign, element_as}
+use Rattle.latex2mathml_tex_grammar.specs.Makes.{text, letter, upright_letter, number, symbol, struck, classed, on_side, accent, brace, stack, in_style, fenced, fraction_element, fraction, lowered_divider, lowered, between_delimiters, Scripts, primes_text, prime_mark, behind_primes, superscript, are_stacked, fixed_base, with_scripts, base_there, scripted_atom, scripted}
 use Rattle.latex2mathml_tex_grammar.specs.Meaning.{FractionRule, Bar, NoBar, Braced, Bracketed, Bare, LimitPlace, Beside, ByStyle, Movable, Stacked}
 use Rattle.latex2mathml_tex_grammar.specs.Rows.{Row, Operand, Joining, ToWord, ToRelations, Apart, as_base, is_spaced, isolated, lone, is_empty, join, parted, put, row_element, single, with_atom, empty_row}
 use Rattle.latex2mathml_tex_grammar.specs.Symbols.{Class, Ordinary, Operator, Binary, Relation, Opening, Closing, Punctuation, Inner, Style, InDisplay, InText, InScript, Alphabet, Upright, Italic, Bold, BoldItalic, DoubleStruck, Fraktur, Calligraphic, SansSerif, Monospace, Symbol, Letter, UprightLetter, Sign, BigOperator, Integral}
@@ -112,18 +112,33 @@ as_ordinary_allowed : (first : Bool) (x : Element) → HasAllowedTexts x → Has
 as_ordinary_allowed true x h = h
 as_ordinary_allowed false x h = without_space_allowed x h
 
+without_space_before_allowed : (x : Element) → HasAllowedTexts x → HasAllowedTexts (without_space_before x)
+without_space_before_allowed (token t a sign_text) h = h
+without_space_before_allowed (space width) h = h
+without_space_before_allowed (rectangle e) h = h
+without_space_before_allowed (container c a xs) h = h
+without_space_before_allowed (pair p a x y) h = h
+without_space_before_allowed (triple t a x y z) h = h
+without_space_before_allowed (table a rows) h = h
+
+led_allowed : (leads : Bool) (x : Element) → HasAllowedTexts x → HasAllowedTexts (led leads x)
+led_allowed true x h = without_space_before_allowed x h
+led_allowed false x h = h
+
 element_there_allowed : (style : Style) (first : Bool) (before : Before) (kind : Kind) (x : Element) → HasAllowedTexts x → HasAllowedTexts (element_there style first before kind x)
 element_there_allowed style first before (SignOf Binary) x h =
     of_either HasAllowedTexts (begins_operand before) (as_ordinary_allowed first x h) (tight_allowed style x h)
-element_there_allowed style first before (SignOf Relation) x h = tight_allowed style x h
+element_there_allowed style first before (SignOf Relation) x h =
+    let leads = leads_relation before in tight_allowed style (led leads x) (led_allowed leads x h)
 element_there_allowed style first before (SignOf Punctuation) x h = tight_allowed style x h
 element_there_allowed style first before (SignOf Ordinary) x h = h
-element_there_allowed style first before (SignOf Operator) x h = h
+element_there_allowed style first before (SignOf Operator) x h = led_allowed (leads_operator before) x h
 element_there_allowed style first before (SignOf Opening) x h = h
 element_there_allowed style first before (SignOf Closing) x h = h
 element_there_allowed style first before (SignOf Inner) x h = h
 element_there_allowed style first before PlusOrMinus x h =
     of_either HasAllowedTexts (begins_operand before) (prefix_allowed x h) (tight_allowed style (as_infix first x) (infix_allowed first x h))
+element_there_allowed style first before (Plain Operator) x h = led_allowed (leads_operator before) x h
 element_there_allowed style first before (Plain class) x h = h
 element_there_allowed style first before UprightLetters x h = h
 element_there_allowed style first before FunctionWord x h = h
@@ -321,15 +336,15 @@ with_scripts_allowed false base (Some below) None h k i = (h, k)
 with_scripts_allowed false base None (Some above) h k i = (h, i)
 with_scripts_allowed false base (Some below) (Some above) h k i = (h, k, i)
 
-scripted_atom_allowed : (style : Style) (base : Atom) (scripts : Scripts) (below above : Option Element) → IsAllowedAtom base → IsAllowedElement below → IsAllowedElement above → IsAllowedAtom (scripted_atom style base scripts below above)
-scripted_atom_allowed style base scripts None None h k i = h
-scripted_atom_allowed style base scripts (Some below) None h k i =
-    with_scripts_allowed (are_stacked style scripts.limits) _ (Some below) None (fixed_base_allowed scripts.limits base.element h) k i
-scripted_atom_allowed style base scripts None (Some above) h k i =
-    with_scripts_allowed (are_stacked style scripts.limits) _ None (Some above) (fixed_base_allowed scripts.limits base.element h) k i
-scripted_atom_allowed style base scripts (Some below) (Some above) h k i =
-    with_scripts_allowed (are_stacked style scripts.limits) _ (Some below) (Some above) (fixed_base_allowed scripts.limits base.element h) k i
+scripted_atom_allowed : (style : Style) (before : Before) (base : Atom) (scripts : Scripts) (below above : Option Element) → IsAllowedAtom base → IsAllowedElement below → IsAllowedElement above → IsAllowedAtom (scripted_atom style before base scripts below above)
+scripted_atom_allowed style before base scripts None None h k i = h
+scripted_atom_allowed style before base scripts (Some below) None h k i =
+    with_scripts_allowed (are_stacked style scripts.limits) _ (Some below) None (fixed_base_allowed scripts.limits (base_there style before base) (element_there_allowed style true before base.kind base.element h)) k i
+scripted_atom_allowed style before base scripts None (Some above) h k i =
+    with_scripts_allowed (are_stacked style scripts.limits) _ None (Some above) (fixed_base_allowed scripts.limits (base_there style before base) (element_there_allowed style true before base.kind base.element h)) k i
+scripted_atom_allowed style before base scripts (Some below) (Some above) h k i =
+    with_scripts_allowed (are_stacked style scripts.limits) _ (Some below) (Some above) (fixed_base_allowed scripts.limits (base_there style before base) (element_there_allowed style true before base.kind base.element h)) k i
 
-pub scripted_allowed : (style : Style) (base : Atom) (scripts : Scripts) → IsAllowedAtom base → AreAllowedScripts scripts → IsAllowedAtom (scripted style base scripts)
-scripted_allowed style base scripts h k =
-    scripted_atom_allowed style base scripts scripts.below (superscript scripts.primes scripts.above) h k.0 (superscript_allowed scripts.primes scripts.above k.1)
+pub scripted_allowed : (style : Style) (before : Before) (base : Atom) (scripts : Scripts) → IsAllowedAtom base → AreAllowedScripts scripts → IsAllowedAtom (scripted style before base scripts)
+scripted_allowed style before base scripts h k =
+    scripted_atom_allowed style before base scripts scripts.below (superscript scripts.primes scripts.above) h k.0 (superscript_allowed scripts.primes scripts.above k.1)

@@ -2,11 +2,11 @@
 use Rattle.std.proofs.Common.{ℕ, List, [], ◌∷◌, Option, subst, reverse}
 use Rattle.latex2mathml_elements.specs.{Characters.IsAllowed, Dollars.IsDollarFree, Element.Element, Element.children}
 use Rattle.latex2mathml_elements.specs.Columns.{Columns}
-use Rattle.latex2mathml_tex_grammar.specs.{Scanning.BeforeRow, Tables.Lines, Atoms.Atom, DefinitionTexts.Defines, Delimiters.delimiter_of, Formulas.IsReading, Formulas.row_print, Formulas.row_print_with_source, Formulas.shown, Formulas.source_text, Laws.ReadingsAreAllowed, Macros.Table, Rows.Row, Rows.Operand, Rows.empty_row, Rows.row_element, Symbols.Alphabet, Symbols.Style, Environments.pairs, Rows.with_atom}
+use Rattle.latex2mathml_tex_grammar.specs.{Scanning.BeforeRow, Tables.Lines, Atoms.Atom, Atoms.Before, Atoms.After, Atoms.Nothing, DefinitionTexts.Defines, Delimiters.delimiter_of, Formulas.IsReading, Formulas.row_print, Formulas.row_print_with_source, Formulas.shown, Formulas.source_text, Laws.ReadingsAreAllowed, Macros.Table, Rows.Row, Rows.Operand, Rows.empty_row, Rows.lone, Rows.row_element, Symbols.Alphabet, Symbols.Opening, Symbols.Style, Environments.pairs, Rows.with_atom}
 use Rattle.latex2mathml_elements.proofs.{Annotated.annotated_print_as_elements, OneElement.print_as_elements}
 use Rattle.latex2mathml_tex_grammar.specs.Makes.{Core, core, divider, is_display, number, Scripts}
 use Rattle.latex2mathml_tex_grammar.specs.Reading.{Outcome, ReadsRule, rule_gives, rule_refuses, operand_read, operand_refused, core_read, core_refused, core_missing, core_stopped, atoms_read, atoms_refused, words_read, words_refused, units_taken, units_missing, unit_follows, no_unit_follows, digits_taken, delimiter_taken, delimiter_missing, ReadsOperand, group_operand, group_refused, digit_operand, other_operand, other_refused, no_operand, operand_at_end, operand_stopped, ReadsScripts, scripts_end, mark_taken, script_read, script_refused, mark_refused, ReadsAtom, divider_read, divider_refused, on_empty_row, base_read, base_refused, ReadsAtoms, text_ends, never_ended, atoms_stopped, atoms_end, atom_read, atom_refused, rest_read, change_refused, ReadsWord, word_stands, group_of_words, formula_read, formula_refused, words_in_alphabet, no_word, word_missing, word_at_end, word_stopped, ReadsWords, words_end, words_never_ended, words_stopped, word_read, word_refused, found_taken, found_refused, passed_over, rows_read, rows_refused, ReadsRows, cell_read, cell_refused, ReadsBehindCell, next_cell, next_row, table_ends, rows_to_end, text_ends_table, Read, Refused}
-use Rattle.latex2mathml_tex_grammar.specs.Rules.{Context, Ending, Rule, gives, takes_delimiter, TableEnd, WholeText, InBraces, InBrackets, InDollars, InDelimiters, InCell}
+use Rattle.latex2mathml_tex_grammar.specs.Rules.{Context, Ending, before_first, Rule, gives, takes_delimiter, TableEnd, WholeText, InBraces, InBrackets, InDollars, InDelimiters, InCell}
 use Rattle.latex2mathml_tex_grammar.specs.Starts.{mark_of, left_behind}
 use Rattle.latex2mathml_tex_grammar.specs.Units.{Unit, Units}
 use Rattle.latex2mathml_tex_grammar.specs.Words.{Formula, Words}
@@ -23,8 +23,8 @@ use Rattle.latex2mathml_tex_grammar.proofs.{AllowedMakes.with_atom_allowed, Allo
 divider_allowed : IsAllowedRule (takes_delimiter (λ sign_text. gives (core (divider sign_text))))
 divider_allowed = λ sign_text h. h
 
-nothing_read : IsAllowedPart empty_row
-nothing_read = record { elements = tt; before = tt; upper = tt }
+nothing_read : (before : Before) → IsAllowedPart (record empty_row { before = before })
+nothing_read before = record { elements = tt; before = tt; upper = tt }
 
 left_allowed : (ending : Ending) (u : Unit) (m : Units) → IsAllowedPiece u.piece → AreAllowedUnits m → AreAllowedUnits (left_behind ending u m)
 left_allowed WholeText u m h k = k
@@ -47,7 +47,7 @@ mutual
   rules (core_refused p d) h k = tt
   rules (core_missing p) h k = tt
   rules (core_stopped p) h k = tt
-  rules (atoms_read {row = row} d ds) h k = (let read = rows d nothing_read k in rules ds (h row read.0) read.1)
+  rules (atoms_read {ending = ending} {row = row} d ds) h k = (let read = rows d (nothing_read (before_first ending)) k in rules ds (h row read.0) read.1)
   rules (atoms_refused d) h k = tt
   rules (words_read {l = l} {ws = ws} d ds) h k = (let read = words d tt (past_allowed l k) in rules ds (h ws read.0) read.1)
   rules (words_refused d) h k = tt
@@ -70,7 +70,7 @@ mutual
 
   operands : {place : ℕ} {c : Context} {l : Units} {o : Outcome Operand} → ReadsOperand place c l o → AreAllowedUnits l → IsAllowedOutcome IsAllowedOperand o
   operands (group_operand {l = l} {row = row} p s d) k =
-      let read = rows d nothing_read (next_allowed l p k).1 in (row_element_allowed row.elements read.0, read.1)
+      let read = rows d (nothing_read Nothing) (next_allowed l p k).1 in (row_element_allowed row.elements read.0, read.1)
   operands (group_refused p s d) k = tt
   operands (digit_operand {c = c} {l = l} {u = u} {digit = digit} p s) k =
       (single_allowed c.style (number c.alphabet digit) (number_allowed c.alphabet digit (subst IsPlainStart s (start_plain u.piece))), (next_allowed l p k).1)
@@ -83,8 +83,8 @@ mutual
   operands (operand_at_end p) k = tt
   operands (operand_stopped p) k = tt
 
-  marks : {c : Context} {base : Atom} {scripts : Scripts} {l : Units} {o : Outcome Atom} → ReadsScripts c base scripts l o → IsAllowedAtom base → AreAllowedScripts scripts → AreAllowedUnits l → IsAllowedOutcome IsAllowedAtom o
-  marks (scripts_end {c = c} {base = base} {scripts = scripts} s) h i k = (scripted_allowed c.style base scripts h i, k)
+  marks : {c : Context} {before : Before} {base : Atom} {scripts : Scripts} {l : Units} {o : Outcome Atom} → ReadsScripts c before base scripts l o → IsAllowedAtom base → AreAllowedScripts scripts → AreAllowedUnits l → IsAllowedOutcome IsAllowedAtom o
+  marks (scripts_end {c = c} {before = before} {base = base} {scripts = scripts} s) h i k = (scripted_allowed c.style before base scripts h i, k)
   marks (mark_taken {scripts = scripts} {l = l} {u = u} p s d) h i k =
       marks d h (subst IsAllowedStep s (step_allowed scripts (mark_of u.piece) i)) (next_allowed l p k).1
   marks (script_read {scripts = scripts} {l = l} {u = u} {x = x} p s d ds) h i k =
@@ -93,7 +93,7 @@ mutual
   marks (script_refused p s d) h i k = tt
   marks (mark_refused p s) h i k = tt
 
-  atoms : {ending : Ending} {c : Context} {u : Unit} {l : Units} {o : Outcome Atom} → ReadsAtom ending c u l o → IsAllowedPiece u.piece → AreAllowedUnits l → IsAllowedOutcome IsAllowedAtom o
+  atoms : {ending : Ending} {c : Context} {before : Before} {u : Unit} {l : Units} {o : Outcome Atom} → ReadsAtom ending c before u l o → IsAllowedPiece u.piece → AreAllowedUnits l → IsAllowedOutcome IsAllowedAtom o
   atoms (divider_read s d) h k = rules d divider_allowed k
   atoms (divider_refused s d) h k = tt
   atoms (on_empty_row s d) h k = marks d tt (tt, tt) (h, k)
@@ -131,7 +131,7 @@ mutual
       (with_word_allowed ws w h (subst IsAllowedWordRule s (word_rule_allowed a u.piece k.0)), k.1)
   words (group_of_words s d) h k = word_lists d h k.1
   words (formula_read {ws = ws} {row = row} s d) h k =
-      let read = rows d nothing_read k.1 in (with_word_allowed ws (Formula (row_element row.elements)) h (row_element_allowed row.elements read.0), read.1)
+      let read = rows d (nothing_read (After Opening)) k.1 in (with_word_allowed ws (Formula (row_element (lone row.last row.elements))) h (row_element_allowed (lone row.last row.elements) (lone_allowed row.last row.elements read.0)), read.1)
   words (formula_refused s d) h k = tt
   words (words_in_alphabet {l = l} s d) h k = words d h (past_allowed l k.1)
   words (no_word s) h k = tt
@@ -155,7 +155,7 @@ alone_allowed style (Read x m) h =
 alone_allowed style (Refused r) h = tt
 
 formula_allowed : {style : Style} {l : Units} {o : Outcome Row} → ReadsFormula style l o → AreAllowedUnits l → IsAllowedOutcome IsAllowedRow o
-formula_allowed (as_atoms d s) k = rows d nothing_read k
+formula_allowed (as_atoms d s) k = rows d (nothing_read (After Opening)) k
 formula_allowed {style} (as_rows {p = p} d s t) k =
     alone_allowed style p (rules t (λ lines at h. a_table_allowed pairs.delimiters pairs.columns pairs.style style lines tt h) k)
 

@@ -1,14 +1,14 @@
 -- What units are read as, units that are alike but for white space are read as too.
 use Rattle.std.proofs.Common.{◌≡◌, ℕ, List, true, [], ◌∷◌, Option, refl, sym, subst, ◌∙◌}
 use Rattle.latex2mathml_elements.specs.Columns.{Columns}
-use Rattle.latex2mathml_tex_grammar.specs.{Atoms.Atom, Delimiters.delimiter_of, Makes.Core, Makes.Scripts, Refusal.MissingDelimiter, Refusal.Refusal, Rows.Row, Rows.Operand, Symbols.Alphabet, Words.Words}
+use Rattle.latex2mathml_tex_grammar.specs.{Atoms.Atom, Atoms.Before, Delimiters.delimiter_of, Makes.Core, Makes.Scripts, Refusal.MissingDelimiter, Refusal.Refusal, Rows.Row, Rows.Operand, Symbols.Alphabet, Words.Words}
 use Rattle.latex2mathml_tex_grammar.specs.Next.{digits_next, past_space}
 use Rattle.latex2mathml_tex_grammar.specs.Reading.{Outcome, Read, Refused, ReadsRule, rule_gives, rule_refuses, operand_read, operand_refused, core_read, core_refused, core_missing, core_stopped, atoms_read, atoms_refused, words_read, words_refused, units_taken, units_missing, unit_follows, no_unit_follows, digits_taken, delimiter_taken, delimiter_missing, ReadsOperand, group_operand, group_refused, digit_operand, other_operand, other_refused, no_operand, operand_at_end, operand_stopped, ReadsScripts, scripts_end, mark_taken, script_read, script_refused, mark_refused, ReadsAtom, divider_read, divider_refused, on_empty_row, base_read, base_refused, ReadsAtoms, text_ends, never_ended, atoms_stopped, atoms_end, atom_read, atom_refused, rest_read, change_refused, ReadsWord, word_stands, group_of_words, formula_read, formula_refused, words_in_alphabet, no_word, word_missing, word_at_end, word_stopped, ReadsWords, words_end, words_never_ended, words_stopped, word_read, word_refused, found_taken, found_refused, passed_over, rows_read, rows_refused, ReadsRows, cell_read, cell_refused, ReadsBehindCell, next_cell, next_row, table_ends, rows_to_end, text_ends_table}
-use Rattle.latex2mathml_tex_grammar.specs.Rules.{Context, Ending, Rule, TableEnd, InCell}
+use Rattle.latex2mathml_tex_grammar.specs.Rules.{Context, Ending, begun, Rule, TableEnd, InCell}
 use Rattle.latex2mathml_tex_grammar.specs.Spacing.{Standing, InWords, standing_behind, AreAlike, both_end, same_piece}
 use Rattle.latex2mathml_tex_grammar.specs.Starts.{is_close}
 use Rattle.latex2mathml_tex_grammar.specs.Units.{Piece, Space, Open, Close, Command, Character, Unit, unit, Units, End, Next}
-use Rattle.latex2mathml_tex_grammar.proofs.AlikeRules.{AlikeEndings, both_braces, both_dollars, same_ends, same_start, unended_too, never_ended_too, inside, WordsStand, before_words, within_words, AlikeRules, gives_too, refuses_too, operand_too, core_too, atoms_too, words_too, if_too, follows_too, digits_taken_too, delimiter_too, rules_too, delimiter_tests, both_cells, cell_ends, left_too, scanned_too, passed_too, rows_too}
+use Rattle.latex2mathml_tex_grammar.proofs.AlikeRules.{AlikeEndings, both_braces, both_dollars, same_begun, same_ends, same_start, unended_too, never_ended_too, inside, WordsStand, before_words, within_words, AlikeRules, gives_too, refuses_too, operand_too, core_too, atoms_too, words_too, if_too, follows_too, digits_taken_too, delimiter_too, rules_too, delimiter_tests, both_cells, cell_ends, left_too, scanned_too, passed_too, rows_too}
 use Rattle.latex2mathml_tex_grammar.proofs.AlikeRests.{rest_too, no_rest_too}
 use Rattle.latex2mathml_tex_grammar.proofs.Plain.{change_start_plain, divider_plain, digit_start_plain, group_start_plain, step_plain}
 use Rattle.latex2mathml_tex_grammar.proofs.Spaces.{Front, next_stays, both_next, both_ended, both_stopped, fronts, fronts_of_words, looks_too, next_too, end_too, stop_too, refused_too, same_step, IsCalm, in_dollars, behind_plain, taken_too, missing_too, digits_too, IsPlain}
@@ -56,6 +56,10 @@ left_ends {end} {place} (atoms_end {l = l} {m = k} {u = u} p s) m v q = (let sta
 left_ends (atom_read p s d ds) m v q = left_ends ds m v q
 left_ends (rest_read p s t r d) m v q = left_ends d m v q
 
+-- atoms from the beginning of a row with an ending that is alike
+from_begun : {e f : Ending} {c : Context} {l : Units} {o : Outcome Row} → AlikeEndings e f → ReadsAtoms f c (begun e) l o → ReadsAtoms f c (begun f) l o
+from_begun {f = f} {c} {l} {o} ending d = subst (λ row. ReadsAtoms f c row l o) (same_begun ending) d
+
 mutual
   rows_end : {end : TableEnd} {place : ℕ} {columns : Columns} {c : Context} {rows cells : List Element} {l n : Units} {lines : Lines} → ReadsRows end place columns c rows cells l (Read lines n) → EndsInCell n
   rows_end (cell_read d ds) = cell_behind_ends ds (left_ends d)
@@ -85,8 +89,8 @@ mutual
   carry_rule (core_missing p) (core_too same) calm h = also_refused _ refl (core_missing (end_too h p).1)
   carry_rule (core_stopped p) (core_too same) calm h = (let (q, kind, e) = stop_too h p in also_refused q kind (core_stopped e))
   carry_rule {at = at} (atoms_read {row = row} d ds) (atoms_too ending e same) calm h =
-      let (n, alike, a) = read_is (carry_atoms at d ending (subst IsCalm e calm) (stands e h)) in also (carry_rule ds (same row) calm alike) (λ p. atoms_read a)
-  carry_rule {at = at} (atoms_refused d) (atoms_too ending e same) calm h = (let (r, kind, a) = refused_is (carry_atoms at d ending (subst IsCalm e calm) (stands e h)) in also_refused r kind (atoms_refused a))
+      let (n, alike, a) = read_is (carry_atoms at d ending (subst IsCalm e calm) (stands e h)) in also (carry_rule ds (same row) calm alike) (λ p. atoms_read (from_begun ending a))
+  carry_rule {at = at} (atoms_refused d) (atoms_too ending e same) calm h = (let (r, kind, a) = refused_is (carry_atoms at d ending (subst IsCalm e calm) (stands e h)) in also_refused r kind (atoms_refused (from_begun ending a)))
   carry_rule (words_read {ws = ws} d ds) (words_too {q = q} same) calm h =
       let (n, alike, e) = read_is (carry_word q d before_words (fronts h)) in also (carry_rule ds (same ws) calm alike) (λ p. words_read e)
   carry_rule (words_refused d) (words_too {q = q} same) calm h = (let (r, kind, e) = refused_is (carry_word q d before_words (fronts h)) in also_refused r kind (words_refused e))
@@ -140,7 +144,7 @@ mutual
   carry_operand other (operand_at_end p) calm h = also_refused _ refl (operand_at_end (end_too h p).1)
   carry_operand other (operand_stopped p) calm h = (let (q, kind, e) = stop_too h p in also_refused q kind (operand_stopped e))
 
-  carry_scripts : {at : Standing} {c : Context} {base : Atom} {scripts : Scripts} {l m : Units} {o : Outcome Atom} → ReadsScripts c base scripts l o → IsCalm at → AreAlike at l m → Carried at (ReadsScripts c base scripts m) o
+  carry_scripts : {at : Standing} {c : Context} {before : Before} {base : Atom} {scripts : Scripts} {l m : Units} {o : Outcome Atom} → ReadsScripts c before base scripts l o → IsCalm at → AreAlike at l m → Carried at (ReadsScripts c before base scripts m) o
   carry_scripts {m = m} (scripts_end {scripts = k} s) calm h = also_read m h (scripts_end (sym (same_step k h) ∙ s))
   carry_scripts (mark_taken {scripts = k} {u = u} p s d) calm h =
       let next = next_too h p in also (carry_scripts d calm (behind_plain u.piece (step_plain u.piece k _ s) calm next.alike)) (λ p. mark_taken next.is s)
@@ -155,7 +159,7 @@ mutual
   carry_scripts (mark_refused p s) calm h = (let next = next_too h p in also_refused _ refl (mark_refused next.is s))
 
   -- an atom of the same piece at another place
-  carry_atom : {at : Standing} {e f : Ending} {c : Context} {u : Unit} {l m : Units} {o : Outcome Atom} (place : ℕ) → ReadsAtom e c u l o → AlikeEndings e f → IsCalm at → AreAlike (standing_behind u.piece at) l m → Carried at (ReadsAtom f c (unit u.piece place) m) o
+  carry_atom : {at : Standing} {e f : Ending} {c : Context} {before : Before} {u : Unit} {l m : Units} {o : Outcome Atom} (place : ℕ) → ReadsAtom e c before u l o → AlikeEndings e f → IsCalm at → AreAlike (standing_behind u.piece at) l m → Carried at (ReadsAtom f c before (unit u.piece place) m) o
   carry_atom {e = e} place (divider_read {u = u} s d) ending calm h =
       let (n, alike, x) = read_is (carry_rule d (delimiter_too (λ sign_text. gives_too)) calm (behind_plain u.piece (divider_plain e u.piece s) calm h)) in
       also_read n alike (divider_read (sym (same_start ending u.piece) ∙ s) x)

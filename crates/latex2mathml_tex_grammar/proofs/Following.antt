@@ -2,7 +2,7 @@
 use Rattle.std.proofs.Common.{◌≡◌, ℕ, Option, Some, None, refl, sym, ap, subst, List}
 use Rattle.latex2mathml_elements.specs.Element.{Element}
 use Rattle.latex2mathml_elements.specs.Columns.{Columns}
-use Rattle.latex2mathml_tex_grammar.specs.{Atoms.Atom, Makes.Core, Makes.Scripts, Makes.no_scripts, Rows.Row, Rows.Operand, Rows.empty_row, Rows.with_atom}
+use Rattle.latex2mathml_tex_grammar.specs.{Atoms.Atom, Atoms.Before, Makes.Core, Makes.Scripts, Makes.no_scripts, Rows.Row, Rows.Operand, Rows.empty_row, Rows.with_atom}
 use Rattle.latex2mathml_tex_grammar.specs.Reading.{Outcome, Read, ReadsRule, ReadsOperand, ReadsScripts, ReadsAtom, divider_read, divider_refused, on_empty_row, base_read, base_refused, ReadsAtoms, ReadsWord, ReadsWords, ReadsRows, ReadsBehindCell}
 use Rattle.latex2mathml_tex_grammar.specs.Rests.{Rest, GoesOnIn, NoRest, rest_of}
 use Rattle.latex2mathml_tex_grammar.specs.Rules.{Context, Ending, InBraces, Rule, rule, TableEnd}
@@ -37,14 +37,14 @@ refused_alike e = cc
 
 -- no atom begins with a change
 
-pub no_atom : {ending : Ending} {c : Context} {u : Unit} {l : Units} {change : Change} {o : Outcome Atom} → ReadsAtom ending c u l o → atom_start ending u.piece ≡ ChangeStart change → ⊥
+pub no_atom : {ending : Ending} {c : Context} {before : Before} {u : Unit} {l : Units} {change : Change} {o : Outcome Atom} → ReadsAtom ending c before u l o → atom_start ending u.piece ≡ ChangeStart change → ⊥
 no_atom (divider_read s d) t = cc
 no_atom (divider_refused s d) t = cc
 no_atom (on_empty_row s d) t = cc
 no_atom (base_read s d ds) t = cc
 no_atom (base_refused s d) t = cc
 
-pub atom_or_change : {ending : Ending} {c : Context} {w m n : Units} {u v : Unit} {change : Change} {o : Outcome Atom} → w ≡ Next u m → w ≡ Next v n → ReadsAtom ending c u m o → atom_start ending v.piece ≡ ChangeStart change → ⊥
+pub atom_or_change : {ending : Ending} {c : Context} {before : Before} {w m n : Units} {u v : Unit} {change : Change} {o : Outcome Atom} → w ≡ Next u m → w ≡ Next v n → ReadsAtom ending c before u m o → atom_start ending v.piece ≡ ChangeStart change → ⊥
 atom_or_change {ending} {u = u} {v = v} {change = change} p q d t =
     let same : v ≡ u = cc in
     no_atom d (subst (λ x. atom_start ending x.piece ≡ ChangeStart change) same t)
@@ -74,8 +74,8 @@ group_is {c} {o = o} p q e = next_is (λ v n. ReadsAtoms (InBraces v.place) c em
 pub operand_is : {c : Context} {w m n : Units} {u v : Unit} {o : Outcome Operand} → w ≡ Next u m → w ≡ Next v n → ReadsOperand v.place c n o → ReadsOperand u.place c m o
 operand_is {c} {o = o} p q e = next_is (λ v n. ReadsOperand v.place c n o) p q e
 
-pub atom_is : {ending : Ending} {c : Context} {w m n : Units} {u v : Unit} {o : Outcome Atom} → w ≡ Next u m → w ≡ Next v n → ReadsAtom ending c v n o → ReadsAtom ending c u m o
-atom_is {ending} {c} {o = o} p q e = next_is (λ v n. ReadsAtom ending c v n o) p q e
+pub atom_is : {ending : Ending} {c : Context} {before : Before} {w m n : Units} {u v : Unit} {o : Outcome Atom} → w ≡ Next u m → w ≡ Next v n → ReadsAtom ending c before v n o → ReadsAtom ending c before u m o
+atom_is {ending} {c} {before} {o = o} p q e = next_is (λ v n. ReadsAtom ending c before v n o) p q e
 
 -- the same holds of what follows an outcome
 
@@ -113,8 +113,8 @@ one_end end {u = u} {v = v} p q s t = (let same : u ≡ v = cc in cc)
 pub cell_moved : {end : TableEnd} {place : ℕ} {columns : Columns} {c : Context} {rows cells : List Element} {x y : Row} {m n : Units} {o : Outcome Lines} → Read x m ≡ Read y n → ReadsBehindCell end place columns c rows cells y.elements n o → ReadsBehindCell end place columns c rows cells x.elements m o
 cell_moved {end} {place} {columns} {c} {rows} {cells} {o = o} e d = moved (λ x m. ReadsBehindCell end place columns c rows cells x.elements m o) e d
 
-pub base_moved : {c : Context} {x y : Core} {m n : Units} {o : Outcome Atom} → Read x m ≡ Read y n → ReadsScripts c y.atom (no_scripts y.atom.kind y.limits) n o → ReadsScripts c x.atom (no_scripts x.atom.kind x.limits) m o
-base_moved {c} {o = o} e d = moved (λ x m. ReadsScripts c x.atom (no_scripts x.atom.kind x.limits) m o) e d
+pub base_moved : {c : Context} {before : Before} {x y : Core} {m n : Units} {o : Outcome Atom} → Read x m ≡ Read y n → ReadsScripts c before y.atom (no_scripts y.atom.kind y.limits) n o → ReadsScripts c before x.atom (no_scripts x.atom.kind x.limits) m o
+base_moved {c} {before} {o = o} e d = moved (λ x m. ReadsScripts c before x.atom (no_scripts x.atom.kind x.limits) m o) e d
 
 pub atoms_moved : {ending : Ending} {c : Context} (row : Row) {x y : Atom} {m n : Units} {o : Outcome Row} → Read x m ≡ Read y n → ReadsAtoms ending c (with_atom c.style row y) n o → ReadsAtoms ending c (with_atom c.style row x) m o
 atoms_moved {ending} {c} row {o = o} e d = moved (λ x m. ReadsAtoms ending c (with_atom c.style row x) m o) e d
@@ -152,9 +152,9 @@ same_alphabet P {r} {a} {b} s t e = (let same : b ≡ a = cc in subst P same e)
 pub word_is : {place : ℕ} {r : WordRule} {a b : Option Alphabet} {ws : Words} {l : Units} {o : Outcome Words} → r ≡ TakesWords a → r ≡ TakesWords b → ReadsWord place b ws l o → ReadsWord place a ws l o
 word_is {place} {ws = ws} {l = l} {o = o} s t e = same_alphabet (λ a. ReadsWord place a ws l o) s t e
 
-pub scripts_go_on : (step : Unit → Option Step) {c : Context} {base : Atom} {w m n : Units} {u v : Unit} {a b : Scripts} {o : Outcome Atom} → w ≡ Next u m → w ≡ Next v n → step u ≡ Some (GoesOn a) → step v ≡ Some (GoesOn b) → ReadsScripts c base b n o → ReadsScripts c base a m o
-scripts_go_on step {c} {base} {o = o} p q s t e = goes_on step (λ x n. ReadsScripts c base x n o) p q s t e
+pub scripts_go_on : (step : Unit → Option Step) {c : Context} {before : Before} {base : Atom} {w m n : Units} {u v : Unit} {a b : Scripts} {o : Outcome Atom} → w ≡ Next u m → w ≡ Next v n → step u ≡ Some (GoesOn a) → step v ≡ Some (GoesOn b) → ReadsScripts c before base b n o → ReadsScripts c before base a m o
+scripts_go_on step {c} {before} {base} {o = o} p q s t e = goes_on step (λ x n. ReadsScripts c before base x n o) p q s t e
 
-pub script_moved : (step : Unit → Option Step) {c : Context} {base : Atom} {w m n k j : Units} {u v : Unit} {f g : Element → Scripts} {x y : Operand} {o : Outcome Atom} → w ≡ Next u m → w ≡ Next v n → step u ≡ Some (TakesOperand f) → step v ≡ Some (TakesOperand g) → Read x k ≡ Read y j → ReadsScripts c base (g y.element) j o → ReadsScripts c base (f x.element) k o
-script_moved step {c} {base} {j = j} {f = f} {y = y} {o = o} p q s t e d =
-    moved (λ x k. ReadsScripts c base (f x.element) k o) e (same_operand_step step (λ h. ReadsScripts c base (h y.element) j o) p q s t d)
+pub script_moved : (step : Unit → Option Step) {c : Context} {before : Before} {base : Atom} {w m n k j : Units} {u v : Unit} {f g : Element → Scripts} {x y : Operand} {o : Outcome Atom} → w ≡ Next u m → w ≡ Next v n → step u ≡ Some (TakesOperand f) → step v ≡ Some (TakesOperand g) → Read x k ≡ Read y j → ReadsScripts c before base (g y.element) j o → ReadsScripts c before base (f x.element) k o
+script_moved step {c} {before} {base} {j = j} {f = f} {y = y} {o = o} p q s t e d =
+    moved (λ x k. ReadsScripts c before base (f x.element) k o) e (same_operand_step step (λ h. ReadsScripts c before base (h y.element) j o) p q s t d)

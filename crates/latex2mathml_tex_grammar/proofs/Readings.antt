@@ -1,6 +1,6 @@
 -- A text has exactly one reading or exactly one refusal.
 use Rattle.std.proofs.Common.{◌≡◌, ◌⊎◌, inl, inr, ℕ, List, ap, subst, refl, sym, ◌∙◌, Bool, true, false, ◌||◌, IsTrue, IsFalse, if◌then◌else◌}
-use Rattle.latex2mathml_tex_grammar.specs.{Expanding.expansion, Expansion.most_units, Expansion.most_uses, Formulas.IsExpansion, Formulas.IsReading, Formulas.IsRefusal, Formulas.formula_context, Laws.AreMacrosTheirNames, Laws.HasOneReading, Macros.SameMacros, Macros.Table, Refusal.Refusal, Rows.Row, Rows.empty_row, Rules.Context, Rules.WholeText, Symbols.Style, Cutting.units_of, Units.Units, Units.End}
+use Rattle.latex2mathml_tex_grammar.specs.{Expanding.expansion, Expansion.most_units, Expansion.most_uses, Formulas.IsExpansion, Formulas.IsReading, Formulas.IsRefusal, Formulas.formula_context, Laws.AreMacrosTheirNames, Laws.HasOneReading, Macros.SameMacros, Macros.Table, Refusal.Refusal, Rows.Row, Rows.empty_row, Rules.Context, Rules.WholeText, Rules.begun, Symbols.Style, Cutting.units_of, Units.Units, Units.End}
 use Rattle.latex2mathml_tex_grammar.specs.Reading.{Outcome, Read, Refused, ReadsAtoms, text_ends, atoms_end, atom_read, rest_read, ReadsRule, rule_gives, rows_read, rows_to_end, ReadsRows, cell_read, ReadsBehindCell, next_cell, next_row, table_ends, text_ends_table}
 use Rattle.latex2mathml_tex_grammar.proofs.{Expanding.expansion_is, Expanding.is_expanded, OneList.has_units, OneList.units_are, SameTables.expansion_same, Total.has_one_outcome, Unique.one_atoms, Spaces.next_stays, Total.rule_outcome, Unique.one_rule}
 use Rattle.latex2mathml_tex_grammar.specs.Formulas.{ReadsFormula, as_atoms, as_rows, alone, asks_for_rows}
@@ -78,9 +78,9 @@ expanded_are {macros} {text} e = ap (expansion macros most_uses most_units) (uni
 -- a formula has one outcome
 
 formula_outcome : (style : Style) (l : Units) → (o : Outcome Row) × ReadsFormula style l o
-formula_outcome style l = (let (o, d) = (has_one_outcome WholeText (formula_context style) empty_row l).some in as_either d (cases_Bool (asks_for_rows o)))
+formula_outcome style l = (let (o, d) = (has_one_outcome WholeText (formula_context style) (begun WholeText) l).some in as_either d (cases_Bool (asks_for_rows o)))
   where
-    as_either : {o : Outcome Row} → ReadsAtoms WholeText (formula_context style) empty_row l o → IsTrue (asks_for_rows o) ⊎ IsFalse (asks_for_rows o) → (o : Outcome Row) × ReadsFormula style l o
+    as_either : {o : Outcome Row} → ReadsAtoms WholeText (formula_context style) (begun WholeText) l o → IsTrue (asks_for_rows o) ⊎ IsFalse (asks_for_rows o) → (o : Outcome Row) × ReadsFormula style l o
     as_either {o} d (inr s) = (o, as_atoms d s)
     as_either d (inl s) = (let (p, t) = rule_outcome (rows_of_text (formula_context style)) l in (alone style p, as_rows d s t))
 

@@ -2,7 +2,7 @@
 use Rattle.std.proofs.Common.{◌≡◌, ℕ, List, refl, sym, subst, ◌∙◌, IsTrue, IsFalse}
 use Rattle.latex2mathml_tex_grammar.specs.{Expansion.Stands, Expansion.role_of, ExpansionLaws.AllStand, Formulas.IsExpansion, Formulas.IsReading, Formulas.IsRefusal, Formulas.formula_context, Laws.HaveAlikeExpansions, Laws.IsSpaceNothing, Laws.StandsByItself, Macros.Table, Refusal.Refusal, Rows.Row, Rows.empty_row, Symbols.Style}
 use Rattle.latex2mathml_tex_grammar.specs.Reading.{Outcome, Read, Refused, ReadsAtoms, ReadsRule}
-use Rattle.latex2mathml_tex_grammar.specs.Rules.{Context, WholeText, rows_of_text}
+use Rattle.latex2mathml_tex_grammar.specs.Rules.{Context, WholeText, begun, rows_of_text}
 use Rattle.latex2mathml_tex_grammar.specs.Spacing.{Standing, InFormula, standing_behind, AreAlike, both_end, both_stop, same_piece, space_before, space_behind, Alike, AreAlikeOutcomes, HaveAlikeUnits}
 use Rattle.latex2mathml_tex_grammar.specs.Units.{Units, Next, End, Stop, HasUnits}
 use Rattle.latex2mathml_tex_grammar.proofs.{AlikeRules.both_whole, Expanded.own, OneList.units_are, Readings.expanded_are, Readings.formula_to_the_end, Spaces.in_formula, Unique.one_atoms, AlikeRules.rows_too, AlikeRules.gives_too, Carrying.carry_rule}
@@ -36,11 +36,11 @@ with_units P h k p = subst P (sym (expanded_are h) ∙ expanded_are k) p
 
 -- formulas are carried over too
 
-atoms_there : {style : Style} {m : Units} {o : Outcome Row} → IsFalse (asks_for_rows o) → Carried InFormula (ReadsAtoms WholeText (formula_context style) empty_row m) o → Carried InFormula (ReadsFormula style m) o
+atoms_there : {style : Style} {m : Units} {o : Outcome Row} → IsFalse (asks_for_rows o) → Carried InFormula (ReadsAtoms WholeText (formula_context style) (begun WholeText) m) o → Carried InFormula (ReadsFormula style m) o
 atoms_there s (also_read n h d) = also_read n h (as_atoms d s)
 atoms_there s (also_refused q e d) = also_refused q e (as_atoms d (subst (λ k. IsFalse (is_outside k)) e s))
 
-rows_there : {style : Style} {m : Units} {o : Outcome Row} {p : Outcome Core} → IsTrue (asks_for_rows o) → Carried InFormula (ReadsAtoms WholeText (formula_context style) empty_row m) o → Carried InFormula (ReadsRule (rows_of_text (formula_context style)) m) p → Carried InFormula (ReadsFormula style m) (alone style p)
+rows_there : {style : Style} {m : Units} {o : Outcome Row} {p : Outcome Core} → IsTrue (asks_for_rows o) → Carried InFormula (ReadsAtoms WholeText (formula_context style) (begun WholeText) m) o → Carried InFormula (ReadsRule (rows_of_text (formula_context style)) m) p → Carried InFormula (ReadsFormula style m) (alone style p)
 rows_there s (also_read n h d) rows = cc s
 rows_there s (also_refused q e d) (also_read n h t) = also_read n h (as_rows d (subst (λ k. IsTrue (is_outside k)) e s) t)
 rows_there s (also_refused q e d) (also_refused r f t) = also_refused r f (as_rows d (subst (λ k. IsTrue (is_outside k)) e s) t)

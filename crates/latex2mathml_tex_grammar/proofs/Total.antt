@@ -4,7 +4,7 @@ use Rattle.std.specs.Bool.{⊤}
 use Rattle.latex2mathml_elements.specs.Element.{Element}
 use Rattle.std.proofs.lemmas.Bool.{cases_Bool}
 use Rattle.std.specs.Bool.{⊤}
-use Rattle.latex2mathml_tex_grammar.specs.{Atoms.Atom, Rows.Row, Rows.Operand, Rows.empty_row, Rows.row_element, Rows.with_atom, Rows.operand_of, Rows.single, Delimiters.delimiter_of, Laws.HasOneOutcome, Makes.Core, Makes.core, Makes.divider, Makes.Scripts, Makes.no_scripts, Meaning.Beside, Meaning.Change, Tables.Lines, Tables.begun_cell, Tables.a_row, Tables.with_last}
+use Rattle.latex2mathml_tex_grammar.specs.{Atoms.Atom, Atoms.Before, Rows.Row, Rows.Operand, Rows.empty_row, Rows.lone, Rows.row_element, Rows.with_atom, Rows.operand_of, Rows.single, Delimiters.delimiter_of, Laws.HasOneOutcome, Makes.Core, Makes.core, Makes.divider, Makes.Scripts, Makes.no_scripts, Meaning.Beside, Meaning.Change, Tables.Lines, Tables.begun_cell, Tables.a_row, Tables.with_last}
 use Rattle.latex2mathml_tex_grammar.specs.Next.{follows, is_space_piece, past_space, next_are, digits_next, digits_here}
 use Rattle.latex2mathml_tex_grammar.specs.Reading.{Outcome, Read, Refused, ReadsRule, rule_gives, rule_refuses, operand_read, operand_refused, core_read, core_refused, core_missing, core_stopped, atoms_read, atoms_refused, words_read, words_refused, units_taken, units_missing, unit_follows, no_unit_follows, digits_taken, delimiter_taken, delimiter_missing, ReadsOperand, group_operand, group_refused, digit_operand, other_operand, other_refused, no_operand, operand_at_end, operand_stopped, ReadsScripts, scripts_end, mark_taken, script_read, script_refused, mark_refused, ReadsAtom, divider_read, divider_refused, on_empty_row, base_read, base_refused, ReadsAtoms, text_ends, never_ended, atoms_stopped, atoms_end, atom_read, atom_refused, rest_read, change_refused, ReadsWord, word_stands, group_of_words, formula_read, formula_refused, words_in_alphabet, no_word, word_missing, word_at_end, word_stopped, ReadsWords, words_end, words_never_ended, words_stopped, word_read, word_refused, found_taken, found_refused, passed_over, rows_read, rows_refused, ReadsRows, cell_read, cell_refused, ReadsBehindCell, next_cell, next_row, table_ends, rows_to_end, text_ends_table}
 use Rattle.latex2mathml_tex_grammar.specs.Refusal.{Refusal}
@@ -12,7 +12,7 @@ use Rattle.latex2mathml_tex_grammar.specs.Rests.{Rest, GoesOnIn, NoRest, finishe
 use Rattle.latex2mathml_tex_grammar.specs.{Colors.color_of, Meaning.Change, Meaning.ToAlphabet, Meaning.ToStyle, Meaning.ToColor, Meaning.Divides, Meaning.FractionRule, Rows.Upper}
 use Rattle.latex2mathml_tex_grammar.specs.Scanning.{BeforeArgument, ColorName}
 use Rattle.latex2mathml_elements.specs.Colors.{Color}
-use Rattle.latex2mathml_tex_grammar.specs.Rules.{Context, in_context, styled, Ending, WholeText, InBraces, InBrackets, InDollars, InDelimiters, Rule, gives, refuses, reads_operand, reads_core, reads_atoms, reads_words, takes_if, if_follows, takes_digits, takes_delimiter, rule, a_digit, TableEnd, InCell, takes_found, passes_over, reads_rows}
+use Rattle.latex2mathml_tex_grammar.specs.Rules.{Context, in_context, styled, Ending, WholeText, InBraces, InBrackets, InDollars, InDelimiters, begun, Rule, gives, refuses, reads_operand, reads_core, reads_atoms, reads_words, takes_if, if_follows, takes_digits, takes_delimiter, rule, a_digit, TableEnd, InCell, takes_found, passes_over, reads_rows}
 use Rattle.latex2mathml_tex_grammar.specs.Starts.{Mark, change_by, start_of_mark, is_command, step_of, AtomStart, DividerStart, ScriptStart, RuleStart, ChangeStart, OperandStart, NoStart, GroupStart, DigitStart, OtherStart, atom_start, operand_start, mark_of, Step, GoesOn, TakesOperand, Forbidden, step_of_mark, step_next, empty_base, ends, unended, is_close, left_behind, CellEnd, PartsCells, EndsRow, EndsTable, cell_end}
 use Rattle.latex2mathml_elements.specs.Columns.{Columns}
 use Rattle.latex2mathml_tex_grammar.specs.Scanning.{Spot, BeforeStar, BeforeLength, BeforeRow, Deed, Passes, Adds, Ends, Leaves, Misses, Refuses, deed, done, may_end, found_at_end, with_character, Found, Given, Missing, scan, behind_found, past, past_break}
@@ -158,7 +158,7 @@ with_rows (rows_none r d) h f = rows_none r (f (Refused r) d)
 record HasOutcomes (k : ℕ) : Type 0 where
   of_rule : (r : Rule) (l : Units) → size l < k → Comes Core (ReadsRule r l) (size l)
   of_operand : (place : ℕ) (c : Context) (l : Units) → size l < k → Comes Operand (ReadsOperand place c l) (size l)
-  of_scripts : (c : Context) (base : Atom) (scripts : Scripts) (l : Units) → size l < k → Comes Atom (ReadsScripts c base scripts l) (size l)
+  of_scripts : (c : Context) (before : Before) (base : Atom) (scripts : Scripts) (l : Units) → size l < k → Comes Atom (ReadsScripts c before base scripts l) (size l)
   of_atoms : (ending : Ending) (c : Context) (row : Row) (l : Units) → size l < k → Comes Row (ReadsAtoms ending c row l) (size l)
   of_rows : (end : TableEnd) (place : ℕ) (columns : Columns) (c : Context) (rows cells : List Element) (l : Units) → size l < k → RowsCome (ReadsRows end place columns c rows cells l) (size l)
   -- what is a part of words is taken
@@ -187,19 +187,19 @@ operand_total k has place c l h = elim (sees l) [
 ]
 
 -- a mark is taken
-stepped : (k : ℕ) → HasOutcomes k → (c : Context) (base : Atom) (scripts : Scripts) (l m : Units) (u : Unit) → past_space l ≡ Next u m → size m < k → (step : Step) → step_of_mark scripts (mark_of u.piece) ≡ Some step → Comes Atom (ReadsScripts c base scripts l) (size m)
-stepped k has c base scripts l m u p h (GoesOn more) s = with_outcome (has.of_scripts c base more m h) (omega arith) (λ o. mark_taken p s)
-stepped k has c base scripts l m u p h (TakesOperand f) s =
-    after (λ x n. ReadsScripts c base (f x.element) n) (has.of_operand u.place (styled c InScript) m h) (omega arith) (λ x n fits. has.of_scripts c base (f x.element) n (omega arith)) (λ x n o. script_read p s) (λ r. script_refused p s)
-stepped k has c base scripts l m u p h (Forbidden kind) s = is_refused _ (mark_refused p s)
+stepped : (k : ℕ) → HasOutcomes k → (c : Context) (before : Before) (base : Atom) (scripts : Scripts) (l m : Units) (u : Unit) → past_space l ≡ Next u m → size m < k → (step : Step) → step_of_mark scripts (mark_of u.piece) ≡ Some step → Comes Atom (ReadsScripts c before base scripts l) (size m)
+stepped k has c before base scripts l m u p h (GoesOn more) s = with_outcome (has.of_scripts c before base more m h) (omega arith) (λ o. mark_taken p s)
+stepped k has c before base scripts l m u p h (TakesOperand f) s =
+    after (λ x n. ReadsScripts c before base (f x.element) n) (has.of_operand u.place (styled c InScript) m h) (omega arith) (λ x n fits. has.of_scripts c before base (f x.element) n (omega arith)) (λ x n o. script_read p s) (λ r. script_refused p s)
+stepped k has c before base scripts l m u p h (Forbidden kind) s = is_refused _ (mark_refused p s)
 
-marked : (k : ℕ) → HasOutcomes k → (c : Context) (base : Atom) (scripts : Scripts) (l m : Units) (u : Unit) → past_space l ≡ Next u m → size m < size l → size l < suc k → (step : Option Step) → step_of_mark scripts (mark_of u.piece) ≡ step → Comes Atom (ReadsScripts c base scripts l) (size l)
-marked k has c base scripts l m u p less h None s = comes_to _ l (omega arith) (scripts_end (ap (step_next scripts) p ∙ s))
-marked k has c base scripts l m u p less h (Some step) s = with_outcome (stepped k has c base scripts l m u p (omega arith) step s) (omega arith) (λ o d. d)
+marked : (k : ℕ) → HasOutcomes k → (c : Context) (before : Before) (base : Atom) (scripts : Scripts) (l m : Units) (u : Unit) → past_space l ≡ Next u m → size m < size l → size l < suc k → (step : Option Step) → step_of_mark scripts (mark_of u.piece) ≡ step → Comes Atom (ReadsScripts c before base scripts l) (size l)
+marked k has c before base scripts l m u p less h None s = comes_to _ l (omega arith) (scripts_end (ap (step_next scripts) p ∙ s))
+marked k has c before base scripts l m u p less h (Some step) s = with_outcome (stepped k has c before base scripts l m u p (omega arith) step s) (omega arith) (λ o d. d)
 
-scripts_total : (k : ℕ) → HasOutcomes k → (c : Context) (base : Atom) (scripts : Scripts) (l : Units) → size l < suc k → Comes Atom (ReadsScripts c base scripts l) (size l)
-scripts_total k has c base scripts l h = elim (sees l) [
-  | sees_unit u m p less ↦ marked k has c base scripts l m u p less h (step_of_mark scripts (mark_of u.piece)) refl
+scripts_total : (k : ℕ) → HasOutcomes k → (c : Context) (before : Before) (base : Atom) (scripts : Scripts) (l : Units) → size l < suc k → Comes Atom (ReadsScripts c before base scripts l) (size l)
+scripts_total k has c before base scripts l h = elim (sees l) [
+  | sees_unit u m p less ↦ marked k has c before base scripts l m u p less h (step_of_mark scripts (mark_of u.piece)) refl
   | sees_end at p ↦ comes_to _ l (omega arith) (scripts_end (ap (step_next scripts) p))
   | sees_stop r p ↦ comes_to _ l (omega arith) (scripts_end (ap (step_next scripts) p))
 ]
@@ -258,23 +258,23 @@ abbrev BeginsAtom : AtomStart → Type 0
 BeginsAtom (ChangeStart change) = ⊥
 BeginsAtom start = ⊤
 
-begun_atom : (k : ℕ) → HasOutcomes k → (ending : Ending) (c : Context) (u : Unit) (l : Units) → size l < k → (start : AtomStart) → BeginsAtom start → atom_start ending u.piece ≡ start → Comes Atom (ReadsAtom ending c u l) (size l)
-begun_atom k has ending c u l h (ChangeStart change) none s = absurd none
-begun_atom k has ending c u l h DividerStart some s = elim (has.of_rule (takes_delimiter (λ sign_text. gives (core (divider sign_text)))) l h) [
+begun_atom : (k : ℕ) → HasOutcomes k → (ending : Ending) (c : Context) (before : Before) (u : Unit) (l : Units) → size l < k → (start : AtomStart) → BeginsAtom start → atom_start ending u.piece ≡ start → Comes Atom (ReadsAtom ending c before u l) (size l)
+begun_atom k has ending c before u l h (ChangeStart change) none s = absurd none
+begun_atom k has ending c before u l h DividerStart some s = elim (has.of_rule (takes_delimiter (λ sign_text. gives (core (divider sign_text)))) l h) [
   | comes_to x n fits d ↦ comes_to x.atom n fits (divider_read s d)
   | is_refused r d ↦ is_refused r (divider_refused s d)
 ]
-begun_atom k has ending c u l h RuleStart some s =
-    after (λ x n. ReadsScripts c x.atom (no_scripts x.atom.kind x.limits) n) (has.of_rule (rule u.place c u.piece) l h) (omega arith) (λ x n fits. has.of_scripts c x.atom (no_scripts x.atom.kind x.limits) n (omega arith)) (λ x n o. base_read s) (λ r. base_refused s)
-begun_atom k has ending c u l h ScriptStart some s =
+begun_atom k has ending c before u l h RuleStart some s =
+    after (λ x n. ReadsScripts c before x.atom (no_scripts x.atom.kind x.limits) n) (has.of_rule (rule u.place c u.piece) l h) (omega arith) (λ x n fits. has.of_scripts c before x.atom (no_scripts x.atom.kind x.limits) n (omega arith)) (λ x n o. base_read s) (λ r. base_refused s)
+begun_atom k has ending c before u l h ScriptStart some s =
     let (mark, e) = script_mark ending u.piece s in
     let stays : past_space (Next u l) ≡ Next u l = rw (mark_no_space u.piece mark e) refl in
     let step : step_of_mark (no_scripts empty_base.kind Beside) (mark_of u.piece) ≡ Some (step_of (no_scripts empty_base.kind Beside) None None mark) = rw e refl in
-    with_outcome (stepped k has c empty_base (no_scripts empty_base.kind Beside) (Next u l) l u stays h _ step) (omega arith) (λ o. on_empty_row s)
+    with_outcome (stepped k has c before empty_base (no_scripts empty_base.kind Beside) (Next u l) l u stays h _ step) (omega arith) (λ o. on_empty_row s)
 
 -- an atom that has an outcome, and then the atoms after it
 atom_total : (k : ℕ) → HasOutcomes k → (ending : Ending) (c : Context) (row : Row) (l m : Units) (u : Unit) → past_space l ≡ Next u m → size m < size l → size l < suc k → ends ending u.piece ≡ false → (start : AtomStart) → BeginsAtom start → atom_start ending u.piece ≡ start → Comes Row (ReadsAtoms ending c row l) (size l)
-atom_total k has ending c row l m u p less h s start some t = elim (begun_atom k has ending c u m (omega arith) start some t) [
+atom_total k has ending c row l m u p less h s start some t = elim (begun_atom k has ending c row.before u m (omega arith) start some t) [
   | is_refused r d ↦ is_refused r (atom_refused p s d)
   | comes_to x n fits d ↦ with_outcome (has.of_atoms ending c (with_atom c.style row x) n (omega arith)) (omega arith) (λ o. atom_read p s d)
 ]
@@ -352,8 +352,8 @@ begun_word : (k : ℕ) → HasOutcomes k → (place : ℕ) (a : Option Alphabet)
 begun_word k has place a ws u l h (IsWord w) s = comes_to (with_word ws w) l (omega arith) (word_stands s)
 begun_word k has place a ws u l h BeginsGroup s = with_outcome (has.of_words u.place a ws l h) (omega arith) (λ o. group_of_words s)
 begun_word k has place a ws u l h EndsGroup s = is_refused _ (word_missing s)
-begun_word k has place a ws u l h BeginsFormula s = elim (has.of_atoms (InDollars u.place) (in_context InText None) empty_row l h) [
-  | comes_to row m fits d ↦ comes_to (with_word ws (Formula (row_element row.elements))) m fits (formula_read s d)
+begun_word k has place a ws u l h BeginsFormula s = elim (has.of_atoms (InDollars u.place) (in_context InText None) (begun (InDollars u.place)) l h) [
+  | comes_to row m fits d ↦ comes_to (with_word ws (Formula (row_element (lone row.last row.elements)))) m fits (formula_read s d)
   | is_refused r d ↦ is_refused r (formula_refused s d)
 ]
 begun_word k has place a ws u l h (TakesWords b) s =
@@ -417,7 +417,7 @@ rule_total k has (reads_operand place c then) l h =
     after (λ xs m. ReadsRule (then xs) m) (operand_total k has place c l h) (omega arith) (λ xs m fits. rule_total k has (then xs) m (omega arith)) (λ xs m o. operand_read) (λ r. operand_refused)
 rule_total k has (reads_core place c then) l h = after_core k has place c then l h (λ x m fits. rule_total k has (then x) m (omega arith))
 rule_total k has (reads_atoms ending c then) l h =
-    after (λ xs m. ReadsRule (then xs) m) (atoms_total k has ending c empty_row l h) (omega arith) (λ xs m fits. rule_total k has (then xs) m (omega arith)) (λ xs m o. atoms_read) (λ r. atoms_refused)
+    after (λ xs m. ReadsRule (then xs) m) (atoms_total k has ending c (begun ending) l h) (omega arith) (λ xs m fits. rule_total k has (then xs) m (omega arith)) (λ xs m o. atoms_read) (λ r. atoms_refused)
 rule_total k has (reads_words place a then) l h =
     let less = size-past_space l in after (λ ws m. ReadsRule (then ws) m) (word_total k has place a no_words (past_space l) (omega arith)) (omega arith) (λ ws m fits. rule_total k has (then ws) m (omega arith)) (λ ws m o. words_read) (λ r. words_refused)
 rule_total k has (takes_if tests then otherwise) l h =
@@ -439,7 +439,7 @@ outcomes : (k : ℕ) → HasOutcomes k
 outcomes zero = record {
   of_rule = λ r l h. absurd (omega arith);
   of_operand = λ place c l h. absurd (omega arith);
-  of_scripts = λ c base scripts l h. absurd (omega arith);
+  of_scripts = λ c before base scripts l h. absurd (omega arith);
   of_atoms = λ ending c row l h. absurd (omega arith);
   of_rows = λ end place columns c rows cells l h. absurd (omega arith);
   of_word = λ place a ws l h. absurd (omega arith);

@@ -2,7 +2,7 @@
 use Rattle.std.proofs.Common.{◌≡◌, ℕ, Option, refl, ap, List}
 use Rattle.latex2mathml_elements.specs.Element.{Element}
 use Rattle.latex2mathml_elements.specs.Columns.{Columns}
-use Rattle.latex2mathml_tex_grammar.specs.{Atoms.Atom, Makes.Core, Makes.Scripts, Rows.Row, Rows.Operand}
+use Rattle.latex2mathml_tex_grammar.specs.{Atoms.Atom, Atoms.Before, Makes.Core, Makes.Scripts, Rows.Row, Rows.Operand}
 use Rattle.latex2mathml_tex_grammar.specs.Reading.{Outcome, Refused, ReadsRule, rule_gives, rule_refuses, operand_read, operand_refused, core_read, core_refused, core_missing, core_stopped, atoms_read, atoms_refused, words_read, words_refused, units_taken, units_missing, unit_follows, no_unit_follows, digits_taken, delimiter_taken, delimiter_missing, ReadsOperand, group_operand, group_refused, digit_operand, other_operand, other_refused, no_operand, operand_at_end, operand_stopped, ReadsScripts, scripts_end, mark_taken, script_read, script_refused, mark_refused, ReadsAtom, divider_read, divider_refused, on_empty_row, base_read, base_refused, ReadsAtoms, text_ends, never_ended, atoms_stopped, atoms_end, atom_read, atom_refused, rest_read, change_refused, ReadsWord, word_stands, group_of_words, formula_read, formula_refused, words_in_alphabet, no_word, word_missing, word_at_end, word_stopped, ReadsWords, words_end, words_never_ended, words_stopped, word_read, word_refused, found_taken, found_refused, passed_over, rows_read, rows_to_end, rows_refused, ReadsRows, cell_read, cell_refused, ReadsBehindCell, next_cell, next_row, table_ends, text_ends_table}
 use Rattle.latex2mathml_tex_grammar.specs.Rules.{Context, Ending, Rule, TableEnd}
 use Rattle.latex2mathml_tex_grammar.specs.{Starts.step_of_mark, Starts.mark_of, Symbols.Alphabet, Words.Words, Scanning.past_break, Starts.cell_end, Tables.Lines}
@@ -138,7 +138,7 @@ mutual
   one_operand (operand_stopped p) (operand_stopped q) = cc
 
   -- what follows an atom has one outcome
-  one_scripts : {c : Context} {base : Atom} {scripts : Scripts} {l : Units} {o p : Outcome Atom} → ReadsScripts c base scripts l o → ReadsScripts c base scripts l p → o ≡ p
+  one_scripts : {c : Context} {before : Before} {base : Atom} {scripts : Scripts} {l : Units} {o p : Outcome Atom} → ReadsScripts c before base scripts l o → ReadsScripts c before base scripts l p → o ≡ p
   one_scripts (scripts_end s) (scripts_end t) = refl
   one_scripts (mark_taken {c = c} {base = base} {scripts = k} p s d) (mark_taken q t e) = one_scripts d (scripts_go_on (λ u. step_of_mark k (mark_of u.piece)) p q s t e)
   one_scripts (script_read {c = c} {scripts = k} p s d ds) (script_read q t e es) = one_scripts ds (script_moved (λ u. step_of_mark k (mark_of u.piece)) p q s t (one_operand d (operand_is p q e)) es)
@@ -166,7 +166,7 @@ mutual
   one_scripts (mark_refused {scripts = k} p s) (script_refused q t e) = cc (one_step (λ u. step_of_mark k (mark_of u.piece)) p q s t)
 
   -- an atom has one outcome
-  one_atom : {ending : Ending} {c : Context} {u : Unit} {l : Units} {o p : Outcome Atom} → ReadsAtom ending c u l o → ReadsAtom ending c u l p → o ≡ p
+  one_atom : {ending : Ending} {c : Context} {before : Before} {u : Unit} {l : Units} {o p : Outcome Atom} → ReadsAtom ending c before u l o → ReadsAtom ending c before u l p → o ≡ p
   one_atom (divider_read s d) (divider_read t e) = cc (one_rule d e)
   one_atom (divider_read s d) (divider_refused t e) = cc (one_rule d e)
   one_atom (divider_refused s d) (divider_read t e) = cc (one_rule d e)

@@ -1,6 +1,6 @@
 -- Atoms, and what each is to those next to it: the space between them, prefix signs, words of upright letters.
 use Rattle.std.specs.Prelude.{Bool, true, false, Option, Some, None, if◌then◌else◌}
-use Rattle.latex2mathml_elements.specs.{Attributes.Prefix, Attributes.Infix, Attributes.Space, Attributes.NoSpace, Element.Element, Element.Mo, Element.token}
+use Rattle.latex2mathml_elements.specs.{Attributes.Prefix, Attributes.Infix, Attributes.Space, Attributes.NoSpace, Attributes.Thick, Attributes.NoSpaceBefore, Attributes.ThickAfter, Element.Element, Element.Mo, Element.token}
 use Rattle.latex2mathml_tex_grammar.specs.Symbols.{Class, Ordinary, Operator, Binary, Relation, Opening, Closing, Punctuation, Inner, Style, InScript}
 
 -- what an atom is to its neighbours
@@ -110,11 +110,43 @@ abbrev pub tight : Style → Element → Element
 tight InScript x = without_space x
 tight style x = x
 
+-- the space of a sign that has none before it
+abbrev pub space_behind : Option Space → Option Space
+space_behind None = Some NoSpaceBefore
+space_behind (Some Thick) = Some ThickAfter
+space_behind (Some space) = Some space
+
+-- a sign without the space before it
+abbrev pub without_space_before : Element → Element
+without_space_before (token t a text) = token t (record a { space = space_behind a.space }) text
+without_space_before x = x
+
+-- a sign without the space before it, if so
+abbrev pub led : Bool → Element → Element
+led true x = without_space_before x
+led false x = x
+
+-- whether a relation has no space before it: after an opening sign, and after a comma, which has a space of its own
+abbrev pub leads_relation : Before → Bool
+leads_relation (After Opening) = true
+leads_relation (After Punctuation) = true
+leads_relation before = false
+
+-- whether an operator has no space before it: not after what is ordinary, closing or inner, nor after a name, which has none
+abbrev pub leads_operator : Before → Bool
+leads_operator (After Operator) = true
+leads_operator (After Binary) = true
+leads_operator (After Relation) = true
+leads_operator (After Opening) = true
+leads_operator (After Punctuation) = true
+leads_operator before = false
+
 -- a sign of this class, which is not binary
-abbrev pub sign_there : Style → Class → Element → Element
-sign_there style Relation x = tight style x
-sign_there style Punctuation x = tight style x
-sign_there style class x = x
+abbrev pub sign_there : Style → Before → Class → Element → Element
+sign_there style before Relation x = tight style (led (leads_relation before) x)
+sign_there style before Punctuation x = tight style x
+sign_there style before Operator x = led (leads_operator before) x
+sign_there style before class x = x
 
 -- a binary sign where no binary operator can be, which is ordinary there: unless it is the first of its row, it has no space
 abbrev pub as_ordinary : Bool → Element → Element
@@ -125,7 +157,8 @@ as_ordinary false x = without_space x
 abbrev pub element_there : Style → Bool → Before → Kind → Element → Element
 element_there style first before (SignOf Binary) x =
     if begins_operand before then as_ordinary first x else tight style x
-element_there style first before (SignOf class) x = sign_there style class x
+element_there style first before (SignOf class) x = sign_there style before class x
+element_there style first before (Plain Operator) x = led (leads_operator before) x
 element_there style first before PlusOrMinus x =
     if begins_operand before then as_prefix x else tight style (as_infix first x)
 element_there style first before kind x = x

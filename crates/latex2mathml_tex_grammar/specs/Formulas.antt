@@ -4,7 +4,7 @@ use Rattle.std.specs.Prelude.{ℕ, Bool, true, false, IsTrue, IsFalse, List, Non
 use Rattle.std.specs.Str.{encode_utf8_all}
 use Rattle.latex2mathml_elements.specs.{Annotated.annotated_print, Element.Element, Element.children, Print.formula_print}
 use Rattle.latex2mathml_tex_grammar.specs.{Expansion.Expands, Expansion.most_units, Expansion.most_uses, Macros.Table}
-use Rattle.latex2mathml_tex_grammar.specs.{Makes.Core, Makes.is_display, Reading.Outcome, Reading.Read, Reading.Refused, Reading.ReadsAtoms, Reading.ReadsRule, Refusal.Kind, Refusal.OutsideTable, Refusal.Refusal, Rests.finished, Rows.Row, Rows.empty_row, Rows.lone, Rows.row_element, Rows.with_atom, Rules.Context, Rules.in_context, Rules.rows_of_text, Rules.WholeText, Symbols.Style}
+use Rattle.latex2mathml_tex_grammar.specs.{Makes.Core, Makes.is_display, Reading.Outcome, Reading.Read, Reading.Refused, Reading.ReadsAtoms, Reading.ReadsRule, Refusal.Kind, Refusal.OutsideTable, Refusal.Refusal, Rests.finished, Rows.Row, Rows.empty_row, Rows.lone, Rows.row_element, Rows.with_atom, Rules.Context, Rules.in_context, Rules.begun, Rules.rows_of_text, Rules.WholeText, Symbols.Style}
 use Rattle.latex2mathml_tex_grammar.specs.Units.{Units, End, HasUnits, is_forbidden}
 
 -- a formula has no alphabet of its own
@@ -36,11 +36,11 @@ alone style (Refused r) = Refused r
 -- are read as if they were in `aligned`, and the outcome is that of its rows, whatever it is.
 pub data ReadsFormula (style : Style) (l : Units) : Outcome Row → Type 0 where
   as_atoms : {o : Outcome Row}
-      → ReadsAtoms WholeText (formula_context style) empty_row l o
+      → ReadsAtoms WholeText (formula_context style) (begun WholeText) l o
       → IsFalse (asks_for_rows o)
       → ReadsFormula style l o
   as_rows : {o : Outcome Row} {p : Outcome Core}
-      → ReadsAtoms WholeText (formula_context style) empty_row l o
+      → ReadsAtoms WholeText (formula_context style) (begun WholeText) l o
       → IsTrue (asks_for_rows o)
       → ReadsRule (rows_of_text (formula_context style)) l p
       → ReadsFormula style l (alone style p)

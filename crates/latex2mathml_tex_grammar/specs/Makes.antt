@@ -6,7 +6,7 @@ use Rattle.latex2mathml_elements.specs.Element.{Mi, Mn, Mo, Mrow, Msqrt, Mstyle,
 use Rattle.latex2mathml_elements.specs.Extents.{wide}
 use Rattle.latex2mathml_tex_grammar.specs.{Alphabets.in_alphabet, Rows.Row, Rows.Operand, Rows.lone, Rows.row_element}
 use Rattle.latex2mathml_elements.specs.{Extents.wide, Groups.grouped}
-use Rattle.latex2mathml_tex_grammar.specs.Atoms.{Atom, Kind, SignOf, PlusOrMinus, Plain, UprightLetters, FunctionWord, Blank, Divider, atom}
+use Rattle.latex2mathml_tex_grammar.specs.Atoms.{Atom, Kind, SignOf, PlusOrMinus, Plain, UprightLetters, FunctionWord, Blank, Divider, Before, atom, element_there}
 use Rattle.latex2mathml_tex_grammar.specs.Meaning.{FractionRule, Bar, NoBar, Braced, Bracketed, Bare, LimitPlace, Beside, ByStyle, Movable, Stacked, Box, Phantom, PhantomWidth, PhantomHeight, Smashed, WithoutHeight, WithoutDepth, OverRight, OverLeft, OverBoth, Frame, StrikeUp, StrikeDown, StrikeTwice, Raised, Colored, OnColor}
 use Rattle.latex2mathml_tex_grammar.specs.Symbols.{Class, Ordinary, Operator, Binary, Relation, Opening, Closing, Punctuation, Inner, Style, InDisplay, InText, InScript, Alphabet, Upright, Symbol, Letter, UprightLetter, Sign, BigOperator, Integral}
 
@@ -462,12 +462,16 @@ scripted_kind (SignOf class) = Plain class
 scripted_kind PlusOrMinus = Plain Binary
 scripted_kind kind = no_letters kind
 
--- an atom with these elements below and above it; without any, it stays as it is
-abbrev pub scripted_atom : Style → Atom → Scripts → Option Element → Option Element → Atom
-scripted_atom style base scripts None None = base
-scripted_atom style base scripts below above =
-    atom (scripted_kind base.kind) true (with_scripts (are_stacked style scripts.limits) (fixed_base scripts.limits base.element) below above)
+-- the element of a base after what precedes the atom: a sign is the first element of what its scripts are beside
+abbrev pub base_there : Style → Before → Atom → Element
+base_there style before base = element_there style true before base.kind base.element
 
--- an atom with what follows it
-abbrev pub scripted : Style → Atom → Scripts → Atom
-scripted style base scripts = scripted_atom style base scripts scripts.below (superscript scripts.primes scripts.above)
+-- an atom with these elements below and above it; without any, it stays as it is
+abbrev pub scripted_atom : Style → Before → Atom → Scripts → Option Element → Option Element → Atom
+scripted_atom style before base scripts None None = base
+scripted_atom style before base scripts below above =
+    atom (scripted_kind base.kind) true (with_scripts (are_stacked style scripts.limits) (fixed_base scripts.limits (base_there style before base)) below above)
+
+-- an atom with what follows it, after what precedes it
+abbrev pub scripted : Style → Before → Atom → Scripts → Atom
+scripted style before base scripts = scripted_atom style before base scripts scripts.below (superscript scripts.primes scripts.above)

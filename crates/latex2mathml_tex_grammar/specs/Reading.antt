@@ -2,12 +2,12 @@
 -- here say how rules are read, and they are the same for every rule. White space in formulas is ignored.
 use Rattle.std.specs.Prelude.{◌≡◌, ℕ, Bool, true, false, IsTrue, IsFalse, List, [], ◌∷◌, length, Option, Some, None}
 use Rattle.latex2mathml_elements.specs.{Columns.Columns, Element.Element}
-use Rattle.latex2mathml_tex_grammar.specs.{Atoms.Atom, Delimiters.delimiter_of, Rows.Row, Rows.empty_row, Rows.row_element, Rows.with_atom, Rows.Operand, Rows.operand_of, Rows.single}
+use Rattle.latex2mathml_tex_grammar.specs.{Atoms.Atom, Atoms.Before, Delimiters.delimiter_of, Rows.Row, Rows.empty_row, Rows.lone, Rows.row_element, Rows.with_atom, Rows.Operand, Rows.operand_of, Rows.single}
 use Rattle.latex2mathml_tex_grammar.specs.Makes.{Core, core, number, divider, Scripts, no_scripts, scripted}
 use Rattle.latex2mathml_tex_grammar.specs.{Meaning.Beside, Meaning.Change, Next.past_space, Next.next_are, Next.follows, Next.digits_next, Next.refusal_here}
 use Rattle.latex2mathml_tex_grammar.specs.Refusal.{Kind, MissingArgument, UnclosedBrace, MissingDelimiter, Refusal, refusal_at}
 use Rattle.latex2mathml_tex_grammar.specs.Rests.{GoesOnIn, NoRest, finished, rest_of}
-use Rattle.latex2mathml_tex_grammar.specs.Rules.{Context, in_context, styled, Ending, InBraces, InDollars, Rule, gives, refuses, reads_operand, reads_core, reads_atoms, reads_words, takes_if, if_follows, takes_digits, takes_delimiter, rule, TableEnd, InCell, takes_found, passes_over, reads_rows}
+use Rattle.latex2mathml_tex_grammar.specs.Rules.{Context, in_context, styled, Ending, InBraces, InDollars, begun, Rule, gives, refuses, reads_operand, reads_core, reads_atoms, reads_words, takes_if, if_follows, takes_digits, takes_delimiter, rule, TableEnd, InCell, takes_found, passes_over, reads_rows}
 use Rattle.latex2mathml_tex_grammar.specs.Starts.{DividerStart, ScriptStart, RuleStart, ChangeStart, NoStart, GroupStart, DigitStart, OtherStart, atom_start, operand_start, mark_of, GoesOn, TakesOperand, Forbidden, step_of_mark, step_next, empty_base, ends, unended, is_close, left_behind, PartsCells, EndsRow, EndsTable, cell_end}
 use Rattle.latex2mathml_tex_grammar.specs.Scanning.{Spot, BeforeRow, Given, Missing, scan, past, past_break}
 use Rattle.latex2mathml_tex_grammar.specs.Symbols.{InText, InScript, Alphabet}
@@ -55,11 +55,11 @@ mutual
         → ReadsRule (reads_core place c then) l (Refused r)
     -- the atoms are read up to their ending, then what follows them
     atoms_read : {ending : Ending} {c : Context} {then : Row → Rule} {l m : Units} {row : Row} {o : Outcome Core}
-        → ReadsAtoms ending c empty_row l (Read row m)
+        → ReadsAtoms ending c (begun ending) l (Read row m)
         → ReadsRule (then row) m o
         → ReadsRule (reads_atoms ending c then) l o
     atoms_refused : {ending : Ending} {c : Context} {then : Row → Rule} {l : Units} {r : Refusal}
-        → ReadsAtoms ending c empty_row l (Refused r)
+        → ReadsAtoms ending c (begun ending) l (Refused r)
         → ReadsRule (reads_atoms ending c then) l (Refused r)
     -- the words are read, then what follows them. White space before the words is ignored.
     words_read : {place : ℕ} {a : Option Alphabet} {then : Words → Rule} {l m : Units} {ws : Words} {o : Outcome Core}
@@ -166,59 +166,59 @@ mutual
         → past_space l ≡ Stop r
         → ReadsOperand place c l (Refused r)
 
-  -- the outcome of an atom with these scripts and what follows them
-  pub data ReadsScripts : Context → Atom → Scripts → Units → Outcome Atom → Type 0 where
+  -- the outcome of an atom after what precedes it, with these scripts and what follows them
+  pub data ReadsScripts : Context → Before → Atom → Scripts → Units → Outcome Atom → Type 0 where
     -- no mark comes next
-    scripts_end : {c : Context} {base : Atom} {scripts : Scripts} {l : Units}
+    scripts_end : {c : Context} {before : Before} {base : Atom} {scripts : Scripts} {l : Units}
         → step_next scripts (past_space l) ≡ None
-        → ReadsScripts c base scripts l (Read (scripted c.style base scripts) l)
+        → ReadsScripts c before base scripts l (Read (scripted c.style before base scripts) l)
     -- a mark, and those after it
-    mark_taken : {c : Context} {base : Atom} {scripts more : Scripts} {l m : Units} {u : Unit} {o : Outcome Atom}
+    mark_taken : {c : Context} {before : Before} {base : Atom} {scripts more : Scripts} {l m : Units} {u : Unit} {o : Outcome Atom}
         → past_space l ≡ Next u m
         → step_of_mark scripts (mark_of u.piece) ≡ Some (GoesOn more)
-        → ReadsScripts c base more m o
-        → ReadsScripts c base scripts l o
+        → ReadsScripts c before base more m o
+        → ReadsScripts c before base scripts l o
     -- a mark with its operand, and those after it
-    script_read : {c : Context} {base : Atom} {scripts : Scripts} {with_operand : Element → Scripts} {l m n : Units} {u : Unit} {x : Operand} {o : Outcome Atom}
+    script_read : {c : Context} {before : Before} {base : Atom} {scripts : Scripts} {with_operand : Element → Scripts} {l m n : Units} {u : Unit} {x : Operand} {o : Outcome Atom}
         → past_space l ≡ Next u m
         → step_of_mark scripts (mark_of u.piece) ≡ Some (TakesOperand with_operand)
         → ReadsOperand u.place (styled c InScript) m (Read x n)
-        → ReadsScripts c base (with_operand x.element) n o
-        → ReadsScripts c base scripts l o
-    script_refused : {c : Context} {base : Atom} {scripts : Scripts} {with_operand : Element → Scripts} {l m : Units} {u : Unit} {r : Refusal}
+        → ReadsScripts c before base (with_operand x.element) n o
+        → ReadsScripts c before base scripts l o
+    script_refused : {c : Context} {before : Before} {base : Atom} {scripts : Scripts} {with_operand : Element → Scripts} {l m : Units} {u : Unit} {r : Refusal}
         → past_space l ≡ Next u m
         → step_of_mark scripts (mark_of u.piece) ≡ Some (TakesOperand with_operand)
         → ReadsOperand u.place (styled c InScript) m (Refused r)
-        → ReadsScripts c base scripts l (Refused r)
+        → ReadsScripts c before base scripts l (Refused r)
     -- a second script, or limits of what is not an operator
-    mark_refused : {c : Context} {base : Atom} {scripts : Scripts} {kind : Kind} {l m : Units} {u : Unit}
+    mark_refused : {c : Context} {before : Before} {base : Atom} {scripts : Scripts} {kind : Kind} {l m : Units} {u : Unit}
         → past_space l ≡ Next u m
         → step_of_mark scripts (mark_of u.piece) ≡ Some (Forbidden kind)
-        → ReadsScripts c base scripts l (Refused (refusal_at kind u.place))
+        → ReadsScripts c before base scripts l (Refused (refusal_at kind u.place))
 
-  -- the outcome of the atom that this unit begins, followed by these units
-  pub data ReadsAtom : Ending → Context → Unit → Units → Outcome Atom → Type 0 where
-    divider_read : {ending : Ending} {c : Context} {u : Unit} {l m : Units} {x : Core}
+  -- the outcome of the atom that this unit begins after what precedes it, followed by these units
+  pub data ReadsAtom : Ending → Context → Before → Unit → Units → Outcome Atom → Type 0 where
+    divider_read : {ending : Ending} {c : Context} {before : Before} {u : Unit} {l m : Units} {x : Core}
         → atom_start ending u.piece ≡ DividerStart
         → ReadsRule (takes_delimiter (λ sign_text. gives (core (divider sign_text)))) l (Read x m)
-        → ReadsAtom ending c u l (Read x.atom m)
-    divider_refused : {ending : Ending} {c : Context} {u : Unit} {l : Units} {r : Refusal}
+        → ReadsAtom ending c before u l (Read x.atom m)
+    divider_refused : {ending : Ending} {c : Context} {before : Before} {u : Unit} {l : Units} {r : Refusal}
         → atom_start ending u.piece ≡ DividerStart
         → ReadsRule (takes_delimiter (λ sign_text. gives (core (divider sign_text)))) l (Refused r)
-        → ReadsAtom ending c u l (Refused r)
-    on_empty_row : {ending : Ending} {c : Context} {u : Unit} {l : Units} {o : Outcome Atom}
+        → ReadsAtom ending c before u l (Refused r)
+    on_empty_row : {ending : Ending} {c : Context} {before : Before} {u : Unit} {l : Units} {o : Outcome Atom}
         → atom_start ending u.piece ≡ ScriptStart
-        → ReadsScripts c empty_base (no_scripts empty_base.kind Beside) (Next u l) o
-        → ReadsAtom ending c u l o
-    base_read : {ending : Ending} {c : Context} {u : Unit} {l m : Units} {x : Core} {o : Outcome Atom}
+        → ReadsScripts c before empty_base (no_scripts empty_base.kind Beside) (Next u l) o
+        → ReadsAtom ending c before u l o
+    base_read : {ending : Ending} {c : Context} {before : Before} {u : Unit} {l m : Units} {x : Core} {o : Outcome Atom}
         → atom_start ending u.piece ≡ RuleStart
         → ReadsRule (rule u.place c u.piece) l (Read x m)
-        → ReadsScripts c x.atom (no_scripts x.atom.kind x.limits) m o
-        → ReadsAtom ending c u l o
-    base_refused : {ending : Ending} {c : Context} {u : Unit} {l : Units} {r : Refusal}
+        → ReadsScripts c before x.atom (no_scripts x.atom.kind x.limits) m o
+        → ReadsAtom ending c before u l o
+    base_refused : {ending : Ending} {c : Context} {before : Before} {u : Unit} {l : Units} {r : Refusal}
         → atom_start ending u.piece ≡ RuleStart
         → ReadsRule (rule u.place c u.piece) l (Refused r)
-        → ReadsAtom ending c u l (Refused r)
+        → ReadsAtom ending c before u l (Refused r)
 
   -- the outcome of a row with the atoms that follow, up to their ending, which is taken unless it ends a cell
   pub data ReadsAtoms : Ending → Context → Row → Units → Outcome Row → Type 0 where
@@ -242,13 +242,13 @@ mutual
     atom_read : {ending : Ending} {c : Context} {row : Row} {l m n : Units} {u : Unit} {x : Atom} {o : Outcome Row}
         → past_space l ≡ Next u m
         → IsFalse (ends ending u.piece)
-        → ReadsAtom ending c u m (Read x n)
+        → ReadsAtom ending c row.before u m (Read x n)
         → ReadsAtoms ending c (with_atom c.style row x) n o
         → ReadsAtoms ending c row l o
     atom_refused : {ending : Ending} {c : Context} {row : Row} {l m : Units} {u : Unit} {r : Refusal}
         → past_space l ≡ Next u m
         → IsFalse (ends ending u.piece)
-        → ReadsAtom ending c u m (Refused r)
+        → ReadsAtom ending c row.before u m (Refused r)
         → ReadsAtoms ending c row l (Refused r)
     -- a change, and what follows it
     rest_read : {ending : Ending} {c d : Context} {row xs : Row} {change : Change} {l m n : Units} {u : Unit} {o : Outcome Row}
@@ -310,11 +310,11 @@ mutual
         → ReadsWord place a ws (Next u l) o
     formula_read : {place : ℕ} {a : Option Alphabet} {ws : Words} {l m : Units} {u : Unit} {row : Row}
         → word_rule a u.piece ≡ BeginsFormula
-        → ReadsAtoms (InDollars u.place) (in_context InText None) empty_row l (Read row m)
-        → ReadsWord place a ws (Next u l) (Read (with_word ws (Formula (row_element row.elements))) m)
+        → ReadsAtoms (InDollars u.place) (in_context InText None) (begun (InDollars u.place)) l (Read row m)
+        → ReadsWord place a ws (Next u l) (Read (with_word ws (Formula (row_element (lone row.last row.elements)))) m)
     formula_refused : {place : ℕ} {a : Option Alphabet} {ws : Words} {l : Units} {u : Unit} {r : Refusal}
         → word_rule a u.piece ≡ BeginsFormula
-        → ReadsAtoms (InDollars u.place) (in_context InText None) empty_row l (Refused r)
+        → ReadsAtoms (InDollars u.place) (in_context InText None) (begun (InDollars u.place)) l (Refused r)
         → ReadsWord place a ws (Next u l) (Refused r)
     words_in_alphabet : {place : ℕ} {a b : Option Alphabet} {ws : Words} {l : Units} {u : Unit} {o : Outcome Words}
         → word_rule a u.piece ≡ TakesWords b
