@@ -48,9 +48,16 @@ pub unchanged : (f : Element → Element) (depth : ℕ) (xs : List Element) → 
 unchanged f depth xs stays = unchanged_at f depth xs (λ x e. stays x)
 
 -- an element that is changed as a sign between two operands
-pub infix_there : (style : Style) (first : Bool) (before : Before) (xs : List Element) → Atoms.begins_operand before ≡ false → changed_at (Atoms.tight style) 0 (changed_at (Atoms.as_infix first) 0 xs) ≡ changed_at (Atoms.element_there style first before Atoms.PlusOrMinus) 0 xs
-infix_there style first before [] none = refl
-infix_there style first before (x ∷ xs) none = rw none
+pub infix_there : (depth : ℕ) (style : Style) (first : Bool) (before : Before) (xs : List Element) → Atoms.begins_operand before ≡ false → changed_at (Atoms.tight style) depth (changed_at (Atoms.as_infix first) depth xs) ≡ changed_at (Atoms.element_there style first before Atoms.PlusOrMinus) depth xs
+infix_there depth style first before [] none = refl
+infix_there zero style first before (x ∷ xs) none = rw none
+infix_there (suc depth) style first before (x ∷ xs) none = ap (λ ys. x ∷ ys) (infix_there depth style first before xs none)
+
+-- one change after another
+pub changed_twice : (f g : Element → Element) (depth : ℕ) (xs : List Element) → changed_at g depth (changed_at f depth xs) ≡ changed_at (λ x. g (f x)) depth xs
+changed_twice f g depth [] = refl
+changed_twice f g zero (x ∷ xs) = refl
+changed_twice f g (suc depth) (x ∷ xs) = ap (λ ys. x ∷ ys) (changed_twice f g depth xs)
 
 pub length_changed : (f : Element → Element) (depth : ℕ) (xs : List Element) → length (changed_at f depth xs) ≡ length xs
 length_changed f depth [] = refl
@@ -85,6 +92,10 @@ no_infix false x h = refl
 pub no_space : (x : Element) → token_of_element x ≡ None → Atoms.without_space x ≡ x
 no_space (token t a text) h = cc
 no_space x h = refl
+
+pub no_lead : (x : Element) → token_of_element x ≡ None → Atoms.without_space_before x ≡ x
+no_lead (token t a text) h = cc
+no_lead x h = refl
 
 pub no_sign_alone : (style : Style) (class : Class) (x : Element) → token_of_element x ≡ None → Atoms.lone_sign style class x ≡ x
 no_sign_alone style class (token Mo a text) h = cc
@@ -123,11 +134,12 @@ module _ (tag : CodeToken) (other : tag ≡ code_token.Mo → ⊥) where
   no_operator_alone style class x a h = refl
 
 -- a sign that keeps its space everywhere
-pub spaced_sign : (style : Style) (first : Bool) (before : Before) (class : CodeClass) → (class ≡ code_class.Binary → ⊥) → (class ≡ code_class.Relation → ⊥) → (class ≡ code_class.Punctuation → ⊥) → (x : Element) → Atoms.element_there style first before (Atoms.SignOf (class_of class)) x ≡ x
-spaced_sign style first before code_class.Binary b r p x = absurd (b refl)
-spaced_sign style first before code_class.Relation b r p x = absurd (r refl)
-spaced_sign style first before code_class.Punctuation b r p x = absurd (p refl)
-spaced_sign style first before class b r p x = refl
+pub spaced_sign : (style : Style) (first : Bool) (before : Before) (class : CodeClass) → (class ≡ code_class.Binary → ⊥) → (class ≡ code_class.Relation → ⊥) → (class ≡ code_class.Punctuation → ⊥) → (class ≡ code_class.Operator → ⊥) → (x : Element) → Atoms.element_there style first before (Atoms.SignOf (class_of class)) x ≡ x
+spaced_sign style first before code_class.Binary b r p o x = absurd (b refl)
+spaced_sign style first before code_class.Relation b r p o x = absurd (r refl)
+spaced_sign style first before code_class.Punctuation b r p o x = absurd (p refl)
+spaced_sign style first before code_class.Operator b r p o x = absurd (o refl)
+spaced_sign style first before class b r p o x = refl
 
 -- an element that is neither a binary sign nor a relation
 pub no_base_changed : (style : Style) (class : Class) (own : CodeClass) → (own ≡ code_class.Binary → ⊥) → (own ≡ code_class.Relation → ⊥) → (x : Element) → Atoms.element_as style class (class_of own) x ≡ x
@@ -135,11 +147,17 @@ no_base_changed style class code_class.Binary b r x = absurd (b refl)
 no_base_changed style class code_class.Relation b r x = absurd (r refl)
 no_base_changed style class own b r x = refl
 
+-- an element that is neither a sign of its own nor an operator
+pub no_operator_there : (style : Style) (first : Bool) (before : Before) (class : CodeClass) → (class ≡ code_class.Operator → ⊥) → (x : Element) → Atoms.element_there style first before (Atoms.Plain (class_of class)) x ≡ x
+no_operator_there style first before code_class.Operator o x = absurd (o refl)
+no_operator_there style first before class o x = refl
+
 -- an element that is no sign
-pub no_sign : (style : Style) (first : Bool) (before : Before) (kind : CodeKind) → ((class : CodeClass) → kind ≡ code_kind.SignOf class → ⊥) → (kind ≡ code_kind.PlusOrMinus → ⊥) → (x : Element) → Atoms.element_there style first before (kind_of kind) x ≡ x
-no_sign style first before (code_kind.SignOf class) s p x = absurd (s class refl)
-no_sign style first before code_kind.PlusOrMinus s p x = absurd (p refl)
-no_sign style first before kind s p x = refl
+pub no_sign : (style : Style) (first : Bool) (before : Before) (kind : CodeKind) → ((class : CodeClass) → kind ≡ code_kind.SignOf class → ⊥) → (kind ≡ code_kind.PlusOrMinus → ⊥) → ((class : CodeClass) → kind ≡ code_kind.Plain class → ⊥) → (x : Element) → Atoms.element_there style first before (kind_of kind) x ≡ x
+no_sign style first before (code_kind.SignOf class) s p o x = absurd (s class refl)
+no_sign style first before code_kind.PlusOrMinus s p o x = absurd (p refl)
+no_sign style first before (code_kind.Plain class) s p o x = absurd (o class refl)
+no_sign style first before kind s p o x = refl
 
 -- what separates an atom that is no space from those before it
 pub parted_there : (style : Style) (before : Before) (kind : CodeKind) → (kind ≡ code_kind.Blank → ⊥) → Atoms.parts style before (Atoms.past before (kind_of kind)) ≡ Atoms.is_parted style before (kind_of kind)

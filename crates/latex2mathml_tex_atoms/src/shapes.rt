@@ -101,7 +101,7 @@ pub fn isolate(builder: &mut Builder, count: usize, last: Kind)
     ensures length { length (elements_in builder.new) ≡ length (elements_in builder.old) }
 {
     if count == 1 && last.is_spaced() {
-        remove_space(builder);
+        remove_space(builder, 0);
     }
 }
 
@@ -325,7 +325,7 @@ fn put_adapted(
         Joining::ToRelations => return Ok(join_relations(builder, count)),
         Joining::Apart => {}
     }
-    adapt(builder, style, count == 0, before, kind);
+    adapt(builder, 0, style, count == 0, before, kind);
     if before.is_parted(style, kind) {
         builder.space_below(3)?;
         // all elements of a row are among those of the builder, so their number fits in a `usize`

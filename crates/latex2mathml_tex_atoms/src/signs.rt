@@ -1,9 +1,10 @@
 //! Signs: how they are adapted to their position in a row.
-ghost use Rattle.std.specs.Prelude.{◌≡◌, ◌≢◌, false, IsTrue, option_map};
+ghost use Rattle.std.specs.Prelude.{◌≡◌, ◌≢◌, Bool, false, IsTrue, option_map};
 ghost use Rattle.latex2mathml_attributes.specs.Names.{space_of};
 ghost use Rattle.latex2mathml_elements.specs.Element.{Element};
 ghost use Rattle.latex2mathml_tex_grammar.specs.Atoms;
 ghost use Rattle.latex2mathml_tex_grammar.specs.Rows;
+ghost use Rattle.latex2mathml_tex_grammar.specs.Symbols;
 ghost use Rattle.latex2mathml_tex_grammar.specs.Symbols.{Relation};
 ghost use Rattle.latex2mathml_tex_commands.specs.Meanings.{class_of, style_of};
 ghost use Rattle.latex2mathml_tex_atoms.specs.Models.{before_of, kind_of};
@@ -80,7 +81,7 @@ pub fn adapt(
 {
     match kind {
         Kind::SignOf(class) => adapt_sign(builder, depth, style, first, before, class),
-        Kind::Plain(Class::Operator) => lead(builder, depth, before.leads_operator()),
+        Kind::Plain(class) => adapt_plain(builder, depth, before, class),
         Kind::PlusOrMinus => {
             if before.begins_operand() {
                 make_prefix(builder, depth);
@@ -116,6 +117,18 @@ fn adapt_sign(
             tighten(builder, depth, style);
         }
         Class::Binary | Class::Punctuation => tighten(builder, depth, style),
+        Class::Operator => lead(builder, depth, before.leads_operator()),
+        _ => {}
+    }
+}
+
+/// Adapts an element of this class that is not a sign of its own. Only an operator may change.
+fn adapt_plain(builder: &mut Builder, depth: usize, before: Before, class: Class)
+    ensures { (style : Symbols.Style) (first : Bool) → ChangesAt
+        (Atoms.element_there style first (before_of before) (Atoms.Plain (class_of class)))
+        depth builder.old builder.new }
+{
+    match class {
         Class::Operator => lead(builder, depth, before.leads_operator()),
         _ => {}
     }

@@ -9,15 +9,15 @@ use Rattle.latex2mathml_tex_atoms.proofs.signs.make_infix.Goals.{else-first-via-
 pub returns-in-Some : goal.returns-in-Some
 returns-in-Some c =
     c.give.ensures.elements
-    ∙ given_changed (Atoms.as_infix c.args.first) (token_of c.in-Some.field-0-0) (attributes_of c.in-Some.attributes) _ (λ text. rw c.if-first.true) 0 (elements_in c.args.builder.now) c.in-Some.ensures
+    ∙ given_changed (Atoms.as_infix c.args.first) (token_of c.in-Some.field-0-0) (attributes_of c.in-Some.attributes) _ (λ text. rw c.if-first.true) c.args.depth (elements_in c.args.builder.now) c.in-Some.ensures
 
 pub returns-else-first : goal.returns-else-first
 returns-else-first c =
     let elements = elements_in c.args.builder.now in
     let put = Atoms.as_infix c.args.first in
     elim c.else-first.branch [
-      | else-first-via-else-first w ↦ sym (unchanged put 0 elements (λ x. rw w.if-first.false))
+      | else-first-via-else-first w ↦ sym (unchanged put c.args.depth elements (λ x. rw w.if-first.false))
       | else-first-via-then-first+in-None-1 w ↦
-          let missing : token_at 0 elements ≡ None = search rules in
-          sym (unchanged_at put 0 elements (λ x e. no_infix c.args.first x (e ∙ missing)))
+          let missing : token_at c.args.depth elements ≡ None = search rules in
+          sym (unchanged_at put c.args.depth elements (λ x e. no_infix c.args.first x (e ∙ missing)))
     ]

@@ -8,7 +8,7 @@ use Rattle.latex2mathml_tex_atoms.proofs.signs.make_prefix.Goals as goal
 pub returns-in-Some : goal.returns-in-Some
 returns-in-Some c =
     c.give.ensures.elements
-    ∙ given_changed Atoms.as_prefix (token_of c.in-Some.field-0-0) (attributes_of c.in-Some.attributes) _ (λ text. refl) 0 (elements_in c.args.builder.now) c.in-Some.ensures
+    ∙ given_changed Atoms.as_prefix (token_of c.in-Some.field-0-0) (attributes_of c.in-Some.attributes) _ (λ text. refl) c.args.depth (elements_in c.args.builder.now) c.in-Some.ensures
 
 pub returns-in_default : goal.returns-in_default
-returns-in_default c = sym (unchanged_at Atoms.as_prefix 0 (elements_in c.args.builder.now) (λ x e. no_prefix x (e ∙ c.in_default.ensures)))
+returns-in_default c = sym (unchanged_at Atoms.as_prefix c.args.depth (elements_in c.args.builder.now) (λ x e. no_prefix x (e ∙ c.in_default.ensures)))

@@ -8,7 +8,7 @@ use Rattle.latex2mathml_tex_atoms.proofs.signs.remove_space.Goals as goal
 pub returns-in-Some : goal.returns-in-Some
 returns-in-Some c =
     c.give.ensures.elements
-    ∙ given_changed Atoms.without_space (token_of c.in-Some.field-0-0) (attributes_of c.in-Some.attributes) _ (λ text. refl) 0 (elements_in c.args.builder.now) c.in-Some.ensures
+    ∙ given_changed Atoms.without_space (token_of c.in-Some.field-0-0) (attributes_of c.in-Some.attributes) _ (λ text. refl) c.args.depth (elements_in c.args.builder.now) c.in-Some.ensures
 
 pub returns-in_default : goal.returns-in_default
-returns-in_default c = sym (unchanged_at Atoms.without_space 0 (elements_in c.args.builder.now) (λ x e. no_space x (e ∙ c.in_default.ensures)))
+returns-in_default c = sym (unchanged_at Atoms.without_space c.args.depth (elements_in c.args.builder.now) (λ x e. no_space x (e ∙ c.in_default.ensures)))

@@ -7,4 +7,4 @@ use Rattle.latex2mathml_tex_atoms.proofs.signs.tighten.Goals as goal
 
 pub returns-in-InDisplay : goal.returns-in-InDisplay
 returns-in-InDisplay c =
-    sym (unchanged (Atoms.tight (style_of c.args.style)) 0 (elements_in c.args.builder.now) (λ x. ⊎_elim (λ is. rw is) (λ is. rw is) c.in-InDisplay.is))
+    sym (unchanged (Atoms.tight (style_of c.args.style)) c.args.depth (elements_in c.args.builder.now) (λ x. ⊎_elim (λ is. rw is) (λ is. rw is) c.in-InDisplay.is))
