@@ -11,8 +11,10 @@ from tests.test_page import judge, settle, spaces_between
 
 # a relation that joins no other one, since it has a size of its own
 SIZED = r"\bigm|"
-# atoms of each class of TeX; an operator is a name, since a browser gives a sign such as the sum a space of its own
-ATOMS = {"ordinary": ["c", "2", r"\frac cd", r"\sqrt c", "{=}", "{,}", "|"], "operator": [r"\sin", r"\mathop{c}", r"\lim_c"],
+# operators that are signs, to which a browser gives a space of their own
+SUMS = {r"\sum", r"\int_c"}
+# atoms of each class of TeX
+ATOMS = {"ordinary": ["c", "2", r"\frac cd", r"\sqrt c", "{=}", "{,}", "|"], "operator": [r"\sin", r"\mathop{c}", r"\lim_c", *SUMS],
          "binary": ["+", "-"], "relation": ["=", r"\to", ":", SIZED], "opening": ["(", r"\bigl("], "closing": [")", r"\rangle"],
          "punctuation": [",", ";"], "inner": [r"\ldots", r"\left(c\right)", r"\begin{pmatrix}c\end{pmatrix}"]}
 # the ems of the spaces that the table names
@@ -46,12 +48,16 @@ def due(left, right, in_script):
     return [0 if in_script and cell.startswith("(") else EMS[cell.strip("()")] for cell in cells]
 
 
-def keeps_space(left, right, one, other):
-    """Whether a sign has space there, except in scripts, where TeX leaves none: docs/DECISIONS.md says why."""
+def keeps_space(left, right, one, other, in_script):
+    """Whether a sign has space there where TeX leaves none, or less: docs/DECISIONS.md says why."""
+    if one in SUMS:
+        return right in {"relation", "opening", "closing", "punctuation"} or in_script and right == "inner"
+    if in_script:
+        return False
     if left == right == "relation":
         return SIZED in (one, other)
     return (left in {"binary", "relation"} and right in {"closing", "punctuation"} or (left, right) == ("binary", "relation")
-            or left in {"opening", "punctuation"} and right == "relation")
+            or left in {"opening", "punctuation"} and other == SIZED)
 
 
 @requires("chromium")
@@ -69,7 +75,7 @@ class AsTexSpaces(Case):
                 # relations next to each other are one sign
                 wanted = [ems[0], ems[-1]] if len(gaps) == 2 else ems
                 alike = all(math.isclose(gap, em, abs_tol=NEARLY) for gap, em in zip(gaps, wanted, strict=True))
-                self.assertEqual(alike, in_script or not keeps_space(left, right, one, other), f"found {gaps}, TeX {wanted}")
+                self.assertEqual(alike, not keeps_space(left, right, one, other, in_script), f"found {gaps}, TeX {wanted}")
 
     def test_in_text(self):
         self.compare("{}", in_script=False)

@@ -4,11 +4,11 @@ use Rattle.std.specs.{Prelude.⊤, Str.chars}
 use Rattle.latex2mathml_elements.specs.{Annotated.IsAnnotatedMathElement, Annotated.annotated_print, Characters.IsAllowed, Dollars.IsDollarFree, Element.Element, Element.children, Print.formula_print}
 use Rattle.latex2mathml_elements.proofs.{Annotated.annotated_print_as_elements, OneElement.print_as_elements}
 use Rattle.latex2mathml_trees.specs.MathSchema.{IsMathElement}
-use Rattle.latex2mathml_tex_grammar.specs.{Atoms.Atom, DefinitionTexts.Defines, Macros.SameMacros, Macros.Table, Makes.Core, Makes.is_display, Makes.no_scripts, Meaning.Beside, Refusal.Kind, Refusal.Refusal, Refusal.refusal_at, Rests.finished, Rows.Row, Rows.empty_row, Rows.row_element, Rows.with_atom, Symbols.Style}
+use Rattle.latex2mathml_tex_grammar.specs.{Atoms.Atom, Atoms.Before, DefinitionTexts.Defines, Macros.SameMacros, Macros.Table, Makes.Core, Makes.is_display, Makes.no_scripts, Meaning.Beside, Refusal.Kind, Refusal.Refusal, Refusal.refusal_at, Rests.finished, Rows.Row, Rows.empty_row, Rows.row_element, Rows.with_atom, Symbols.Style}
 use Rattle.latex2mathml_tex_grammar.specs.Formulas.{IsExpansion, IsReading, ReadsFormula, as_atoms, as_rows, formula_context, is_outside, row_print, row_print_with_source, shown, source_text}
 use Rattle.latex2mathml_tex_grammar.specs.Formulas as formula
 use Rattle.latex2mathml_tex_grammar.specs.Reading.{Outcome, Read, Refused, ReadsAtoms, text_ends, never_ended, atoms_stopped, atoms_end, atom_read, atom_refused, rest_read, change_refused, ReadsRule, rule_gives, rows_read, rows_to_end, ReadsScripts, scripts_end, mark_taken, script_read, script_refused, mark_refused}
-use Rattle.latex2mathml_tex_grammar.specs.{Rules.WholeText, Rules.rows_of_text, Units.End, Units.Units}
+use Rattle.latex2mathml_tex_grammar.specs.{Rules.WholeText, Rules.begun, Rules.rows_of_text, Units.End, Units.Units}
 use Rattle.latex2mathml_tex_grammar.proofs.{AllowedReadings.markup_allowed, AllowedReadings.markup_with_source_allowed, Readings.expanded, Readings.has_expansion, Readings.rows_end_text, Readings.same_expansion}
 use Rattle.latex2mathml_tex_units.specs.MacroTables.{macros_in}
 use Rattle.latex2mathml_tex_commands.specs.Meanings.{style_of}
@@ -31,12 +31,12 @@ begins p e = record { style = refl; claims = rw e (λ o d. d) }
 
 -- before the first step the outcome of the formula is that of its units as rows, which are one atom
 
-only_atom : (style : Style) (base : Atom) (o : Outcome Atom) {at : ℕ} → ReadsScripts (formula_context style) base (no_scripts base.kind Beside) (End at) o → o ≡ Read base (End at)
-only_atom style base o (scripts_end s) = refl
-only_atom style base o (mark_taken p s d) = cc
-only_atom style base o (script_read p s d ds) = cc
-only_atom style base o (script_refused p s d) = cc
-only_atom style base o (mark_refused p s) = cc
+only_atom : (style : Style) (before : Before) (base : Atom) (o : Outcome Atom) {at : ℕ} → ReadsScripts (formula_context style) before base (no_scripts base.kind Beside) (End at) o → o ≡ Read base (End at)
+only_atom style before base o (scripts_end s) = refl
+only_atom style before base o (mark_taken p s d) = cc
+only_atom style before base o (script_read p s d ds) = cc
+only_atom style before base o (script_refused p s d) = cc
+only_atom style before base o (mark_refused p s) = cc
 
 only_row : (style : Style) (row : Row) (o : Outcome Row) {at : ℕ} → ReadsAtoms WholeText (formula_context style) row (End at) o → o ≡ Read (finished style row) (End at)
 only_row style row o (text_ends p s) = cc
@@ -52,8 +52,8 @@ rows_made : (s : Start) (l : Units) → s.units ≡ l → s.form ≡ form.Rows �
 rows_made s l same rows (Refused r) d = rw rows (Refused r, rw same d, refl)
 rows_made s l same rows (Read x m) (rows_read e p rule_gives) = (let (at, end) = rows_end_text e in cc (p, end))
 rows_made s l same rows (Read x m) (rows_to_end {at = at} {lines = lines} e p rule_gives) = λ o scripts.
-    rw (only_atom s.style x.atom o scripts) (λ q d.
-    rw (only_row s.style (with_atom s.style empty_row x.atom) q d, rows) (Read x (End at), rw same (rows_to_end e p rule_gives), refl))
+    rw (only_atom s.style _ x.atom o scripts) (λ q d.
+    rw (only_row s.style (with_atom s.style (begun WholeText) x.atom) q d, rows) (Read x (End at), rw same (rows_to_end e p rule_gives), refl))
 
 pub begins_rows : (p : Parser) → p.frames.stack.items ≡ [] → Begins (rows_of_text (context_at (level 0 (start_of form.Rows p) p))) 0 (start_of form.Rows p) p
 begins_rows p e =

@@ -52,6 +52,14 @@ module _ (s : Start) (p : Parser) (b : Built) (place : ℕ) (row : CodeRow) wher
   pub group_closed : elements_in b ≡ group ∷ drop row.count (elements_of p) → (c : CodeCore) → ((x : Element) → core_with c x ≡ core (atom (Plain Ordinary) row.high x)) → ClosesRow ending.Group place row s p → Holds s (record p { builder = b }) (state.Core c)
   group_closed one c is g = record { style = g.style; claims = rw (one, is group) (rw none_beside at (given g.leads)) }
 
+  pub formula_closed : elements_in b ≡ group ∷ drop row.count (elements_of p) → (ws : CodeWords) → ClosesRow (ending.Formula ws) place row s p → Holds s (record p { builder = b }) (state.Words (record { count = ws.count + 1; ends_in_text = false }))
+  formula_closed one ws g =
+      let behind = drop row.count (elements_of p) in
+      let first : take (ws.count + 1) (elements_in b) ≡ group ∷ take ws.count behind = ap (take (ws.count + 1)) one ∙ take_more ws.count group behind in
+      let others : drop (ws.count + 1) (elements_in b) ≡ drop (row.count + ws.count) (elements_of p) =
+      ap (drop (ws.count + 1)) one ∙ drop_more ws.count group behind ∙ drop-drop ws.count row.count (elements_of p) in
+      record { style = g.style; claims = rw (first, others) g.leads }
+
 module _ (s : Start) (p : Parser) (b : Built) (place : ℕ) (row : CodeRow) (one : IsOne row p b) where
   -- the operand of the root is due, in the context of the level
   pub degree_closed : (f : Frame) (c : Context) → InnermostIs f p → c ≡ frame_context f → ClosesRow ending.Degree place row s p → Leads (level_within (frame.Last last.Root place c) 0 s (record p { builder = b })) (left_of p)
@@ -69,12 +77,3 @@ module _ (s : Start) (p : Parser) (b : Built) (place : ℕ) (row : CodeRow) (one
       let behind = drop row.count (elements_of p) in
       let others : drop 1 behind ≡ drop (row.count + 1) (elements_of p) = drop-drop 1 row.count (elements_of p) in
       rw (one, within, others) (operand_due (λ y. gives (labeled_arrow (top behind) x y.element)) g.leads)
-
-  pub formula_closed : (ws : CodeWords) → ClosesRow (ending.Formula ws) place row s p → Holds s (record p { builder = b }) (state.Words (record { count = ws.count + 1; ends_in_text = false }))
-  formula_closed ws g =
-      let x = row_element (take row.count (elements_of p)) in
-      let behind = drop row.count (elements_of p) in
-      let first : take (ws.count + 1) (elements_in b) ≡ x ∷ take ws.count behind = ap (take (ws.count + 1)) one ∙ take_more ws.count x behind in
-      let others : drop (ws.count + 1) (elements_in b) ≡ drop (row.count + ws.count) (elements_of p) =
-      ap (drop (ws.count + 1)) one ∙ drop_more ws.count x behind ∙ drop-drop ws.count row.count (elements_of p) in
-      record { style = g.style; claims = rw (first, others) g.leads }

@@ -8,7 +8,7 @@ use Rattle.latex2mathml_tex_grammar.specs.Reading.{Outcome, Read, Refused, Reads
 use Rattle.latex2mathml_tex_grammar.specs.Refusal.{Kind, MissingArgument, UnclosedBrace, MissingDelimiter, Refusal, refusal_at}
 use Rattle.latex2mathml_tex_grammar.specs.Rests.{Rest, GoesOnIn, NoRest, finished, rest_of}
 use Rattle.latex2mathml_tex_grammar.specs.Rows.{Operand, Row, empty_row, single}
-use Rattle.latex2mathml_tex_grammar.specs.Rules.{Context, in_context, styled, Ending, InBraces, InDollars, Rule, gives, refuses, reads_operand, reads_core, reads_atoms, reads_words, takes_if, if_follows, takes_digits, takes_delimiter, rule, takes_found, passes_over, reads_rows, TableEnd}
+use Rattle.latex2mathml_tex_grammar.specs.Rules.{Context, in_context, styled, Ending, InBraces, InDollars, begun, Rule, gives, refuses, reads_operand, reads_core, reads_atoms, reads_words, takes_if, if_follows, takes_digits, takes_delimiter, rule, takes_found, passes_over, reads_rows, TableEnd}
 use Rattle.latex2mathml_tex_grammar.specs.Starts.{ChangeStart, ScriptStart, RuleStart, NoStart, GroupStart, DigitStart, OtherStart, atom_start, operand_start, mark_of, GoesOn, TakesOperand, Forbidden, step_of_mark, step_next, empty_base, ends, unended, is_close, left_behind}
 use Rattle.latex2mathml_elements.specs.Columns.{Columns}
 use Rattle.latex2mathml_tex_grammar.specs.Scanning.{Spot, BeforeRow, Given, Missing, past, scan}
@@ -33,7 +33,7 @@ module _ {K : Outcome Core → Type 0} {l : Units} where
   operand_due then k (Read x m) d = record { to = λ o ds. k.to o (operand_read d ds) }
   operand_due then k (Refused r) d = k.to _ (operand_refused d)
 
-  pub row_due : {ending : Ending} {c : Context} (then : Row → Rule) → RuleLeads (reads_atoms ending c then) K l → Leads (row ending c empty_row (Then then K)) l
+  pub row_due : {ending : Ending} {c : Context} (then : Row → Rule) → RuleLeads (reads_atoms ending c then) K l → Leads (row ending c (begun ending) (Then then K)) l
   row_due then k (Read x m) d = record { to = λ o ds. k.to o (atoms_read d ds) }
   row_due then k (Refused r) d = k.to _ (atoms_refused d)
 
@@ -104,7 +104,7 @@ module _ {ending : Ending} {c : Context} {xs : Row} {K : Outcome Row → Type 0}
   row_ended p e k = k _ (atoms_end p e)
 
   -- an atom begins
-  pub atom_due : {u : Unit} {m : Units} → past_space l ≡ Next u m → IsFalse (ends ending u.piece) → Leads (row ending c xs K) l → (o : Outcome Atom) → ReadsAtom ending c u m o → AtomMade (row ending c xs K) o
+  pub atom_due : {u : Unit} {m : Units} → past_space l ≡ Next u m → IsFalse (ends ending u.piece) → Leads (row ending c xs K) l → (o : Outcome Atom) → ReadsAtom ending c xs.before u m o → AtomMade (row ending c xs K) o
   atom_due p e k (Read x n) d = λ o ds. k o (atom_read p e d ds)
   atom_due p e k (Refused r) d = k _ (atom_refused p e d)
 
@@ -134,7 +134,7 @@ ScriptLeads level base with_operand (Read x n) = ScriptsLead level base (with_op
 ScriptLeads level base with_operand (Refused r) = AtomMade level (Refused r)
 
 module _ (ending : Ending) (c : Context) (xs : Row) (K : Outcome Row → Type 0) {l : Units} where
-  pub scripts_ended : {base : Atom} {scripts : Scripts} → step_next scripts (past_space l) ≡ None → ScriptsLead (row ending c xs K) base scripts l → AtomMade (row ending c xs K) (Read (scripted c.style base scripts) l)
+  pub scripts_ended : {base : Atom} {scripts : Scripts} → step_next scripts (past_space l) ≡ None → ScriptsLead (row ending c xs K) base scripts l → AtomMade (row ending c xs K) (Read (scripted c.style xs.before base scripts) l)
   scripts_ended e k = k _ (scripts_end e)
 
   pub marked : {base : Atom} {scripts more : Scripts} {u : Unit} {m : Units} → past_space l ≡ Next u m → step_of_mark scripts (mark_of u.piece) ≡ Some (GoesOn more) → ScriptsLead (row ending c xs K) base scripts l → ScriptsLead (row ending c xs K) base more m
@@ -198,7 +198,7 @@ module _ (level : Level) {place : ℕ} {a : Option Alphabet} {ws : Words} {l : U
   pub group_of_words_due : word_rule a u.piece ≡ BeginsGroup → WordLeads level place a ws (Next u l) → PartMade (words u.place a (PartMade level)) (Read ws l)
   group_of_words_due e k = λ o d. k o (group_of_words e d)
 
-  pub formula_due : word_rule a u.piece ≡ BeginsFormula → WordLeads level place a ws (Next u l) → Leads (row (InDollars u.place) (in_context InText None) empty_row (λ o. PartMade level (as_words ws o))) l
+  pub formula_due : word_rule a u.piece ≡ BeginsFormula → WordLeads level place a ws (Next u l) → Leads (row (InDollars u.place) (in_context InText None) (begun (InDollars u.place)) (λ o. PartMade level (as_words ws o))) l
   formula_due e k (Read xs m) d = k _ (formula_read e d)
   formula_due e k (Refused r) d = k _ (formula_refused e d)
 

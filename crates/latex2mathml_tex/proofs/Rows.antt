@@ -14,12 +14,12 @@ use Rattle.latex2mathml_tex.specs.Frames.{RowMade, Start, base_of, element_count
 use Rattle.latex2mathml_tex.specs.Innermost.{IsInnermost, frame_row, none_begun, on_top}
 use Rattle.latex2mathml_tex.specs.Levels.{AtomMade, Leads, Refuses}
 use Rattle.latex2mathml_tex_commands.specs.Meanings.{style_of}
-use Rattle.latex2mathml_tex_atoms.specs.Models.{context_of, core_with, row_count, row_rest, row_with, script_count, scripts_with, top}
+use Rattle.latex2mathml_tex_atoms.specs.Models.{before_of, context_of, core_with, row_count, row_rest, row_with, script_count, scripts_with, top}
 use Rattle.latex2mathml_tex.specs.Steps.{Awaits, BeginsDivider, CanMake, Follows, HasElements, Holds, Advances, MadeAtom, TookMark, accepts, are_nested, atom_made, core_made, elements_of, first_accepts, frame_weight, left_of, level, row_makes, to_do}
 use Rattle.std.specs.declared.alloc.AllocError.{AllocError}
 use Rattle.latex2mathml_tex_units.specs.declared.{error.TexError.TexError, input.Input.Input}
 use Rattle.latex2mathml_tex_commands.specs.declared.meaning.Style.{Style}
-use Rattle.latex2mathml_tex_atoms.specs.declared.{atoms.Context.Context, atoms.Core.Core as CodeCore, atoms.Row.Row as CodeRow, atoms.Scripts.Scripts as CodeScripts}
+use Rattle.latex2mathml_tex_atoms.specs.declared.{atoms.Before.Before as CodeBefore, atoms.Context.Context, atoms.Core.Core as CodeCore, atoms.Row.Row as CodeRow, atoms.Scripts.Scripts as CodeScripts}
 use Rattle.latex2mathml_tex.specs.declared.{parse.Parser.Parser, parse.State.State, parse.scripts.Mark.Mark}
 use Rattle.latex2mathml_tex_atoms.specs.declared.atoms.Kind.TheVariants as kind
 use Rattle.latex2mathml_tex_commands.specs.declared.meaning.Class.TheVariants as class
@@ -33,13 +33,13 @@ use Rattle.latex2mathml_tex.proofs.Marks.{all_refuse, atom_refuses}
 use Rattle.latex2mathml_tex_grammar.specs.Makes.{Scripts, scripted}
 use Rattle.latex2mathml_tex_grammar.specs.Starts.{mark_of, step_next, step_of_mark}
 use Rattle.latex2mathml_tex_units.specs.{Left.put_back, Taking.piece_of}
-use Rattle.latex2mathml_tex.specs.{Frames.context_at, Innermost.frame_context, Steps.InnermostIs}
+use Rattle.latex2mathml_tex.specs.{Frames.before_at, Frames.context_at, Innermost.frame_context, Steps.InnermostIs}
 use Rattle.latex2mathml_tex.specs.Levels.{Level, ScriptsLead}
 use Rattle.latex2mathml_tex.specs.Levels as levels
 use Rattle.latex2mathml_tex_units.specs.declared.unit.{Next.Next as CodeNext, Unit.Unit as CodeUnit}
 use Rattle.latex2mathml_tex_units.specs.declared.unit.Next.TheVariants as next
 use Rattle.latex2mathml_tex.proofs.Leading.{scripts_ended}
-use Rattle.latex2mathml_tex.proofs.Opening.{context_is, into_frame, out_of_frame}
+use Rattle.latex2mathml_tex.proofs.Opening.{before_is, context_is, into_frame, out_of_frame}
 use Rattle.latex2mathml_tex.specs.{Innermost.IsLonger, declared.parse.frames.Frames.Frames}
 
 -- A row with an atom after it
@@ -214,20 +214,22 @@ no_step scripts (next.Unit u) l w e h = rw e (ap (step_of_mark scripts) (h u ref
 no_step scripts (next.End place) l w e h = rw e refl
 no_step scripts (next.Fault fault place) l w e h = rw e refl
 
-ended : (l : Level) (base : Atom) (scripts : Scripts) (m : Units) → step_next scripts (past_space m) ≡ None → ScriptsLead l base scripts m → AtomMade l (Read (scripted (context_at l).style base scripts) m)
+ended : (l : Level) (base : Atom) (scripts : Scripts) (m : Units) → step_next scripts (past_space m) ≡ None → ScriptsLead l base scripts m → AtomMade l (Read (scripted (context_at l).style (before_at l) base scripts) m)
 ended (levels.row e c xs K) base scripts m h k = scripts_ended e c xs K h k
 ended l base scripts m h k = absurd k
 
-pub scripts_made : (s : Start) (p : Parser) (b : Built) (c made : CodeCore) (scripts : CodeScripts) (f : Frame) (context : Context) (n : CodeNext) (l : Units) → context ≡ frame_context f → InnermostIs f p → past_space (left_of p) ≡ put_back n l → ((u : CodeUnit) → n ≡ next.Unit u → mark_of (piece_of u.piece) ≡ None) → (core_with made (top (elements_in b))).atom ≡ scripted (style_of context.style) (base_of c scripts (elements_of p)).atom (scripts_with scripts (elements_of p)) → drop 1 (elements_in b) ≡ drop (script_count scripts + 1) (elements_of p) → Holds s p (state.Atom c scripts) → MadeAtom made s (record p { builder = b })
-scripts_made s p b c made scripts f context n l is inner seen none atom below g =
+pub scripts_made : (s : Start) (p : Parser) (b : Built) (c made : CodeCore) (scripts : CodeScripts) (f : Frame) (style : Style) (before : CodeBefore) (n : CodeNext) (l : Units) → style ≡ (frame_context f).style → before ≡ (frame_row f).1.before → InnermostIs f p → past_space (left_of p) ≡ put_back n l → ((u : CodeUnit) → n ≡ next.Unit u → mark_of (piece_of u.piece) ≡ None) → (core_with made (top (elements_in b))).atom ≡ scripted (style_of style) (before_of before) (base_of c scripts (elements_of p)).atom (scripts_with scripts (elements_of p)) → drop 1 (elements_in b) ≡ drop (script_count scripts + 1) (elements_of p) → Holds s p (state.Atom c scripts) → MadeAtom made s (record p { builder = b })
+scripts_made s p b c made scripts f style before n l is follows inner seen none atom below g =
     let fs = p.frames.stack.items in
     let at = level (script_count scripts + 1) s p in
     let base = (base_of c scripts (elements_of p)).atom in
     let read = scripts_with scripts (elements_of p) in
-    let same = ap context_of is ∙ context_is s p.style fs f (drop (script_count scripts + 1) (elements_of p)) g.style inner in
+    let below_it = drop (script_count scripts + 1) (elements_of p) in
+    let same = ap style_of is ∙ ap (λ c. c.style) (context_is s p.style fs f below_it g.style inner) in
+    let same_before = ap before_of follows ∙ before_is s p.style fs f below_it g.style inner in
     let k = ended at base read (left_of p) (no_step read n l (past_space (left_of p)) seen none) g.claims in
-    let in_style = subst (λ st. AtomMade at (Read (scripted st base read) (left_of p))) (sym (ap (λ c. c.style) same)) k in
+    let in_style = subst (λ st. AtomMade at (Read (scripted st (before_of before) base read) (left_of p))) (sym same) (subst (λ b. AtomMade at (Read (scripted (context_at at).style b base read) (left_of p))) (sym same_before) k) in
     record {
       style = g.style;
-      leads = subst (λ a. AtomMade (inside s fs (drop 1 (elements_in b))) (Read a (left_of p))) (sym atom) (subst (λ zs. AtomMade (inside s fs zs) (Read (scripted (style_of context.style) base read) (left_of p))) (sym below) in_style);
+      leads = subst (λ a. AtomMade (inside s fs (drop 1 (elements_in b))) (Read a (left_of p))) (sym atom) (subst (λ zs. AtomMade (inside s fs zs) (Read (scripted (style_of style) (before_of before) base read) (left_of p))) (sym below) in_style);
     }

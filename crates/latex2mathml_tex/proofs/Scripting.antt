@@ -2,8 +2,8 @@
 use Rattle.std.proofs.Common.{◌≡◌, ℕ, ◌+◌, ◌-◌, ◌≤◌, Bool, false, true, zero, suc, List, [], ◌∷◌, Option, None, length, drop, arith, refl, sym, ap, ◌∙◌}
 use Rattle.std.proofs.lemmas.List.{length-drop}
 use Rattle.latex2mathml_elements.specs.Element.{Element}
-use Rattle.latex2mathml_tex_grammar.specs.Atoms.{Atom, Kind, atom}
-use Rattle.latex2mathml_tex_grammar.specs.Makes.{Scripts, are_stacked, fixed_base, scripted, scripted_atom, scripted_kind, superscript, with_scripts}
+use Rattle.latex2mathml_tex_grammar.specs.Atoms.{Atom, Before, Kind, atom, element_there}
+use Rattle.latex2mathml_tex_grammar.specs.Makes.{Scripts, are_stacked, base_there, fixed_base, scripted, scripted_atom, scripted_kind, superscript, with_scripts}
 use Rattle.latex2mathml_tex_grammar.specs.Meaning.{LimitPlace}
 use Rattle.latex2mathml_tex_grammar.specs.Symbols.{Style}
 use Rattle.latex2mathml_tex_atoms.proofs.Shaping.{length_changed}
@@ -74,13 +74,13 @@ no_superscript false true is_exchanged xs none = cc
 no_superscript true true false xs none = cc
 no_superscript true true true xs none = cc
 
-with_some : (style : Style) (base : Atom) (scripts : Scripts) (below above : Option Element) → (below ≡ None → above ≡ None → ⊥) → atom (scripted_kind base.kind) true (with_scripts (are_stacked style scripts.limits) (fixed_base scripts.limits base.element) below above) ≡ scripted_atom style base scripts below above
-with_some style base scripts None None some = absurd (some refl refl)
-with_some style base scripts below above some = refl
+with_some : (style : Style) (before : Before) (base : Atom) (scripts : Scripts) (below above : Option Element) → (below ≡ None → above ≡ None → ⊥) → atom (scripted_kind base.kind) true (with_scripts (are_stacked style scripts.limits) (fixed_base scripts.limits (base_there style before base)) below above) ≡ scripted_atom style before base scripts below above
+with_some style before base scripts None None some = absurd (some refl refl)
+with_some style before base scripts below above some = refl
 
-assembled : (style : Style) (base : Atom) (scripts : Scripts) (kind : Kind) (limits : LimitPlace) (x : Element) (below above : Option Element) → kind ≡ scripted_kind base.kind → x ≡ fixed_base limits base.element → limits ≡ scripts.limits → below ≡ scripts.below → above ≡ superscript scripts.primes scripts.above → (below ≡ None → above ≡ None → ⊥) → atom kind true (with_scripts (are_stacked style limits) x below above) ≡ scripted style base scripts
-assembled style base scripts kind limits x below above k p q r s some =
-    rw (k, p, q, r, s) (with_some style base scripts scripts.below (superscript scripts.primes scripts.above) (λ b a. some (r ∙ b) (s ∙ a)))
+assembled : (style : Style) (before : Before) (base : Atom) (scripts : Scripts) (kind : Kind) (limits : LimitPlace) (x : Element) (below above : Option Element) → kind ≡ scripted_kind base.kind → x ≡ fixed_base limits (base_there style before base) → limits ≡ scripts.limits → below ≡ scripts.below → above ≡ superscript scripts.primes scripts.above → (below ≡ None → above ≡ None → ⊥) → atom kind true (with_scripts (are_stacked style limits) x below above) ≡ scripted style before base scripts
+assembled style before base scripts kind limits x below above k p q r s some =
+    rw (k, p, q, r, s) (with_some style before base scripts scripts.below (superscript scripts.primes scripts.above) (λ b a. some (r ∙ b) (s ∙ a)))
 
 -- scripts, and the same with a mark of their primes, each with the elements next to it
 module _ (scripts whole : CodeScripts) (xs ys : List Element) (same : scripts_with whole ys ≡ record (scripts_with scripts xs) { above = superscript scripts.primes (scripts_with scripts xs).above }) (base : drop (script_count whole) ys ≡ drop (script_count scripts) xs) (enough : script_count scripts + 1 ≤ length xs) where
@@ -91,30 +91,35 @@ module _ (scripts whole : CodeScripts) (xs ys : List Element) (same : scripts_wi
       let left : length ys - n ≡ length xs - m = sym (length-drop n ys) ∙ ap length base ∙ length-drop m xs in
       omega (arith, left, enough)
 
-  abbrev fixed : List Element
-  fixed = changed_at (fixed_base (limit_place_of whole.limits)) (script_count whole) ys
+  -- the base adapted to what precedes it
+  abbrev adapted : Style → Before → Kind → Element → Element
+  adapted style before kind x = fixed_base (limit_place_of whole.limits) (element_there style true before kind x)
 
-  pub room_fixed : script_count whole + 1 ≤ length fixed
-  room_fixed = omega (arith, room, length_changed (fixed_base (limit_place_of whole.limits)) (script_count whole) ys)
+  abbrev fixed : Style → Before → Kind → List Element
+  fixed style before kind = changed_at (adapted style before kind) (script_count whole) ys
 
-  pub left_below : drop (script_count whole + 1) fixed ≡ drop (script_count scripts + 1) xs
-  left_below =
-      ap (λ n. drop n fixed) (next (script_count whole))
-      ∙ below_changed (fixed_base (limit_place_of whole.limits)) (script_count whole) ys
+  pub room_fixed : (style : Style) (before : Before) (kind : Kind) → script_count whole + 1 ≤ length (fixed style before kind)
+  room_fixed style before kind = omega (arith, room, length_changed (adapted style before kind) (script_count whole) ys)
+
+  pub left_below : (style : Style) (before : Before) (kind : Kind) → drop (script_count whole + 1) (fixed style before kind) ≡ drop (script_count scripts + 1) xs
+  left_below style before kind =
+      ap (λ n. drop n (fixed style before kind)) (next (script_count whole))
+      ∙ below_changed (adapted style before kind) (script_count whole) ys
       ∙ drop_next (script_count whole) ys
       ∙ ap (drop 1) base
       ∙ sym (drop_next (script_count scripts) xs)
       ∙ ap (λ n. drop n xs) (sym (next (script_count scripts)))
 
-  pub made : (style : Style) (kind scripted_as : Kind) (high is_stacked : Bool) (zs : List Element) → scripted_as ≡ scripted_kind kind → is_stacked ≡ are_stacked style (limit_place_of whole.limits) → zs ≡ fixed → (whole.below ≡ false → whole.above ≡ false → ⊥) → atom scripted_as true (with_scripts is_stacked (top (drop (script_count whole) zs)) (scripts_with whole zs).below (scripts_with whole zs).above) ≡ scripted style (atom kind high (top (drop (script_count scripts) xs))) (scripts_with scripts xs)
-  made style kind scripted_as high is_stacked zs k t z some =
+  pub made : (style : Style) (before : Before) (kind scripted_as : Kind) (high is_stacked : Bool) (zs : List Element) → scripted_as ≡ scripted_kind kind → is_stacked ≡ are_stacked style (limit_place_of whole.limits) → zs ≡ fixed style before kind → (whole.below ≡ false → whole.above ≡ false → ⊥) → atom scripted_as true (with_scripts is_stacked (top (drop (script_count whole) zs)) (scripts_with whole zs).below (scripts_with whole zs).above) ≡ scripted style before (atom kind high (top (drop (script_count scripts) xs))) (scripts_with scripts xs)
+  made style before kind scripted_as high is_stacked zs k t z some =
       let limits = limit_place_of whole.limits in
-      let f = fixed_base limits in
+      let f = adapted style before kind in
+      let zs = fixed style before kind in
       rw (t, z)
-      (assembled style (atom kind high (top (drop (script_count scripts) xs))) (scripts_with scripts xs) scripted_as limits _ _ _
+      (assembled style before (atom kind high (top (drop (script_count scripts) xs))) (scripts_with scripts xs) scripted_as limits _ _ _
       k
       (base_changed f (script_count whole) ys room ∙ ap (λ l. f (top l)) base)
       (ap (λ s. s.limits) same)
       (subscript_kept f whole.below whole.above whole.is_exchanged ys ∙ ap (λ s. s.below) same)
       (superscript_kept f whole.below whole.above whole.is_exchanged ys ∙ ap (λ s. s.above) same)
-      (λ b a. some (no_subscript whole.below whole.above whole.is_exchanged fixed b) (no_superscript whole.below whole.above whole.is_exchanged fixed a)))
+      (λ b a. some (no_subscript whole.below whole.above whole.is_exchanged zs b) (no_superscript whole.below whole.above whole.is_exchanged zs a)))

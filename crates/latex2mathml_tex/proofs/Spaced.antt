@@ -1,6 +1,6 @@
 -- White space after an atom does not matter to the atoms after it.
 use Rattle.std.proofs.Common.{◌≡◌, ◌∙◌, ap, sym}
-use Rattle.latex2mathml_tex_grammar.specs.{Atoms.Atom, Next.past_space, Rows.Row, Rules.Context, Rules.Ending, Units.Units}
+use Rattle.latex2mathml_tex_grammar.specs.{Atoms.Atom, Atoms.Before, Next.past_space, Rows.Row, Rules.Context, Rules.Ending, Units.Units}
 use Rattle.latex2mathml_tex_grammar.specs.Makes.{Scripts}
 use Rattle.latex2mathml_tex_grammar.specs.Reading.{Outcome, Read, ReadsAtoms, ReadsScripts, atom_read, atom_refused, atoms_end, atoms_stopped, change_refused, mark_refused, mark_taken, never_ended, rest_read, script_read, script_refused, scripts_end, text_ends}
 use Rattle.latex2mathml_tex_grammar.specs.Starts.{step_next}
@@ -38,7 +38,7 @@ module _ (l : Level) (base : Atom) (m n : Units) (is : n ≡ past_space m) where
   same : past_space m ≡ past_space n
   same = sym (ap past_space is ∙ past_twice m)
 
-  scripts_led : {c : Context} {scripts : Scripts} → ((o : Outcome Atom) → ReadsScripts c base scripts m o → AtomMade l o) → (o : Outcome Atom) → ReadsScripts c base scripts n o → AtomMade l o
+  scripts_led : {c : Context} {before : Before} {scripts : Scripts} → ((o : Outcome Atom) → ReadsScripts c before base scripts m o → AtomMade l o) → (o : Outcome Atom) → ReadsScripts c before base scripts n o → AtomMade l o
   scripts_led {scripts = scripts} k o (scripts_end h) = atom_spaced l _ m n is (k _ (scripts_end (ap (step_next scripts) same ∙ h)))
   scripts_led k o (mark_taken h g r) = k o (mark_taken (same ∙ h) g r)
   scripts_led k o (script_read h g x r) = k o (script_read (same ∙ h) g x r)

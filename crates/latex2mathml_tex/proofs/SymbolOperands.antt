@@ -4,7 +4,7 @@ use Rattle.std.proofs.lemmas.Bool.Decides.{nat_tests}
 use Rattle.std.specs.Char.{is_ascii_alphabetic, is_ascii_alphanumeric, is_ascii_digit}
 use Rattle.latex2mathml_elements.specs.Element.{Element}
 use Rattle.latex2mathml_builder.specs.Built.{Built, elements_in}
-use Rattle.latex2mathml_tex_grammar.specs.Atoms.{Atom, Plain, atom}
+use Rattle.latex2mathml_tex_grammar.specs.Atoms.{Atom, Nothing, Plain, atom}
 use Rattle.latex2mathml_tex_grammar.specs.Makes.{core, letter, no_scripts, number}
 use Rattle.latex2mathml_tex_grammar.specs.{Next.digits_next, Next.past_space, Symbols.Ordinary}
 use Rattle.latex2mathml_tex_grammar.specs.Reading.{Read, ReadsAtom, ReadsOperand, ReadsRule, atom_read, atoms_end, base_read, digit_operand, digits_taken, group_operand, other_operand, rule_gives, scripts_end, units_missing}
@@ -67,7 +67,7 @@ in_braces_read k c place x u v w l opens is closes plain read =
     let ended : ends (InBraces u.place) w.piece ≡ true = rw closes refl in
     let by : atom_start (InBraces u.place) v.piece ≡ RuleStart = rw is (begins_by_rule c plain (InBraces u.place)) in
     let none : step_next (no_scripts x.atom.kind x.limits) (past_space (Next w l)) ≡ None = rw closes refl in
-    let one : ReadsAtom (InBraces u.place) k v (Next w l) (Read x.atom (Next w l)) = base_read by read (scripts_end none) in
+    let one : ReadsAtom (InBraces u.place) k Nothing v (Next w l) (Read x.atom (Next w l)) = base_read by read (scripts_end none) in
     group_operand opening (rw opens refl) (atom_read begins goes_on one (atoms_end closing ended))
 
 -- there are fewer units after a lone character

@@ -46,7 +46,7 @@ module _ (p : Parser) (core : Core) (i : Input) (past : units_at i ≡ past_spac
     pub added_held : (s : Start) (n : CodeNext) → units_at i ≡ put_back n (units_behind i) → ((u : Unit) → n ≡ next.Unit u → mark_of (piece_of u.piece) ≡ None) → Holds s p (state.Atom core (lone_scripts core)) → Holds s (record p { input = i; frames = fr }) state.Next
     added_held s n peeked none h =
         let f = frame.Row added.ending added.place added.context added.row in
-        let made = scripts_made s p p.builder core core (lone_scripts core) f added.context n (units_behind i) refl (added.others, on_top added.before) (sym past ∙ peeked) none refl refl h in
+        let made = scripts_made s p p.builder core core (lone_scripts core) f added.context.style added.row.before n (units_behind i) refl refl (added.others, on_top added.before) (sym past ∙ peeked) none refl refl h in
         row_added (record p { input = i }) fr core added can_make s (made_spaced s p core i past made)
 
 -- by whether a test holds

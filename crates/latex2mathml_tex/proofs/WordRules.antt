@@ -12,7 +12,7 @@ use Rattle.latex2mathml_tex_grammar.specs.Words.{BeginsFormula, IsWord, NoWord, 
 use Rattle.latex2mathml_tex_units.specs.Errors.{refusal_of}
 use Rattle.latex2mathml_tex_commands.specs.Meanings.{alphabet_of}
 use Rattle.latex2mathml_tex.specs.{Frames.Start, Levels.Leads, Levels.PartMade}
-use Rattle.latex2mathml_tex_atoms.specs.Models.{empty_row, words_with}
+use Rattle.latex2mathml_tex_atoms.specs.Models.{begun, words_with}
 use Rattle.latex2mathml_tex_commands.specs.Meanings
 use Rattle.latex2mathml_tex.specs.Steps.{BeginsWordOf, HasElements, Holds, Advances, elements_of, left_of, level, level_within}
 use Rattle.latex2mathml_tex_atoms.specs.declared.{atoms.Row.Row as CodeRow, atoms.Words.Words as CodeWords}
@@ -125,7 +125,7 @@ module _ (s : Start) (p : Parser) (ws : CodeWords) (place : ℕ) where
       }
 
   -- a formula
-  pub formula_begun : (piece : Piece) (a : Option Alphabet) (row : CodeRow) → row ≡ empty_row → word_rule a piece ≡ BeginsFormula → BeginsWordOf ws piece place a s p
+  pub formula_begun : (piece : Piece) (a : Option Alphabet) (row : CodeRow) → row ≡ begun → word_rule a piece ≡ BeginsFormula → BeginsWordOf ws piece place a s p
       → Leads (level_within (frame.Row (ending.Formula ws) place (record { style = code_style.InText; alphabet = None }) row) 0 s p) (left_of p)
   formula_begun piece a row empty rule g =
       let due = formula_due (level ws.count s p) {u = grammar.unit piece place} rule g.leads in

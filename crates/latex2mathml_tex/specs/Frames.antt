@@ -6,10 +6,10 @@ use Rattle.latex2mathml_attributes.specs.Names.{side_of, stretch_of}
 use Rattle.latex2mathml_tex_grammar.specs.Makes as makes
 use Rattle.latex2mathml_tex_grammar.specs.Makes.{Core, braced, core, group, classed, operator_name, accent, brace, stack, fraction, outlined_fraction, square_root, root, between_delimiters, struck, boxed_atom, choice}
 use Rattle.latex2mathml_tex_grammar.specs.Reading.{Outcome, Read, Refused, ReadsAtoms, ReadsRule}
-use Rattle.latex2mathml_tex_grammar.specs.{Formulas.alone, Formulas.formula_context, Atoms.Plain, Atoms.atom, Symbols.Style, Symbols.InScript, Symbols.InText, Symbols.Relation, Units.Units, Symbols.Ordinary}
-use Rattle.latex2mathml_tex_grammar.specs.Rows.{Operand, Row, as_base, empty_row, row_element}
+use Rattle.latex2mathml_tex_grammar.specs.{Formulas.alone, Formulas.formula_context, Atoms.Before, Atoms.Nothing, Atoms.Plain, Atoms.atom, Symbols.Style, Symbols.InScript, Symbols.InText, Symbols.Relation, Units.Units, Symbols.Ordinary}
+use Rattle.latex2mathml_tex_grammar.specs.Rows.{Operand, Row, as_base, row_element}
 use Rattle.latex2mathml_tex_grammar.specs.Rules as rules
-use Rattle.latex2mathml_tex_grammar.specs.Rules.{Context, Rule, gives, of_one, of_two, reads_operand, rows_of_text, slashed, struck_atom, takes_delimiter, WholeText, InBraces, InBrackets, InDollars, InDelimiters, InCell}
+use Rattle.latex2mathml_tex_grammar.specs.Rules.{Context, begun, Rule, gives, of_one, of_two, reads_operand, rows_of_text, slashed, struck_atom, takes_delimiter, WholeText, InBraces, InBrackets, InDollars, InDelimiters, InCell}
 use Rattle.latex2mathml_tex_grammar.specs.Words.{words_atom}
 use Rattle.latex2mathml_tex.specs.Levels.{AtomMade, as_operand, as_words, CoreMade, Level, OperandMade, PartMade, RuleLeads, ScriptsLead, Then}
 use Rattle.latex2mathml_tex.specs.Levels as level
@@ -31,7 +31,7 @@ use Rattle.latex2mathml_attributes.specs.declared.attributes.Side.TheVariants as
 
 -- the outcome of units that are read in this form
 abbrev pub ReadsAs : Form → Style → Units → Outcome Row → Type 0
-ReadsAs form.Atoms style l = ReadsAtoms WholeText (formula_context style) empty_row l
+ReadsAs form.Atoms style l = ReadsAtoms WholeText (formula_context style) (begun WholeText) l
 ReadsAs form.Rows style l = λ o. (p : Outcome Core) × ReadsRule (rows_of_text (formula_context style)) l p × (o ≡ alone style p)
 
 -- a formula: its units, its style, and the form that it is read in
@@ -46,7 +46,7 @@ Whole s = ReadsAs s.form s.style s.units
 
 -- the level of the whole formula
 abbrev pub whole_level : Start → Level
-whole_level s = level.row WholeText (formula_context s.style) empty_row (Whole s)
+whole_level s = level.row WholeText (formula_context s.style) (begun WholeText) (Whole s)
 
 -- Rows
 
@@ -67,6 +67,11 @@ context_at (level.operand place c K) = c
 context_at (level.core place c K) = c
 context_at (level.part K) = formula_context (InText)
 context_at (level.words place a K) = formula_context (InText)
+
+-- what precedes what is due at a level, if that is an atom of a row
+abbrev pub before_at : Level → Before
+before_at (level.row e c xs K) = xs.before
+before_at l = Nothing
 
 -- what follows the atoms between delimiters
 abbrev pub after_delimiters : List ℕ → Row → Rule

@@ -7,7 +7,7 @@ use Rattle.latex2mathml_tex_grammar.specs.Meaning.{Change}
 use Rattle.latex2mathml_tex_grammar.specs.Reading.{Outcome, Read, Refused, ReadsAtoms, ReadsOperand, ReadsRule, ReadsScripts, ReadsWord, ReadsWords}
 use Rattle.latex2mathml_tex_grammar.specs.Refusal.{Refusal}
 use Rattle.latex2mathml_tex_grammar.specs.Rests.{Rest, GoesOnIn, NoRest, rest_of}
-use Rattle.latex2mathml_tex_grammar.specs.Rows.{Operand, Row, operand_of, row_element, single, with_atom}
+use Rattle.latex2mathml_tex_grammar.specs.Rows.{Operand, Row, operand_of, lone, row_element, single, with_atom}
 use Rattle.latex2mathml_tex_grammar.specs.Rules.{Context, Ending, Rule, gives, reads_core}
 use Rattle.latex2mathml_tex_grammar.specs.Symbols.{Alphabet}
 use Rattle.latex2mathml_tex_grammar.specs.Units.{Units}
@@ -43,7 +43,7 @@ AtomMade level o = ⊥
 
 -- whatever the outcome of what follows an atom with these scripts, it leads on
 abbrev pub ScriptsLead : Level → Atom → Scripts → Units → Type 0
-ScriptsLead (row ending c xs K) base scripts l = (o : Outcome Atom) → ReadsScripts c base scripts l o → AtomMade (row ending c xs K) o
+ScriptsLead (row ending c xs K) base scripts l = (o : Outcome Atom) → ReadsScripts c xs.before base scripts l o → AtomMade (row ending c xs K) o
 ScriptsLead level base scripts l = ⊥
 
 -- where the outcome of an atom without scripts leads
@@ -63,7 +63,7 @@ as_operand (Refused r) = Refused r
 
 -- words that are followed by a row, as a formula
 abbrev pub as_words : Words → Outcome Row → Outcome Words
-as_words ws (Read xs l) = Read (with_word ws (Formula (row_element xs.elements))) l
+as_words ws (Read xs l) = Read (with_word ws (Formula (row_element (lone xs.last xs.elements)))) l
 as_words ws (Refused r) = Refused r
 
 -- where the outcome of an operand leads

@@ -59,6 +59,12 @@ changed_twice f g depth [] = refl
 changed_twice f g zero (x ∷ xs) = refl
 changed_twice f g (suc depth) (x ∷ xs) = ap (λ ys. x ∷ ys) (changed_twice f g depth xs)
 
+-- the same change
+pub changed_alike : (f g : Element → Element) (depth : ℕ) (xs : List Element) → ((x : Element) → f x ≡ g x) → changed_at f depth xs ≡ changed_at g depth xs
+changed_alike f g depth [] same = refl
+changed_alike f g zero (x ∷ xs) same = ap (λ y. y ∷ xs) (same x)
+changed_alike f g (suc depth) (x ∷ xs) same = ap (λ ys. x ∷ ys) (changed_alike f g depth xs same)
+
 pub length_changed : (f : Element → Element) (depth : ℕ) (xs : List Element) → length (changed_at f depth xs) ≡ length xs
 length_changed f depth [] = refl
 length_changed f zero (x ∷ xs) = refl

@@ -94,8 +94,8 @@ abbrev pub empty_row : Row
 empty_row = record { count = 0; before = before.Nothing; last = kind.Blank; high = false; class = class.Ordinary; restyled = None; settled = 0; under = None }
 
 -- a row without atoms at the beginning of a formula
-abbrev pub begun_row : Row
-begun_row = record empty_row { before = before.After class.Opening }
+abbrev pub begun : Row
+begun = record empty_row { before = before.After class.Opening }
 
 abbrev pub row_with : Row → List Element → rows.Row
 row_with row xs = record {

@@ -5,7 +5,7 @@ ghost use Rattle.latex2mathml_tex_grammar.specs.Atoms;
 ghost use Rattle.latex2mathml_tex_grammar.specs.Makes;
 ghost use Rattle.latex2mathml_tex_grammar.specs.Rows;
 ghost use Rattle.latex2mathml_tex_commands.specs.Meanings.{class_of, limit_place_of, style_of};
-ghost use Rattle.latex2mathml_tex_atoms.specs.Models.{IsFinished, begun_row, has_script, empty_row, before_of, joining_of, kind_of};
+ghost use Rattle.latex2mathml_tex_atoms.specs.Models.{IsFinished, begun, has_script, empty_row, before_of, joining_of, kind_of, script_count};
 ghost use Rattle.latex2mathml_tex_atoms.specs.Adding.{IsAdded};
 
 use crate::signs::is_put_as_it_is;
@@ -76,7 +76,8 @@ impl Kind {
     {
         matches!(
             self,
-            Kind::SignOf(Class::Binary | Class::Relation | Class::Punctuation)
+            Kind::SignOf(Class::Binary | Class::Relation | Class::Punctuation | Class::Operator)
+                | Kind::Plain(Class::Operator)
         )
     }
 
@@ -320,7 +321,7 @@ impl Row {
 
     /// Returns a row without atoms, at the beginning of a formula: what follows is as if after an opening sign.
     pub fn begun() -> Row
-        ensures { result ≡ begun_row }
+        ensures { result ≡ begun }
     {
         Row {
             before: Before::After(Class::Opening),
@@ -406,6 +407,13 @@ impl Scripts {
             limits,
             takes_limits: kind.takes_limits(),
         }
+    }
+
+    /// Returns how many scripts there are.
+    pub fn count(self) -> usize
+        ensures { result ≡ script_count self }
+    {
+        usize::from(self.below) + usize::from(self.above)
     }
 
     /// Whether there is a script on this side.

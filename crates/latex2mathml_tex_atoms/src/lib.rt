@@ -10,4 +10,4 @@ pub mod fractions;
 pub mod outlines;
 pub mod rests;
 pub mod shapes;
-mod signs;
+pub mod signs;

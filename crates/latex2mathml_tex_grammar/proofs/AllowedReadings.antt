@@ -6,7 +6,7 @@ use Rattle.latex2mathml_tex_grammar.specs.{Scanning.BeforeRow, Tables.Lines, Ato
 use Rattle.latex2mathml_elements.proofs.{Annotated.annotated_print_as_elements, OneElement.print_as_elements}
 use Rattle.latex2mathml_tex_grammar.specs.Makes.{Core, core, divider, is_display, number, Scripts}
 use Rattle.latex2mathml_tex_grammar.specs.Reading.{Outcome, ReadsRule, rule_gives, rule_refuses, operand_read, operand_refused, core_read, core_refused, core_missing, core_stopped, atoms_read, atoms_refused, words_read, words_refused, units_taken, units_missing, unit_follows, no_unit_follows, digits_taken, delimiter_taken, delimiter_missing, ReadsOperand, group_operand, group_refused, digit_operand, other_operand, other_refused, no_operand, operand_at_end, operand_stopped, ReadsScripts, scripts_end, mark_taken, script_read, script_refused, mark_refused, ReadsAtom, divider_read, divider_refused, on_empty_row, base_read, base_refused, ReadsAtoms, text_ends, never_ended, atoms_stopped, atoms_end, atom_read, atom_refused, rest_read, change_refused, ReadsWord, word_stands, group_of_words, formula_read, formula_refused, words_in_alphabet, no_word, word_missing, word_at_end, word_stopped, ReadsWords, words_end, words_never_ended, words_stopped, word_read, word_refused, found_taken, found_refused, passed_over, rows_read, rows_refused, ReadsRows, cell_read, cell_refused, ReadsBehindCell, next_cell, next_row, table_ends, rows_to_end, text_ends_table, Read, Refused}
-use Rattle.latex2mathml_tex_grammar.specs.Rules.{Context, Ending, before_first, Rule, gives, takes_delimiter, TableEnd, WholeText, InBraces, InBrackets, InDollars, InDelimiters, InCell}
+use Rattle.latex2mathml_tex_grammar.specs.Rules.{Context, Ending, before_first, begun, Rule, gives, takes_delimiter, TableEnd, WholeText, InBraces, InBrackets, InDollars, InDelimiters, InCell}
 use Rattle.latex2mathml_tex_grammar.specs.Starts.{mark_of, left_behind}
 use Rattle.latex2mathml_tex_grammar.specs.Units.{Unit, Units}
 use Rattle.latex2mathml_tex_grammar.specs.Words.{Formula, Words}
@@ -150,8 +150,8 @@ mutual
 
 alone_allowed : (style : Style) (o : Outcome Core) → IsAllowedOutcome IsAllowedCore o → IsAllowedOutcome IsAllowedRow (alone style o)
 alone_allowed style (Read x m) h =
-    let row = with_atom_allowed style empty_row x.atom tt h.0 in
-    (finished_allowed style (with_atom style empty_row x.atom) (record { elements = row; before = tt; upper = tt }), h.1)
+    let row = with_atom_allowed style (begun WholeText) x.atom tt h.0 in
+    (finished_allowed style (with_atom style (begun WholeText) x.atom) (record { elements = row; before = tt; upper = tt }), h.1)
 alone_allowed style (Refused r) h = tt
 
 formula_allowed : {style : Style} {l : Units} {o : Outcome Row} → ReadsFormula style l o → AreAllowedUnits l → IsAllowedOutcome IsAllowedRow o

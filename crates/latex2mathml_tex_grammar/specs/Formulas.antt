@@ -4,7 +4,7 @@ use Rattle.std.specs.Prelude.{ℕ, Bool, true, false, IsTrue, IsFalse, List, Non
 use Rattle.std.specs.Str.{encode_utf8_all}
 use Rattle.latex2mathml_elements.specs.{Annotated.annotated_print, Element.Element, Element.children, Print.formula_print}
 use Rattle.latex2mathml_tex_grammar.specs.{Expansion.Expands, Expansion.most_units, Expansion.most_uses, Macros.Table}
-use Rattle.latex2mathml_tex_grammar.specs.{Makes.Core, Makes.is_display, Reading.Outcome, Reading.Read, Reading.Refused, Reading.ReadsAtoms, Reading.ReadsRule, Refusal.Kind, Refusal.OutsideTable, Refusal.Refusal, Rests.finished, Rows.Row, Rows.empty_row, Rows.lone, Rows.row_element, Rows.with_atom, Rules.Context, Rules.in_context, Rules.begun, Rules.rows_of_text, Rules.WholeText, Symbols.Style}
+use Rattle.latex2mathml_tex_grammar.specs.{Makes.Core, Makes.is_display, Reading.Outcome, Reading.Read, Reading.Refused, Reading.ReadsAtoms, Reading.ReadsRule, Refusal.Kind, Refusal.OutsideTable, Refusal.Refusal, Rests.finished, Rows.Row, Rows.lone, Rows.row_element, Rows.with_atom, Rules.Context, Rules.in_context, Rules.begun, Rules.rows_of_text, Rules.WholeText, Symbols.Style}
 use Rattle.latex2mathml_tex_grammar.specs.Units.{Units, End, HasUnits, is_forbidden}
 
 -- a formula has no alphabet of its own
@@ -29,7 +29,7 @@ asks_for_rows (Refused r) = is_outside r.kind
 
 -- a row of one atom, which has no scripts
 abbrev pub alone : Style → Outcome Core → Outcome Row
-alone style (Read x l) = Read (finished style (with_atom style empty_row x.atom)) l
+alone style (Read x l) = Read (finished style (with_atom style (begun WholeText) x.atom)) l
 alone style (Refused r) = Refused r
 
 -- The outcome of the units of a formula. They are read as atoms, unless `&` or `\\` occurs outside of all tables. Then they

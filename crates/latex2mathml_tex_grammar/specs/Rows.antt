@@ -3,7 +3,7 @@ use Rattle.std.specs.Prelude.{pos, Bool, true, false, ◌||◌, List, [], ◌∷
 use Rattle.latex2mathml_elements.specs.{Attributes.Attributes, Attributes.plain, Colors.Color, Element.Element, Element.Mrow, Element.token, Element.space, Element.container, Element.children}
 use Rattle.latex2mathml_tex_grammar.specs.Atoms.{Atom, Kind, SignOf, PlusOrMinus, Plain, UprightLetters, Blank, Before, Nothing, is_parted, past, element_there, element_as, without_space}
 use Rattle.latex2mathml_tex_grammar.specs.{Meaning.FractionRule}
-use Rattle.latex2mathml_tex_grammar.specs.Symbols.{Class, Ordinary, Binary, Relation, Punctuation, Style}
+use Rattle.latex2mathml_tex_grammar.specs.Symbols.{Class, Ordinary, Operator, Binary, Relation, Punctuation, Style}
 
 -- a change of style or color in a row
 pub record Restyled : Type 0 where
@@ -115,6 +115,8 @@ abbrev pub is_spaced : Kind → Bool
 is_spaced (SignOf Binary) = true
 is_spaced (SignOf Relation) = true
 is_spaced (SignOf Punctuation) = true
+is_spaced (SignOf Operator) = true
+is_spaced (Plain Operator) = true
 is_spaced kind = false
 
 -- an element with nothing next to it: TeX leaves no space around it

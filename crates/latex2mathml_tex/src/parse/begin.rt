@@ -395,7 +395,7 @@ impl<'a> Parser<'a> {
             return Ok(());
         };
         self.open(
-            Frame::Row(Ending::Delimiters(opening), place, context, Row::empty()),
+            Frame::Row(Ending::Delimiters(opening), place, context, Row::begun()),
             next,
         )
     }

@@ -252,6 +252,18 @@ impl Frame {
         }
     }
 
+    /// Returns its style and what precedes the next atom of its row, if it is a row.
+    #[inline(always)]
+    fn position(&self) -> (Style, Before)
+        ensures style { result.0 ≡ (frame_context self.now).style }
+        ensures before { result.1 ≡ (frame_row self.now).1.before }
+    {
+        match self {
+            Frame::Row(_, _, context, row) => (context.style, row.before),
+            other => ((*other).context().style, Before::Nothing),
+        }
+    }
+
     /// Returns its row with its context, if it is a row.
     #[inline(always)]
     fn row(&self) -> (Context, Row)
@@ -335,6 +347,20 @@ impl Frames {
         match self.stack.as_slice().last() {
             Some(frame) => frame.row(),
             None => text_row(style).row(),
+        }
+    }
+
+    /// Returns the innermost frame's style and what precedes the next atom of its row, if the frame is a row, in a formula of this
+    /// style.
+    #[inline(always)]
+    pub(crate) fn position(&self, style: Style) -> (Style, Before)
+        ensures { (f : Frame) × ((others : List Frame)
+            × (IsInnermost style self.now.stack.items f others
+            × ((result.0 ≡ (frame_context f).style) × (result.1 ≡ (frame_row f).1.before)))) }
+    {
+        match self.stack.as_slice().last() {
+            Some(frame) => frame.position(),
+            None => text_row(style).position(),
         }
     }
 
@@ -445,7 +471,7 @@ impl Frames {
 fn text_row(style: Style) -> Frame
     ensures { result ≡ begun_row style }
 {
-    Frame::Row(Ending::Text, 0, text_context(style), Row::empty())
+    Frame::Row(Ending::Text, 0, text_context(style), Row::begun())
 }
 
 /// Returns the context in which the atoms of a whole formula of this style are read.

@@ -337,7 +337,7 @@ impl<'a> Parser<'a> {
             }
             Ending::Delimiters(opening) => self.close_delimiters(opening, row, next),
             Ending::Formula(words) => {
-                put_row(&mut self.builder, row.count)?;
+                put_braced(&mut self.builder, row.count, row.last)?;
                 // all elements of words are among those of the builder, so their number fits in a `usize`
                 let _ = self.builder.len();
                 *next = State::Words(Words {

@@ -1,15 +1,16 @@
 //! Scripts: what follows an atom.
-ghost use Rattle.std.specs.Prelude.{◌≡◌, ◌+◌, ◌≤◌, ◌∷◌, IfOk, None, OnOk, Some, drop, length, option_map};
+ghost use Rattle.std.specs.Prelude.{◌≡◌, ◌+◌, ◌≤◌, ◌∷◌, IfOk, None, OnOk, Some, drop, length, option_map, true};
 ghost use Rattle.latex2mathml_elements.specs.{Attributes.plain, Element.Element, Element.pair, Element.triple};
 ghost use Rattle.latex2mathml_builder.specs.Built.{elements_in};
 ghost use Rattle.latex2mathml_attributes.specs.Names.{pair_of, triple_of};
+ghost use Rattle.latex2mathml_tex_grammar.specs.Atoms;
 ghost use Rattle.latex2mathml_tex_grammar.specs.Makes;
 ghost use Rattle.latex2mathml_tex_grammar.specs.Starts;
 ghost use Rattle.latex2mathml_tex_units.specs.{Errors.second_on, Taking.piece_of};
 ghost use Rattle.latex2mathml_tex_commands.specs.Meanings.{limit_place_of, style_of};
 ghost use Rattle.latex2mathml_tex.specs.{Frames.Start, Frames.base_of, Frames.primes_put, Levels.Leads};
 ghost use Rattle.latex2mathml_tex_atoms.specs.Shapes.{changed_at};
-ghost use Rattle.latex2mathml_tex_atoms.specs.Models.{core_with, script_count, scripts_with, top};
+ghost use Rattle.latex2mathml_tex_atoms.specs.Models.{before_of, core_with, kind_of, script_count, scripts_with, top};
 ghost use Rattle.latex2mathml_tex.specs.Steps.{CanMake, Holds, HoldsIn, Advances, LeadsOn, Ready, TookMark, TookScript, atom_made, elements_of, left_of, level, level_within, mark_model};
 
 use crate::parse::frames::Frame;
@@ -18,8 +19,9 @@ use crate::parse::{Parser, State};
 use latex2mathml_attributes::attributes::{Attributes, Side};
 use latex2mathml_attributes::tag::{Pair, Triple};
 use latex2mathml_builder::builder::Builder;
-use latex2mathml_tex_atoms::atoms::{Context, Core, Scripts};
+use latex2mathml_tex_atoms::atoms::{Before, Context, Core, Kind, Scripts};
 use latex2mathml_tex_atoms::shapes::{fix_limits, put_primes, put_row};
+use latex2mathml_tex_atoms::signs::adapt;
 use latex2mathml_tex_commands::meaning::{LimitPlace, Style};
 use latex2mathml_tex_units::error::TexErrorKind;
 use latex2mathml_tex_units::unit::{Next, Piece};
@@ -74,8 +76,8 @@ impl<'a> Parser<'a> {
             }
             Next::End(_) | Next::Fault(_, _) => (),
         }
-        let style = self.frames.innermost(self.style).context().style;
-        let core = scripted(&mut self.builder, style, core, scripts)?;
+        let (style, before) = self.frames.position(self.style);
+        let core = scripted(&mut self.builder, style, before, core, scripts)?;
         self.put(core, next)
     }
 
@@ -209,17 +211,19 @@ fn second_on(side: Side) -> TexErrorKind
     }
 }
 
-/// Makes an atom with its scripts, whose elements are uppermost, in this style.
+/// Makes an atom with its scripts, whose elements are uppermost, in this style and after what precedes it.
 #[inline(always)]
 fn scripted(
     builder: &mut Builder,
     style: Style,
+    before: Before,
     core: Core,
     scripts: Scripts,
 ) -> Result<Core, AllocError>
     requires { script_count scripts + 1 ≤ length (elements_in builder.old) }
     ensures atom { IfOk result (λ made. (core_with made (top (elements_in builder.new))).atom
-        ≡ Makes.scripted (style_of style) (base_of core scripts (elements_in builder.old)).atom
+        ≡ Makes.scripted (style_of style) (before_of before)
+        (base_of core scripts (elements_in builder.old)).atom
         (scripts_with scripts (elements_in builder.old))) }
     ensures below { IfOk result
         (λ made. drop 1 (elements_in builder.new)
@@ -230,7 +234,7 @@ fn scripted(
     if !scripts.below && !scripts.above {
         return Ok(core);
     }
-    fix_base(builder, scripts);
+    adapt_base(builder, style, before, core.kind, scripts);
     put_scripts(builder, style.stacks(scripts.limits), scripts)?;
     Ok(Core {
         kind: core.kind.with_scripts(),
@@ -261,17 +265,18 @@ fn with_primes(builder: &mut Builder, scripts: Scripts) -> Result<Scripts, Alloc
     })
 }
 
-/// Keeps the browser from moving the limits of the base of these scripts, if they are to stay.
-fn fix_base(builder: &mut Builder, scripts: Scripts)
+/// Adapts the base of these scripts to what precedes it. A sign is the first element of what its scripts are beside. The browser
+/// must not move the limits if they are to stay.
+fn adapt_base(builder: &mut Builder, style: Style, before: Before, kind: Kind, scripts: Scripts)
     ensures { elements_in builder.new
-        ≡ changed_at (Makes.fixed_base (limit_place_of scripts.limits)) (script_count scripts)
-        (elements_in builder.old) }
+        ≡ changed_at (λ x. Makes.fixed_base (limit_place_of scripts.limits)
+        (Atoms.element_there (style_of style) true (before_of before) (kind_of kind) x))
+        (script_count scripts) (elements_in builder.old) }
 {
+    let depth = scripts.count();
+    adapt(builder, depth, style, true, before, kind);
     if let LimitPlace::Stacked = scripts.limits {
-        fix_limits(
-            builder,
-            usize::from(scripts.below) + usize::from(scripts.above),
-        );
+        fix_limits(builder, depth);
     }
 }
 

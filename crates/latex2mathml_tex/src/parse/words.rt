@@ -113,7 +113,7 @@ impl<'a> Parser<'a> {
                 alphabet: None,
             };
             return self.open(
-                Frame::Row(Ending::Formula(words), place, context, Row::empty()),
+                Frame::Row(Ending::Formula(words), place, context, Row::begun()),
                 next,
             );
         }

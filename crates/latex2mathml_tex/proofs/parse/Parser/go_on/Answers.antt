@@ -36,4 +36,4 @@ returns-clause-holds c = λ s g.
         | inr is ↦ (let other = is.2 in absurd (cc (other, e)))
       ]
     ] in
-    c.put.ensures.holds s (made_spaced s (record p { builder = c.scripted.new.builder }) c.in_ok-core.core c.skip_space.new.self c.skip_space.ensures.left (scripts_made s p c.scripted.new.builder c.args.core c.in_ok-core.core c.args.scripts c.innermost.result c.context-style.result c.peek.result _ c.context-style.ensures c.innermost.ensures (sym c.skip_space.ensures.left ∙ c.peek.ensures) none c.in_ok-core.ensures.atom c.in_ok-core.ensures.below g))
+    c.put.ensures.holds s (made_spaced s (record p { builder = c.scripted.new.builder }) c.in_ok-core.core c.skip_space.new.self c.skip_space.ensures.left (scripts_made s p c.scripted.new.builder c.args.core c.in_ok-core.core c.args.scripts c.position-style.ensures.0 c.position-style.result.0 c.position-style.result.1 c.peek.result _ c.position-style.ensures.1.1.1.0 c.position-style.ensures.1.1.1.1 (c.position-style.ensures.1.0, c.position-style.ensures.1.1.0) (sym c.skip_space.ensures.left ∙ c.peek.ensures) none c.in_ok-core.ensures.atom c.in_ok-core.ensures.below g))

@@ -25,7 +25,7 @@ pub returns-clause-holds : goal.returns-clause-holds
 returns-clause-holds c = λ s g.
     let text = delimiter_text c.in-Some.opening in
     let inside = past_delimiter s c.args.self.now c.take_delimiter.new.self (λ opening. reads_atoms (InDelimiters c.args.place) (context_of c.args.context) (after_delimiters opening)) text c.in-Some.ensures.next (begun g) in
-    c.open.ensures.holds s g.style (rw c.empty.ensures (row_due (after_delimiters text) inside.leads))
+    c.open.ensures.holds s g.style (rw c.begun.ensures (row_due (after_delimiters text) inside.leads))
 
 pub returns-clause-step : goal.returns-clause-step
 returns-clause-step c =

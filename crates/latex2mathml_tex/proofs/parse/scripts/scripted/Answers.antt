@@ -2,15 +2,15 @@ use Rattle.std.proofs.Common.{rules, ◌≡◌, ◌+◌, ◌∙◌, false, true,
 use Rattle.latex2mathml_builder.specs.Built.{elements_in}
 use Rattle.latex2mathml_tex_grammar.specs.Atoms
 use Rattle.latex2mathml_tex_commands.specs.Meanings.{style_of}
-use Rattle.latex2mathml_tex_atoms.specs.Models.{kind_of, script_count, top}
+use Rattle.latex2mathml_tex_atoms.specs.Models.{before_of, kind_of, script_count, top}
 use Rattle.latex2mathml_tex.proofs.Scripting.{left_below, made, room_fixed}
 use Rattle.latex2mathml_tex.proofs.parse.scripts.scripted.Goals as goal
 use Rattle.latex2mathml_tex.proofs.parse.scripts.scripted.Goals.{else-not-scripts-via-then-not-scripts+else-not-scripts-2, else-not-scripts-via-else-not-scripts}
 
 pub put_scripts-requires : goal.put_scripts-requires
 put_scripts-requires c =
-    let room = room_fixed c.args.scripts c.in_ok-scripts.scripts (elements_in c.args.builder.now) (elements_in c.with_primes.new.builder) c.in_ok-scripts.ensures.scripts c.in_ok-scripts.ensures.below c.requires in
-    omega (arith, room, ap length c.fix_base.ensures)
+    let room = room_fixed c.args.scripts c.in_ok-scripts.scripts (elements_in c.args.builder.now) (elements_in c.with_primes.new.builder) c.in_ok-scripts.ensures.scripts c.in_ok-scripts.ensures.below c.requires (style_of c.args.style) (before_of c.args.before) (kind_of c.args.core.kind) in
+    omega (arith, room, ap length c.adapt_base.ensures)
 
 pub returns-clause-atom : goal.returns-clause-atom
 returns-clause-atom c =
@@ -18,11 +18,11 @@ returns-clause-atom c =
     let some : scripts.below ≡ false → scripts.above ≡ false → ⊥ =
     elim c.else-not-scripts.branch [ else-not-scripts-via-then-not-scripts+else-not-scripts-2 w ↦ search rules | else-not-scripts-via-else-not-scripts w ↦ search rules ] in
     ap (λ xs. Atoms.atom (kind_of c.with_scripts.result) true (top xs)) c.in_ok-put_scripts.ensures
-    ∙ made c.args.scripts scripts (elements_in c.args.builder.now) (elements_in c.with_primes.new.builder) c.in_ok-scripts.ensures.scripts c.in_ok-scripts.ensures.below c.requires (style_of c.args.style) (kind_of c.args.core.kind) _ c.args.core.high _ _ c.with_scripts.ensures c.stacks.ensures c.fix_base.ensures some
+    ∙ made c.args.scripts scripts (elements_in c.args.builder.now) (elements_in c.with_primes.new.builder) c.in_ok-scripts.ensures.scripts c.in_ok-scripts.ensures.below c.requires (style_of c.args.style) (before_of c.args.before) (kind_of c.args.core.kind) _ c.args.core.high _ _ c.with_scripts.ensures c.stacks.ensures c.adapt_base.ensures some
 
 pub returns-clause-below : goal.returns-clause-below
 returns-clause-below c =
     let scripts = c.in_ok-scripts.scripts in
     ap (drop 1) c.in_ok-put_scripts.ensures
-    ∙ ap (drop (script_count scripts + 1)) c.fix_base.ensures
-    ∙ left_below c.args.scripts scripts (elements_in c.args.builder.now) (elements_in c.with_primes.new.builder) c.in_ok-scripts.ensures.scripts c.in_ok-scripts.ensures.below c.requires
+    ∙ ap (drop (script_count scripts + 1)) c.adapt_base.ensures
+    ∙ left_below c.args.scripts scripts (elements_in c.args.builder.now) (elements_in c.with_primes.new.builder) c.in_ok-scripts.ensures.scripts c.in_ok-scripts.ensures.below c.requires (style_of c.args.style) (before_of c.args.before) (kind_of c.args.core.kind)
