@@ -5,7 +5,7 @@ ghost use Rattle.latex2mathml_builder.specs.Built.{elements_in};
 use latex2mathml_attributes::attributes::{
     Attributes, Form, MathStyle, Side, Size, Space, Stretch,
 };
-use latex2mathml_attributes::columns::{Alignment, Column, Columns};
+use latex2mathml_attributes::columns::{Alignment, Columns, ListedColumn};
 use latex2mathml_attributes::tag::{Container, Pair, Token, Triple};
 use latex2mathml_builder::builder::Builder;
 use latex2mathml_builder::works::Works;
@@ -260,9 +260,9 @@ fn push_tables(builder: &mut Builder, listed: Columns, alike: Columns) -> Result
 #[test]
 fn columns_of_each_kind(rt: HostRuntime) -> Result<(), Fail> {
     let mut listed = Columns::none();
-    assert!(rt; listed.push(Column::LeftAlignedBeforeLine));
+    assert!(rt; listed.push(ListedColumn::LeftAlignedBeforeLine));
     let mut alike = Columns::alike(Alignment::Dense);
-    assert!(rt; !alike.push(Column::LeftAligned));
+    assert!(rt; !alike.push(ListedColumn::LeftAligned));
     let mut builder = Builder::new(rt.alloc());
     push_tables(&mut builder, listed, alike)?;
     expect(
