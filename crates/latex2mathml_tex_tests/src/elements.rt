@@ -269,7 +269,7 @@ fn columns_of_each_kind(rt: HostRuntime) -> Result<(), Fail> {
         rt.alloc(),
         &builder,
         3,
-        "<mtable><mtr><mtd columnalign=\"right\" style=\"text-align: right; text-align: -webkit-right\"><mi>a</mi></mtd><mtd><mi>b</mi></mtd><mtd columnalign=\"left\" style=\"text-align: left\"><mi>c</mi></mtd></mtr></mtable><mtable><mtr><mtd columnalign=\"left\" style=\"text-align: left; border-right: thin solid; padding-right: 0.4em\"><mi>d</mi></mtd><mtd><mi>e</mi></mtd></mtr></mtable><mtable><mtr><mtd style=\"padding: 0.1em 0.3em\"><mi>f</mi></mtd></mtr></mtable>",
+        "<mtable><mtr><mtd columnalign=\"right\" style=\"text-align: right; text-align: -webkit-right; padding-inline: 0.5em\"><mi>a</mi></mtd><mtd style=\"padding-inline: 0.5em\"><mi>b</mi></mtd><mtd columnalign=\"left\" style=\"text-align: left; padding-inline: 0.5em\"><mi>c</mi></mtd></mtr></mtable><mtable><mtr><mtd columnalign=\"left\" style=\"text-align: left; padding-inline: 0.5em; border-right: thin solid\"><mi>d</mi></mtd><mtd style=\"padding-inline: 0.5em\"><mi>e</mi></mtd></mtr></mtable><mtable><mtr><mtd style=\"padding: 0.1em 0\"><mi>f</mi></mtd></mtr></mtable>",
     )
 }
 
@@ -310,6 +310,6 @@ fn push_deep_tables(builder: &mut Builder, depth: usize) -> Result<(), AllocErro
 fn deep_tables(rt: HostRuntime) -> Result<(), Fail> {
     let mut builder = Builder::new(rt.alloc());
     push_deep_tables(&mut builder, 100000)?;
-    assert!(rt; markup(rt.alloc(), &builder, 1)?.len() == 100000 * 39 + 10);
+    assert!(rt; markup(rt.alloc(), &builder, 1)?.len() == 100000 * 65 + 10);
     Ok(())
 }
