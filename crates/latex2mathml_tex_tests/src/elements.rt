@@ -210,7 +210,7 @@ fn rows_become_cells(rt: HostRuntime) -> Result<(), Fail> {
         rt.alloc(),
         &builder,
         1,
-        "<mtable displaystyle=\"false\" scriptlevel=\"1\"><mtr><mtd columnalign=\"right\" style=\"text-align: right; text-align: -webkit-right; padding-right: 0\"><mi>a</mi></mtd><mtd columnalign=\"left\" style=\"text-align: left; padding-left: 0\"><mi>b</mi></mtd></mtr><mtr><mtd columnalign=\"right\" style=\"text-align: right; text-align: -webkit-right; padding-right: 0\"><mrow></mrow></mtd></mtr><mtr><mtd columnalign=\"right\" style=\"text-align: right; text-align: -webkit-right; padding-right: 0\"><mi>c</mi></mtd></mtr></mtable>",
+        "<mtable displaystyle=\"false\" scriptlevel=\"1\"><mtr><mtd columnalign=\"right\" style=\"text-align: right; text-align: -webkit-right; padding-inline: 0\"><mi>a</mi></mtd><mtd columnalign=\"left\" style=\"text-align: left; padding-inline: 0\"><mi>b</mi></mtd></mtr><mtr><mtd columnalign=\"right\" style=\"text-align: right; text-align: -webkit-right; padding-inline: 0\"><mrow></mrow></mtd></mtr><mtr><mtd columnalign=\"right\" style=\"text-align: right; text-align: -webkit-right; padding-inline: 0\"><mi>c</mi></mtd></mtr></mtable>",
     )
 }
 
