@@ -6,7 +6,7 @@ pub data Alignment : Type 0 where
   Centered : Alignment
   LeftAligned : Alignment
   RightAligned : Alignment
-  -- aligned left, right next to a column that is aligned right: the two are a pair
+  -- aligned left, without space between it and the column before it, with which it is a pair
   SecondOfPair : Alignment
   -- centered, with little space around it
   Dense : Alignment
