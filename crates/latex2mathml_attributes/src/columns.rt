@@ -2,7 +2,7 @@
 ghost use Rattle.std.specs.Prelude.{◌≡◌, ◌∷◌, []};
 ghost use Rattle.latex2mathml_elements.specs.Print.{cell_tag};
 ghost use Rattle.latex2mathml_elements.specs.Columns.{Alike, Centered, InPairs, LeftAligned, Listed, RightAligned, column_at, unlined};
-ghost use Rattle.latex2mathml_attributes.specs.Columns.{alignment_of, column_of, columns_of, has_room, listed_behind};
+ghost use Rattle.latex2mathml_attributes.specs.Columns.{alignment_of, column_of, columns_of, has_room, listed_behind, listed_of};
 
 /// How the cells of a column are aligned.
 #[derive(Debug, Clone, Copy)]
@@ -10,18 +10,14 @@ pub enum Alignment {
     Centered,
     LeftAligned,
     RightAligned,
-    /// The first of two columns with no space between them. It is aligned right.
-    FirstOfPair,
-    /// The second of two columns with no space between them. It is aligned left.
-    SecondOfPair,
     /// Centered, with little space around.
     Dense,
 }
 
-/// How the cells of a column are aligned, and where lines are drawn next to it. A byte has all of it, since arrays of columns are
-/// copied.
+/// How the cells of a listed column are aligned, and where lines are drawn next to it. A byte has all of it, since arrays of columns
+/// are copied.
 #[derive(Debug, Clone, Copy)]
-pub enum Column {
+pub enum ListedColumn {
     Centered,
     CenteredBehindLine,
     CenteredBeforeLine,
@@ -34,9 +30,19 @@ pub enum Column {
     RightAlignedBehindLine,
     RightAlignedBeforeLine,
     RightAlignedBetweenLines,
-    FirstOfPair,
+}
+
+/// A column of a table.
+#[derive(Debug, Clone, Copy)]
+pub enum Column {
+    /// There is space at both sides.
+    Listed(ListedColumn),
+    /// There is no space at the sides.
+    First(Alignment),
+    /// There is space before it.
+    Later(Alignment),
+    /// The second of two columns with no space between them. It is aligned left.
     SecondOfPair,
-    Dense,
 }
 
 /// All columns of a table, however many there are. Contracts refer to them as `columns_of`, as the definitions have them.
@@ -44,7 +50,7 @@ pub enum Column {
 pub struct Columns {
     kind: Kind,
     /// An array and its length, since parts are copied, and a list that allocates cannot be.
-    listed: [Column; 16],
+    listed: [ListedColumn; 16],
     len: u8,
 }
 
@@ -55,53 +61,60 @@ enum Kind {
     Listed,
 }
 
-impl Column {
-    /// Returns a column without lines.
-    pub fn unlined(alignment: Alignment) -> Column
-        ensures { column_of result ≡ unlined (alignment_of alignment) }
+impl ListedColumn {
+    /// Returns the start tag of a cell.
+    fn tag(self) -> &'static str
+        ensures { result.now ≡ cell_tag (listed_of self) }
     {
-        match alignment {
-            Alignment::Centered => Column::Centered,
-            Alignment::LeftAligned => Column::LeftAligned,
-            Alignment::RightAligned => Column::RightAligned,
-            Alignment::FirstOfPair => Column::FirstOfPair,
-            Alignment::SecondOfPair => Column::SecondOfPair,
-            Alignment::Dense => Column::Dense,
+        match self {
+            ListedColumn::Centered => "<mtd style=\"padding-inline: 0.5em\">",
+            ListedColumn::CenteredBehindLine =>
+                "<mtd style=\"padding-inline: 0.5em; border-left: thin solid\">",
+            ListedColumn::CenteredBeforeLine =>
+                "<mtd style=\"padding-inline: 0.5em; border-right: thin solid\">",
+            ListedColumn::CenteredBetweenLines =>
+                "<mtd style=\"padding-inline: 0.5em; border-left: thin solid; border-right: thin solid\">",
+            ListedColumn::LeftAligned =>
+                "<mtd columnalign=\"left\" style=\"text-align: left; padding-inline: 0.5em\">",
+            ListedColumn::LeftAlignedBehindLine =>
+                "<mtd columnalign=\"left\" style=\"text-align: left; padding-inline: 0.5em; border-left: thin solid\">",
+            ListedColumn::LeftAlignedBeforeLine =>
+                "<mtd columnalign=\"left\" style=\"text-align: left; padding-inline: 0.5em; border-right: thin solid\">",
+            ListedColumn::LeftAlignedBetweenLines =>
+                "<mtd columnalign=\"left\" style=\"text-align: left; padding-inline: 0.5em; border-left: thin solid; border-right: thin solid\">",
+            ListedColumn::RightAligned =>
+                "<mtd columnalign=\"right\" style=\"text-align: right; text-align: -webkit-right; padding-inline: 0.5em\">",
+            ListedColumn::RightAlignedBehindLine =>
+                "<mtd columnalign=\"right\" style=\"text-align: right; text-align: -webkit-right; padding-inline: 0.5em; border-left: thin solid\">",
+            ListedColumn::RightAlignedBeforeLine =>
+                "<mtd columnalign=\"right\" style=\"text-align: right; text-align: -webkit-right; padding-inline: 0.5em; border-right: thin solid\">",
+            ListedColumn::RightAlignedBetweenLines =>
+                "<mtd columnalign=\"right\" style=\"text-align: right; text-align: -webkit-right; padding-inline: 0.5em; border-left: thin solid; border-right: thin solid\">",
         }
     }
+}
 
+impl Column {
     /// Returns the start tag of a cell.
     pub fn tag(self) -> &'static str
         ensures { result.now ≡ cell_tag (column_of self) }
     {
         match self {
-            Column::Centered => "<mtd>",
-            Column::CenteredBehindLine =>
-                "<mtd style=\"border-left: thin solid; padding-left: 0.4em\">",
-            Column::CenteredBeforeLine =>
-                "<mtd style=\"border-right: thin solid; padding-right: 0.4em\">",
-            Column::CenteredBetweenLines =>
-                "<mtd style=\"border-left: thin solid; padding-left: 0.4em; border-right: thin solid; padding-right: 0.4em\">",
-            Column::LeftAligned => "<mtd columnalign=\"left\" style=\"text-align: left\">",
-            Column::LeftAlignedBehindLine =>
-                "<mtd columnalign=\"left\" style=\"text-align: left; border-left: thin solid; padding-left: 0.4em\">",
-            Column::LeftAlignedBeforeLine =>
-                "<mtd columnalign=\"left\" style=\"text-align: left; border-right: thin solid; padding-right: 0.4em\">",
-            Column::LeftAlignedBetweenLines =>
-                "<mtd columnalign=\"left\" style=\"text-align: left; border-left: thin solid; padding-left: 0.4em; border-right: thin solid; padding-right: 0.4em\">",
-            Column::RightAligned =>
-                "<mtd columnalign=\"right\" style=\"text-align: right; text-align: -webkit-right\">",
-            Column::RightAlignedBehindLine =>
-                "<mtd columnalign=\"right\" style=\"text-align: right; text-align: -webkit-right; border-left: thin solid; padding-left: 0.4em\">",
-            Column::RightAlignedBeforeLine =>
-                "<mtd columnalign=\"right\" style=\"text-align: right; text-align: -webkit-right; border-right: thin solid; padding-right: 0.4em\">",
-            Column::RightAlignedBetweenLines =>
-                "<mtd columnalign=\"right\" style=\"text-align: right; text-align: -webkit-right; border-left: thin solid; padding-left: 0.4em; border-right: thin solid; padding-right: 0.4em\">",
-            Column::FirstOfPair =>
-                "<mtd columnalign=\"right\" style=\"text-align: right; text-align: -webkit-right; padding-right: 0\">",
+            Column::Listed(column) => column.tag(),
+            Column::First(Alignment::Centered) => "<mtd style=\"padding-inline: 0\">",
+            Column::First(Alignment::LeftAligned) =>
+                "<mtd columnalign=\"left\" style=\"text-align: left; padding-inline: 0\">",
+            Column::First(Alignment::RightAligned) =>
+                "<mtd columnalign=\"right\" style=\"text-align: right; text-align: -webkit-right; padding-inline: 0\">",
+            Column::First(Alignment::Dense) => "<mtd style=\"padding: 0.1em 0\">",
+            Column::Later(Alignment::Centered) => "<mtd style=\"padding-inline: 1em 0\">",
+            Column::Later(Alignment::LeftAligned) =>
+                "<mtd columnalign=\"left\" style=\"text-align: left; padding-inline: 1em 0\">",
+            Column::Later(Alignment::RightAligned) =>
+                "<mtd columnalign=\"right\" style=\"text-align: right; text-align: -webkit-right; padding-inline: 1em 0\">",
+            Column::Later(Alignment::Dense) => "<mtd style=\"padding: 0.1em 0 0.1em 0.4em\">",
             Column::SecondOfPair =>
-                "<mtd columnalign=\"left\" style=\"text-align: left; padding-left: 0\">",
-            Column::Dense => "<mtd style=\"padding: 0.1em 0.3em\">",
+                "<mtd columnalign=\"left\" style=\"text-align: left; padding-inline: 0\">",
         }
     }
 }
@@ -132,9 +145,9 @@ impl Columns {
         ensures { columns_of result ≡ Listed (unlined RightAligned ∷ unlined Centered
             ∷ unlined LeftAligned ∷ []) }
     {
-        let mut listed = [Column::Centered; 16];
-        listed[0] = Column::RightAligned;
-        listed[2] = Column::LeftAligned;
+        let mut listed = [ListedColumn::Centered; 16];
+        listed[0] = ListedColumn::RightAligned;
+        listed[2] = ListedColumn::LeftAligned;
         Columns {
             kind: Kind::Listed,
             listed,
@@ -148,16 +161,16 @@ impl Columns {
     {
         Columns {
             kind: Kind::Listed,
-            listed: [Column::Centered; 16],
+            listed: [ListedColumn::Centered; 16],
             len: 0,
         }
     }
 
     /// Adds a column to the listed ones, of which there can be 16. Returns whether there is room, and changes nothing if there
     /// is none. Columns that are not a list have no room.
-    pub fn push(&mut self, column: Column) -> bool
+    pub fn push(&mut self, column: ListedColumn) -> bool
         ensures columns { columns_of self.new
-            ≡ listed_behind (column_of column) (columns_of self.old) }
+            ≡ listed_behind (listed_of column) (columns_of self.old) }
         ensures room { result ≡ has_room (columns_of self.old) }
     {
         if !matches!(self.kind, Kind::Listed) || self.len >= 16 {
@@ -174,11 +187,15 @@ impl Columns {
     {
         let listed = self.listed.as_slice();
         match self.kind {
-            Kind::Alike(alignment) => Column::unlined(alignment),
-            Kind::InPairs if place % 2 == 0 => Column::FirstOfPair,
+            Kind::Alike(alignment) if place == 0 => Column::First(alignment),
+            Kind::Alike(alignment) => Column::Later(alignment),
+            Kind::InPairs if place == 0 => Column::First(Alignment::RightAligned),
+            Kind::InPairs if place % 2 == 0 => Column::Later(Alignment::RightAligned),
             Kind::InPairs => Column::SecondOfPair,
-            Kind::Listed if place < listed.len() && place < self.len as usize => listed[place],
-            Kind::Listed => Column::Centered,
+            Kind::Listed if place < listed.len() && place < self.len as usize => {
+                Column::Listed(listed[place])
+            }
+            Kind::Listed => Column::Listed(ListedColumn::Centered),
         }
     }
 }

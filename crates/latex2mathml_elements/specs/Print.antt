@@ -1,7 +1,7 @@
 -- How elements are written.
-use Rattle.std.specs.Prelude.{ℕ, Bool, true, false, List, [], ◌∷◌, ◌++◌, Option, Some, None, codes}
+use Rattle.std.specs.Prelude.{ℕ, Bool, true, false, List, [], ◌++◌, Option, Some, None, codes}
 use Rattle.latex2mathml_elements.specs.Attributes.{Attributes, Side, Above, Below, Form, Prefix, Infix, Postfix, Stretch, Stretching, Rigid, Space, NoSpace, Narrow, Thick, NoSpaceBefore, ThickAfter, Size, Big, Bigger, VeryBig, Biggest, MathStyle, DisplayStyle, TextStyle, ScriptStyle, Boxing, NoWidth, Flat, NoHeight, NoDepth, ByItsWidth, ByHalfItsWidth, Framed, StruckUp, StruckDown, StruckTwice}
-use Rattle.latex2mathml_elements.specs.Columns.{Alignment, Centered, LeftAligned, RightAligned, FirstOfPair, SecondOfPair, Dense, Borders, NoLine, LineBefore, LineAfter, LinesAround, Column}
+use Rattle.latex2mathml_elements.specs.Columns.{Alignment, LeftAligned, RightAligned, SecondOfPair, Dense, Spacing, Unspaced, SpaceBefore, SpaceAround, Borders, NoLine, LineBefore, LineAfter, LinesAround, Column}
 use Rattle.latex2mathml_elements.specs.Element.{Token, Mi, Mn, Mo, Mtext, Container, Mrow, Msqrt, Mstyle, Mpadded, Mphantom, Pair, Mfrac, Mroot, Msub, Msup, Munder, Mover, Triple, Msubsup, Munderover, Element, Elements, Rows, Cells, token, space, rectangle, container, pair, triple, table, none, more, one_row, more_rows, one_cell, more_cells}
 use Rattle.latex2mathml_elements.specs.{Colors.color_text, Extents.extent_text, Extents.length_if_any}
 use Rattle.latex2mathml_tokens.specs.Escape.{content}
@@ -134,41 +134,40 @@ abbrev pub alignment_text : Alignment → List ℕ
 alignment_text LeftAligned = codes " columnalign=\"left\""
 alignment_text SecondOfPair = codes " columnalign=\"left\""
 alignment_text RightAligned = codes " columnalign=\"right\""
-alignment_text FirstOfPair = codes " columnalign=\"right\""
 alignment_text alignment = []
 
 -- how cells are aligned, in the language of style sheets
 abbrev pub alignment_style : Alignment → List ℕ
-alignment_style Centered = []
-alignment_style LeftAligned = codes "text-align: left"
-alignment_style RightAligned = codes "text-align: right; text-align: -webkit-right"
-alignment_style FirstOfPair = codes "text-align: right; text-align: -webkit-right; padding-right: 0"
-alignment_style SecondOfPair = codes "text-align: left; padding-left: 0"
-alignment_style Dense = codes "padding: 0.1em 0.3em"
+alignment_style LeftAligned = codes "text-align: left; "
+alignment_style SecondOfPair = codes "text-align: left; "
+alignment_style RightAligned = codes "text-align: right; text-align: -webkit-right; "
+alignment_style alignment = []
 
--- the lines next to cells, in the same language; in some browsers only inner cells have space around them
+-- the space at the sides of cells, in the same language: a quad between columns, or half of one around each. Dense cells have
+-- less, and are near each other from top to bottom too.
+abbrev pub spacing_style : Alignment → Spacing → List ℕ
+spacing_style Dense Unspaced = codes "padding: 0.1em 0"
+spacing_style Dense SpaceBefore = codes "padding: 0.1em 0 0.1em 0.4em"
+spacing_style Dense SpaceAround = codes "padding: 0.1em 0.2em"
+spacing_style alignment Unspaced = codes "padding-inline: 0"
+spacing_style alignment SpaceBefore = codes "padding-inline: 1em 0"
+spacing_style alignment SpaceAround = codes "padding-inline: 0.5em"
+
+-- the lines next to cells, in the same language
 abbrev pub border_style : Borders → List ℕ
 border_style NoLine = []
-border_style LineBefore = codes "border-left: thin solid; padding-left: 0.4em"
-border_style LineAfter = codes "border-right: thin solid; padding-right: 0.4em"
-border_style LinesAround = codes "border-left: thin solid; padding-left: 0.4em; border-right: thin solid; padding-right: 0.4em"
-
--- two styles as one; either may be empty
-abbrev pub both_styles : List ℕ → List ℕ → List ℕ
-both_styles [] style = style
-both_styles (c ∷ cs) [] = c ∷ cs
-both_styles (c ∷ cs) (d ∷ ds) = c ∷ cs ++ (codes "; " ++ d ∷ ds)
-
--- the attribute for a style that is not empty
-abbrev pub style_attribute : List ℕ → List ℕ
-style_attribute [] = []
-style_attribute (c ∷ cs) = codes " style=\"" ++ (c ∷ cs ++ codes "\"")
+border_style LineBefore = codes "; border-left: thin solid"
+border_style LineAfter = codes "; border-right: thin solid"
+border_style LinesAround = codes "; border-left: thin solid; border-right: thin solid"
 
 -- the attributes of the cells of a column
 abbrev pub column_text : Column → List ℕ
 column_text column =
     alignment_text column.alignment
-    ++ style_attribute (both_styles (alignment_style column.alignment) (border_style column.borders))
+    ++ (codes " style=\""
+    ++ (alignment_style column.alignment
+    ++ (spacing_style column.alignment column.spacing
+    ++ (border_style column.borders ++ codes "\""))))
 
 -- Elements
 

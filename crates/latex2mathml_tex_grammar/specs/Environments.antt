@@ -1,7 +1,7 @@
 -- The environments: each is a table. A name is its bytes.
 use Rattle.std.specs.Prelude.{ℕ, ◌==◌, Bool, true, false, List, [], ◌∷◌, Option, Some, None, codes, if◌then◌else◌}
 use Rattle.std.specs.{Str.byte, Str.bytes_eq}
-use Rattle.latex2mathml_elements.specs.Columns.{Centered, LeftAligned, RightAligned, Dense, Borders, NoLine, LineBefore, LineAfter, LinesAround, Column, unlined, Columns, Alike, InPairs, Listed}
+use Rattle.latex2mathml_elements.specs.Columns.{Centered, LeftAligned, RightAligned, Dense, SpaceAround, Borders, NoLine, LineBefore, LineAfter, LinesAround, Column, unlined, Columns, Alike, InPairs, Listed}
 use Rattle.latex2mathml_tex_grammar.specs.Scanning.{Argument, ColumnList, Number}
 use Rattle.latex2mathml_tex_grammar.specs.Symbols.{Style, InDisplay, InText, InScript}
 
@@ -21,6 +21,7 @@ borders true true = LinesAround
 abbrev pub column_of : ℕ → Borders → Column
 column_of c lines = record {
   alignment = if c == byte "l" then LeftAligned else if c == byte "r" then RightAligned else Centered;
+  spacing = SpaceAround;
   borders = lines;
 }
 

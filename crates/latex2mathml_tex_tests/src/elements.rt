@@ -5,7 +5,7 @@ ghost use Rattle.latex2mathml_builder.specs.Built.{elements_in};
 use latex2mathml_attributes::attributes::{
     Attributes, Form, MathStyle, Side, Size, Space, Stretch,
 };
-use latex2mathml_attributes::columns::{Alignment, Column, Columns};
+use latex2mathml_attributes::columns::{Alignment, Columns, ListedColumn};
 use latex2mathml_attributes::tag::{Container, Pair, Token, Triple};
 use latex2mathml_builder::builder::Builder;
 use latex2mathml_builder::works::Works;
@@ -210,7 +210,7 @@ fn rows_become_cells(rt: HostRuntime) -> Result<(), Fail> {
         rt.alloc(),
         &builder,
         1,
-        "<mtable displaystyle=\"false\" scriptlevel=\"1\"><mtr><mtd columnalign=\"right\" style=\"text-align: right; text-align: -webkit-right; padding-right: 0\"><mi>a</mi></mtd><mtd columnalign=\"left\" style=\"text-align: left; padding-left: 0\"><mi>b</mi></mtd></mtr><mtr><mtd columnalign=\"right\" style=\"text-align: right; text-align: -webkit-right; padding-right: 0\"><mrow></mrow></mtd></mtr><mtr><mtd columnalign=\"right\" style=\"text-align: right; text-align: -webkit-right; padding-right: 0\"><mi>c</mi></mtd></mtr></mtable>",
+        "<mtable displaystyle=\"false\" scriptlevel=\"1\"><mtr><mtd columnalign=\"right\" style=\"text-align: right; text-align: -webkit-right; padding-inline: 0\"><mi>a</mi></mtd><mtd columnalign=\"left\" style=\"text-align: left; padding-inline: 0\"><mi>b</mi></mtd></mtr><mtr><mtd columnalign=\"right\" style=\"text-align: right; text-align: -webkit-right; padding-inline: 0\"><mrow></mrow></mtd></mtr><mtr><mtd columnalign=\"right\" style=\"text-align: right; text-align: -webkit-right; padding-inline: 0\"><mi>c</mi></mtd></mtr></mtable>",
     )
 }
 
@@ -260,16 +260,16 @@ fn push_tables(builder: &mut Builder, listed: Columns, alike: Columns) -> Result
 #[test]
 fn columns_of_each_kind(rt: HostRuntime) -> Result<(), Fail> {
     let mut listed = Columns::none();
-    assert!(rt; listed.push(Column::LeftAlignedBeforeLine));
+    assert!(rt; listed.push(ListedColumn::LeftAlignedBeforeLine));
     let mut alike = Columns::alike(Alignment::Dense);
-    assert!(rt; !alike.push(Column::LeftAligned));
+    assert!(rt; !alike.push(ListedColumn::LeftAligned));
     let mut builder = Builder::new(rt.alloc());
     push_tables(&mut builder, listed, alike)?;
     expect(
         rt.alloc(),
         &builder,
         3,
-        "<mtable><mtr><mtd columnalign=\"right\" style=\"text-align: right; text-align: -webkit-right\"><mi>a</mi></mtd><mtd><mi>b</mi></mtd><mtd columnalign=\"left\" style=\"text-align: left\"><mi>c</mi></mtd></mtr></mtable><mtable><mtr><mtd columnalign=\"left\" style=\"text-align: left; border-right: thin solid; padding-right: 0.4em\"><mi>d</mi></mtd><mtd><mi>e</mi></mtd></mtr></mtable><mtable><mtr><mtd style=\"padding: 0.1em 0.3em\"><mi>f</mi></mtd></mtr></mtable>",
+        "<mtable><mtr><mtd columnalign=\"right\" style=\"text-align: right; text-align: -webkit-right; padding-inline: 0.5em\"><mi>a</mi></mtd><mtd style=\"padding-inline: 0.5em\"><mi>b</mi></mtd><mtd columnalign=\"left\" style=\"text-align: left; padding-inline: 0.5em\"><mi>c</mi></mtd></mtr></mtable><mtable><mtr><mtd columnalign=\"left\" style=\"text-align: left; padding-inline: 0.5em; border-right: thin solid\"><mi>d</mi></mtd><mtd style=\"padding-inline: 0.5em\"><mi>e</mi></mtd></mtr></mtable><mtable><mtr><mtd style=\"padding: 0.1em 0\"><mi>f</mi></mtd></mtr></mtable>",
     )
 }
 
@@ -310,6 +310,6 @@ fn push_deep_tables(builder: &mut Builder, depth: usize) -> Result<(), AllocErro
 fn deep_tables(rt: HostRuntime) -> Result<(), Fail> {
     let mut builder = Builder::new(rt.alloc());
     push_deep_tables(&mut builder, 100000)?;
-    assert!(rt; markup(rt.alloc(), &builder, 1)?.len() == 100000 * 39 + 10);
+    assert!(rt; markup(rt.alloc(), &builder, 1)?.len() == 100000 * 65 + 10);
     Ok(())
 }

@@ -1,6 +1,6 @@
 //! Environments: how they begin.
 ghost use Rattle.std.specs.Prelude.{◌≡◌, MatchOption, Some, false, length, true, nat_le};
-ghost use Rattle.latex2mathml_attributes.specs.Columns.{column_of, columns_of};
+ghost use Rattle.latex2mathml_attributes.specs.Columns.{columns_of, listed_of};
 ghost use Rattle.latex2mathml_elements.specs.Columns.{Listed};
 ghost use Rattle.latex2mathml_tex_grammar.specs.Environments;
 ghost use Rattle.latex2mathml_tex_grammar.specs.{Meaning.BeginTable};
@@ -12,7 +12,7 @@ ghost use Rattle.latex2mathml_tex.specs.Steps.{BeginsIn, CanBegin, Advances, Lea
 
 use crate::parse::frames::{Table, TableKind};
 use crate::parse::{Parser, State};
-use latex2mathml_attributes::columns::{Alignment, Column, Columns};
+use latex2mathml_attributes::columns::{Alignment, Columns, ListedColumn};
 use latex2mathml_tex_atoms::atoms::Context;
 use latex2mathml_tex_units::environments;
 use latex2mathml_tex_units::environments::{Bracket, Environment};
@@ -251,23 +251,23 @@ impl<'a> Parser<'a> {
 }
 
 /// Returns the column that a letter specifies, with a line before it and a line after it, if so.
-fn column(letter: u8, before: bool, after: bool) -> Column
-    ensures { column_of result
+fn column(letter: u8, before: bool, after: bool) -> ListedColumn
+    ensures { listed_of result
         ≡ Environments.column_of letter (Environments.borders before after) }
 {
     match (letter, before, after) {
-        (b'l', false, false) => Column::LeftAligned,
-        (b'l', true, false) => Column::LeftAlignedBehindLine,
-        (b'l', false, true) => Column::LeftAlignedBeforeLine,
-        (b'l', true, true) => Column::LeftAlignedBetweenLines,
-        (b'r', false, false) => Column::RightAligned,
-        (b'r', true, false) => Column::RightAlignedBehindLine,
-        (b'r', false, true) => Column::RightAlignedBeforeLine,
-        (b'r', true, true) => Column::RightAlignedBetweenLines,
-        (_, false, false) => Column::Centered,
-        (_, true, false) => Column::CenteredBehindLine,
-        (_, false, true) => Column::CenteredBeforeLine,
-        (_, true, true) => Column::CenteredBetweenLines,
+        (b'l', false, false) => ListedColumn::LeftAligned,
+        (b'l', true, false) => ListedColumn::LeftAlignedBehindLine,
+        (b'l', false, true) => ListedColumn::LeftAlignedBeforeLine,
+        (b'l', true, true) => ListedColumn::LeftAlignedBetweenLines,
+        (b'r', false, false) => ListedColumn::RightAligned,
+        (b'r', true, false) => ListedColumn::RightAlignedBehindLine,
+        (b'r', false, true) => ListedColumn::RightAlignedBeforeLine,
+        (b'r', true, true) => ListedColumn::RightAlignedBetweenLines,
+        (_, false, false) => ListedColumn::Centered,
+        (_, true, false) => ListedColumn::CenteredBehindLine,
+        (_, false, true) => ListedColumn::CenteredBeforeLine,
+        (_, true, true) => ListedColumn::CenteredBetweenLines,
     }
 }
 
