@@ -3,6 +3,7 @@
 ghost use Rattle.std.specs.Prelude.{◌≡◌, ℕ, [], IsFalse, Some};
 ghost use Rattle.latex2mathml_tex_grammar.specs.Refusal.{refusal_at};
 ghost use Rattle.latex2mathml_tex_grammar.specs.{Commands.meaning_of, Meaning.takes_words};
+ghost use Rattle.latex2mathml_tex_grammar.specs.RowLines.{is_line_command};
 ghost use Rattle.latex2mathml_tex_grammar.specs.Scanning;
 ghost use Rattle.latex2mathml_tex_grammar.specs.Scanning.{past, scan};
 ghost use Rattle.latex2mathml_tex_grammar.specs.Units.{End, Next, Stop, Units, unit};
