@@ -1,10 +1,11 @@
 -- What is still to be written of the elements of a builder. The work that was pushed last is done first.
-use Rattle.std.specs.Prelude.{◌≡◌, ℕ, suc, ◌+◌, ◌-◌, ◌≤◌, Bool, true, List, [], ◌∷◌, ◌++◌, codes, drop, length, reverse, sum_by, take}
+use Rattle.std.specs.Prelude.{◌≡◌, ℕ, zero, suc, ◌+◌, ◌-◌, ◌≤◌, Bool, true, false, not, ◌&&◌, ◌||◌, List, [], ◌∷◌, ◌++◌, codes, drop, if◌then◌else◌, length, reverse, sum_by, take}
 use Rattle.std.specs.List.{All, flat_map}
 use Rattle.latex2mathml_elements.specs.Element.{Element, Elements, Rows, Cells, token, space, rectangle, container, pair, triple, table, none, more, one_row, more_rows, one_cell, more_cells, children, Mrow}
 use Rattle.latex2mathml_elements.specs.Columns.{Columns, column_at}
 use Rattle.latex2mathml_elements.specs.Print.{cell_print, cells_print, prints, row_print}
-use Rattle.latex2mathml_elements.specs.Tables.{cells_in}
+use Rattle.latex2mathml_elements.specs.RowLines.{LineAbove, row_lines}
+use Rattle.latex2mathml_elements.specs.Tables.{are_line, cells_in, is_line}
 use Rattle.latex2mathml_builder.specs.Built.{Built, settled_in}
 use Rattle.latex2mathml_attributes.specs.Columns.{columns_of}
 use Rattle.latex2mathml_builder.specs.declared.works.Run.{Run}
@@ -20,10 +21,22 @@ abbrev pub cell_prints : Columns → ℕ → List Element → List ℕ
 cell_prints columns k [] = []
 cell_prints columns k (x ∷ xs) = cell_print (column_at columns k) (prints (more x none)) ++ cell_prints columns (suc k) xs
 
--- the rows that these elements become
-abbrev pub row_prints : Columns → List Element → List ℕ
-row_prints columns [] = []
-row_prints columns (x ∷ xs) = row_print (cells_print (cells_in columns x)) ++ row_prints columns xs
+-- whether the first of these elements is a line
+abbrev pub begins_with_line : List Element → Bool
+begins_with_line [] = false
+begins_with_line (x ∷ xs) = is_line x
+
+-- whether one of these elements is a line
+abbrev pub has_line : List Element → Bool
+has_line [] = false
+has_line (x ∷ xs) = is_line x || has_line xs
+
+-- the rows that these elements become, where a line may come before them
+abbrev pub row_prints : Columns → Bool → List Element → List ℕ
+row_prints columns line [] = if line then row_print LineAbove (cell_print (column_at columns zero) []) else []
+row_prints columns line (x ∷ xs) =
+    if not line && is_line x then row_prints columns true xs
+    else row_print (row_lines line (are_line xs)) (cells_print (cells_in columns x)) ++ (if are_line xs then [] else row_prints columns false xs)
 
 -- the elements of a run
 abbrev pub elements_of : Built → Run → List Element
@@ -34,7 +47,7 @@ run_print b run = prints (children (elements_of b run)) ++ run.tag.now
 
 abbrev pub work_print : Built → Work → List ℕ
 work_print b (work.Elements run) = run_print b run
-work_print b (work.Rows columns first count) = row_prints (columns_of columns) (settled_from b first count) ++ codes "</mtable>"
+work_print b (work.Rows columns first count) = row_prints (columns_of columns) false (settled_from b first count) ++ codes "</mtable>"
 work_print b (work.Cells columns start first count) = cell_prints (columns_of columns) (first - start) (settled_from b first count) ++ codes "</mtr>"
 
 abbrev pub due : Built → List Work → List ℕ
@@ -80,8 +93,8 @@ abbrev mutual
   weights (more x xs) = weight x + weights xs
 
   pub row_weights : Rows → ℕ
-  row_weights (one_row cells) = 3 + cell_weights cells
-  row_weights (more_rows cells rows) = 3 + (cell_weights cells + row_weights rows)
+  row_weights (one_row lines cells) = 3 + cell_weights cells
+  row_weights (more_rows lines cells rows) = 3 + (cell_weights cells + row_weights rows)
 
   pub cell_weights : Cells → ℕ
   cell_weights (one_cell column xs) = 3 + weights xs
@@ -92,9 +105,11 @@ abbrev pub cell_loads : List Element → ℕ
 cell_loads [] = 0
 cell_loads (x ∷ xs) = 3 + (weights (more x none) + cell_loads xs)
 
-abbrev pub row_loads : Columns → List Element → ℕ
-row_loads columns [] = 0
-row_loads columns (x ∷ xs) = 3 + (cell_weights (cells_in columns x) + row_loads columns xs)
+abbrev pub row_loads : Columns → Bool → List Element → ℕ
+row_loads columns line [] = if line then 6 else 0
+row_loads columns line (x ∷ xs) =
+    if not line && is_line x then row_loads columns true xs
+    else 3 + (cell_weights (cells_in columns x) + (if are_line xs then 0 else row_loads columns false xs))
 
 -- how much there is to write of a work, and of all works
 abbrev pub run_weight : Built → Run → ℕ
@@ -102,7 +117,7 @@ run_weight b run = weights (children (elements_of b run))
 
 abbrev pub work_weight : Built → Work → ℕ
 work_weight b (work.Elements run) = 1 + run_weight b run
-work_weight b (work.Rows columns first count) = 1 + row_loads (columns_of columns) (settled_from b first count)
+work_weight b (work.Rows columns first count) = 1 + row_loads (columns_of columns) false (settled_from b first count)
 work_weight b (work.Cells columns start first count) = 1 + cell_loads (settled_from b first count)
 
 abbrev pub load : Built → List Work → ℕ

@@ -326,8 +326,8 @@ impl Builder {
         )
     }
 
-    /// Makes a table of the `count` uppermost elements: each becomes a row. The children of an `mrow` become the cells of its
-    /// row, and any other element is alone in a cell.
+    /// Makes a table of the `count` uppermost elements: a rectangle becomes a line between rows, and each other element a row. The
+    /// children of an `mrow` become the cells of its row, and any other element is alone in a cell.
     pub fn table(
         &mut self,
         style: Option<MathStyle>,

@@ -47,8 +47,8 @@ pub(crate) struct Run {
 pub(crate) enum Work {
     /// Settled elements and the end tag after them.
     Elements(Run),
-    /// A number of settled elements, each as a row of these columns, and the end tag of their table: the place of the first, and
-    /// how many there are.
+    /// A number of settled elements, as lines and rows of these columns, and the end tag of their table: the place of the first,
+    /// and how many there are.
     Rows(Columns, usize, usize),
     /// Cells of a row of these columns, and the end tag of the row: the place of the settled element with which the row begins,
     /// the place of the first one to write, and how many there are to write.

@@ -1,16 +1,17 @@
 //! Writes elements as markup.
-ghost use Rattle.std.specs.Prelude.{◌≡◌, ◌+◌, ◌<◌, ◌≤◌, ◌∷◌, ◌++◌, [], false, IfOk, OnOk, codes, length, set, string_bytes};
+ghost use Rattle.std.specs.Prelude.{◌≡◌, ◌+◌, ◌<◌, ◌≤◌, ◌∷◌, ◌++◌, [], false, IfOk, OnOk, codes, length, option_map, set, string_bytes};
+ghost use Rattle.latex2mathml_elements.specs.Attributes.{styled};
 ghost use Rattle.latex2mathml_elements.specs.Element.{children, space};
-ghost use Rattle.latex2mathml_elements.specs.Print.{attributes_text, container_name, pair_name, print, prints, triple_name};
+ghost use Rattle.latex2mathml_elements.specs.Print.{attributes_text, container_name, pair_name, print, prints, start_tag, table_attributes, triple_name};
 ghost use Rattle.latex2mathml_builder.specs.Built.{Fits, element_in, elements_in, is_token_part, uppermost};
-ghost use Rattle.latex2mathml_attributes.specs.Names.{attributes_if_any, attributes_of, container_of, pair_of, triple_of};
+ghost use Rattle.latex2mathml_attributes.specs.Names.{attributes_if_any, attributes_of, container_of, math_style_of, pair_of, triple_of};
 ghost use Rattle.latex2mathml_builder.specs.Due.{AreIn, Begins, IsIn, Writes, arranged, due, load, run_print, run_weight, settled_from, weight, weights, work_print, work_weight};
 
 use crate::builder::Builder;
 use crate::part::Part;
 use crate::texts::write_token;
 use crate::works::{Run, Work, Works};
-use latex2mathml_attributes::attributes::Attributes;
+use latex2mathml_attributes::attributes::{Attributes, MathStyle};
 use latex2mathml_attributes::tag::{Container, Pair, Triple};
 use latex2mathml_trees::append::append_space;
 use std::alloc::AllocError;
@@ -175,7 +176,7 @@ impl Builder {
                 self.three(*first, *is_exchanged, tag.end(), works)
             }
             Part::Table(style, columns, first, count) => {
-                start_with_attributes("<mtable", &Attributes::styled(*style), out)?;
+                start_table(*style, self.has_line(*first, *count), out)?;
                 self.write_rows(*columns, *first, *count, works, out)
             }
         }
@@ -314,6 +315,22 @@ fn start_triple(
         None => tag.append_start_tag(out),
         Some(attributes) => start_with_attributes(tag.start(), attributes, out),
     }
+}
+
+/// Appends the start tag of a table, whose rows may have lines.
+#[inline(never)]
+#[tactic(auto, using(std::proofs::lemmas::Grind::common_steps))]
+fn start_table(style: Option<MathStyle>, has_line: bool, out: &mut String) -> Result<(), AllocError>
+    ensures { OnOk result (string_bytes out.new ≡ string_bytes out.old
+        ++ start_tag (codes "mtable")
+        (table_attributes has_line (styled (option_map math_style_of style)))) }
+{
+    if !has_line {
+        return start_with_attributes("<mtable", &Attributes::styled(style), out);
+    }
+    out.push_str("<mtable")?;
+    Attributes::styled(style).append(out)?;
+    out.push_str(" style=\"border-collapse: collapse\">")
 }
 
 /// Appends a start tag: `beginning` and the attributes.

@@ -5,9 +5,9 @@ use Rattle.std.specs.{List.list_all, Str.bytes_eq}
 use Rattle.latex2mathml_elements.specs.Characters.{IsAllowed, EachText, EachTextOf, EachTextOfCells, EachTextOfRows}
 use Rattle.latex2mathml_elements.specs.Element.{Element, Elements, Rows, Cells, token, space, rectangle, container, pair, triple, table, none, more, one_row, more_rows, one_cell, more_cells}
 use Rattle.latex2mathml_elements.specs.Laws.{PrintAsElements}
-use Rattle.latex2mathml_elements.specs.Print.{cells_print, container_name, formula_print, pair_name, print, prints, rows_print, token_name, triple_name}
+use Rattle.latex2mathml_elements.specs.Print.{cells_print, container_name, formula_print, have_line, pair_name, print, prints, rows_print, table_attributes, token_name, triple_name}
 use Rattle.latex2mathml_elements.proofs.{Characters.IsClean, Characters.both, Characters.clean, Characters.contents, Plain.IsPlain, Plain.called, Plain.name_plain, Plain.name_valid}
-use Rattle.latex2mathml_elements.proofs.Settings.{AreSettings, column, extent, math, nothing, settings, width}
+use Rattle.latex2mathml_elements.proofs.Settings.{AreSettings, column, extent, math, row, settings, width}
 use Rattle.latex2mathml_trees.specs.{MathSchema.child_table, MathSchema.has_some, MathSchema.IsMathElement}
 use Rattle.latex2mathml_trees.specs.Markup.{Name, Schema, open_tag, close_tag, empty_tag, above, add, at_start, lowest, name_of, OpenElements, Runs, is_attribute, is_name, spell_event}
 use Rattle.latex2mathml_trees.specs.Width.{width_text}
@@ -72,14 +72,14 @@ module _ (schema : Schema) (allows : (parent : Option Name) (name : Name) (child
         let valid = name_valid (triple t a x y z) in
         then (starts (triple_name t) s valid (settings a)) (then (element x _ (λ c. (h c).0)) (then (element y _ (λ c. (h c).1)) (then (element z _ (λ c. (h c).2)) (ends (triple_name t) _ false _ valid (grind arith)))))
     element (table a rs) s h =
-        let inner = rows rs [] (add (codes "mtable") s) refl h in around (codes "mtable") inner.0 false s refl inner.1 (settings a) inner.2
+        let inner = rows rs [] (add (codes "mtable") s) refl h in around (codes "mtable") inner.0 false s refl inner.1 (settings (table_attributes (have_line rs) a)) inner.2
 
     rows : (rs : Rows) (ks : List Name) (s : OpenElements) → IsTrue (list_all (bytes_eq (codes "mtr")) ks) → (C → EachTextOfRows IsAllowed rs) → (names : List Name) × AreSome (codes "mtr") names × Piece schema C (rows_print rs) (above (codes "mtable") ks false s) (above (codes "mtable") names false s)
-    rows (one_row cs) ks s k h = let inner = cells cs [] _ refl h in (codes "mtr" ∷ ks, k, around (codes "mtr") inner.0 false _ refl inner.1 nothing inner.2)
-    rows (more_rows cs rs) ks s k h =
+    rows (one_row lines cs) ks s k h = let inner = cells cs [] _ refl h in (codes "mtr" ∷ ks, k, around (codes "mtr") inner.0 false _ refl inner.1 (row lines) inner.2)
+    rows (more_rows lines cs rs) ks s k h =
         let inner = cells cs [] _ refl (λ c. (h c).0) in
         let others = rows rs (codes "mtr" ∷ ks) s k (λ c. (h c).1) in
-        (others.0, others.1, then (around (codes "mtr") inner.0 false _ refl inner.1 nothing inner.2) others.2)
+        (others.0, others.1, then (around (codes "mtr") inner.0 false _ refl inner.1 (row lines) inner.2) others.2)
 
     cells : (cs : Cells) (ks : List Name) (s : OpenElements) → IsTrue (list_all (bytes_eq (codes "mtd")) ks) → (C → EachTextOfCells IsAllowed cs) → (names : List Name) × AreSome (codes "mtd") names × Piece schema C (cells_print cs) (above (codes "mtr") ks false s) (above (codes "mtr") names false s)
     cells (one_cell c xs) ks s k h = let inner = elements xs (codes "mtd") [] _ h in (codes "mtd" ∷ ks, k, around (codes "mtd") inner.0 false _ refl refl (column c) inner.1)

@@ -2,8 +2,8 @@
 use Rattle.std.proofs.Common.{◌≡◌, ℕ, zero, ℤ, pos, Bool, true, false, ◌&&◌, ◌==◌, IsTrue, List, [], ◌∷◌, ◌++◌, append_assoc, append-nil, Option, Some, None, refl, arith, codes, map, if◌then◌else◌}
 use Rattle.std.specs.{Cmp.Lexicographic.bytes_decides, List.flat_map, List.list_all, Str.byte, Str.bytes_eq}
 use Rattle.std.proofs.{lemmas.Grind.flat_map-append, lemmas.List.Folds.list_all-append, lemmas.List.Folds.list_all-map}
-use Rattle.latex2mathml_elements.specs.{Attributes.Attributes, Columns.Column}
-use Rattle.latex2mathml_elements.specs.Print.{accent_text, attributes_text, boxing_text, column_text, form_text, if_so, math_tag, size_text, space_text, stretch_text, style_text}
+use Rattle.latex2mathml_elements.specs.{Attributes.Attributes, Columns.Column, RowLines.RowLines}
+use Rattle.latex2mathml_elements.specs.Print.{accent_text, attributes_text, boxing_text, column_text, form_text, if_so, lines_text, math_tag, size_text, space_text, stretch_text, style_text}
 use Rattle.latex2mathml_elements.specs.Colors.{Color, color_code, color_text}
 use Rattle.latex2mathml_elements.specs.Extents.{Extent, black_text, ems, extent_text, length_if_any, length_text}
 use Rattle.latex2mathml_elements.proofs.Plain.{IsPlain, IsQuotable, color_quotable, ems_quotable, is_plain, name_plain, width_quotable}
@@ -118,6 +118,9 @@ settings a =
 
 pub column : (c : Column) → AreSettings (column_text c)
 column c = words (column_text c) (grind arith)
+
+pub row : (lines : RowLines) → AreSettings (lines_text lines)
+row lines = words (lines_text lines) (grind arith)
 
 pub extent : (e : Extent) → AreSettings (extent_text e)
 extent e =

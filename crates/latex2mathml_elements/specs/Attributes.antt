@@ -59,6 +59,8 @@ pub data Boxing : Type 0 where
   StruckUp : Boxing
   StruckDown : Boxing
   StruckTwice : Boxing
+  -- a table in which the lines of all cells of a row are one line
+  JoinedLines : Boxing
 
 -- the attributes of an element; one that is `None` or false is not written
 pub record Attributes : Type 0 where

@@ -29,8 +29,8 @@ abbrev mutual
   EachTextOf P (more x xs) = EachText P x × EachTextOf P xs
 
   pub EachTextOfRows : (List ℕ → Type 0) → Rows → Type 0
-  EachTextOfRows P (one_row cells) = EachTextOfCells P cells
-  EachTextOfRows P (more_rows cells rows) = EachTextOfCells P cells × EachTextOfRows P rows
+  EachTextOfRows P (one_row lines cells) = EachTextOfCells P cells
+  EachTextOfRows P (more_rows lines cells rows) = EachTextOfCells P cells × EachTextOfRows P rows
 
   pub EachTextOfCells : (List ℕ → Type 0) → Cells → Type 0
   EachTextOfCells P (one_cell column xs) = EachTextOf P xs

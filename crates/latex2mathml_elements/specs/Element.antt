@@ -1,6 +1,6 @@
 -- Elements of MathML. Each constructor takes as many children as MathML Core requires.
 use Rattle.std.specs.Prelude.{ℕ, ℤ, List, [], ◌∷◌}
-use Rattle.latex2mathml_elements.specs.{Attributes.Attributes, Columns.Column, Extents.Extent}
+use Rattle.latex2mathml_elements.specs.{Attributes.Attributes, Columns.Column, Extents.Extent, RowLines.RowLines}
 
 -- the elements that hold a text
 pub data Token : Type 0 where
@@ -50,8 +50,8 @@ mutual
 
   -- at least one row
   pub data Rows : Type 0 where
-    one_row : Cells → Rows
-    more_rows : Cells → Rows → Rows
+    one_row : RowLines → Cells → Rows
+    more_rows : RowLines → Cells → Rows → Rows
 
   -- at least one cell
   pub data Cells : Type 0 where

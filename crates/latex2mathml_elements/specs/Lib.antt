@@ -9,4 +9,5 @@ pub mod Extents
 pub mod Groups
 pub mod Laws
 pub mod Print
+pub mod RowLines
 pub mod Tables

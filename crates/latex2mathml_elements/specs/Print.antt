@@ -1,8 +1,9 @@
 -- How elements are written.
-use Rattle.std.specs.Prelude.{ℕ, Bool, true, false, List, [], ◌++◌, Option, Some, None, codes}
-use Rattle.latex2mathml_elements.specs.Attributes.{Attributes, Side, Above, Below, Form, Prefix, Infix, Postfix, Stretch, Stretching, Rigid, Space, NoSpace, Narrow, Thick, NoSpaceBefore, ThickAfter, Size, Big, Bigger, VeryBig, Biggest, MathStyle, DisplayStyle, TextStyle, ScriptStyle, Boxing, NoWidth, Flat, NoHeight, NoDepth, ByItsWidth, ByHalfItsWidth, Framed, StruckUp, StruckDown, StruckTwice}
+use Rattle.std.specs.Prelude.{ℕ, Bool, true, false, ◌||◌, List, [], ◌++◌, Option, Some, None, codes}
+use Rattle.latex2mathml_elements.specs.Attributes.{Attributes, Side, Above, Below, Form, Prefix, Infix, Postfix, Stretch, Stretching, Rigid, Space, NoSpace, Narrow, Thick, NoSpaceBefore, ThickAfter, Size, Big, Bigger, VeryBig, Biggest, MathStyle, DisplayStyle, TextStyle, ScriptStyle, Boxing, NoWidth, Flat, NoHeight, NoDepth, ByItsWidth, ByHalfItsWidth, Framed, StruckUp, StruckDown, StruckTwice, JoinedLines}
 use Rattle.latex2mathml_elements.specs.Columns.{Alignment, LeftAligned, RightAligned, SecondOfPair, Dense, Spacing, Unspaced, SpaceBefore, SpaceAround, Borders, NoLine, LineBefore, LineAfter, LinesAround, Column}
 use Rattle.latex2mathml_elements.specs.Element.{Token, Mi, Mn, Mo, Mtext, Container, Mrow, Msqrt, Mstyle, Mpadded, Mphantom, Pair, Mfrac, Mroot, Msub, Msup, Munder, Mover, Triple, Msubsup, Munderover, Element, Elements, Rows, Cells, token, space, rectangle, container, pair, triple, table, none, more, one_row, more_rows, one_cell, more_cells}
+use Rattle.latex2mathml_elements.specs.RowLines.{RowLines, Unlined, LineAbove, LineBelow, LineAboveAndBelow, is_lined}
 use Rattle.latex2mathml_elements.specs.{Colors.color_text, Extents.extent_text, Extents.length_if_any}
 use Rattle.latex2mathml_tokens.specs.Escape.{content}
 use Rattle.latex2mathml_trees.specs.Width.{width_text}
@@ -109,6 +110,7 @@ boxing_text (Some Framed) = codes " style=\"border: thin solid; padding: 0.3em\"
 boxing_text (Some StruckUp) = codes " style=\"background: " ++ (line_up ++ codes "\"")
 boxing_text (Some StruckDown) = codes " style=\"background: " ++ (line_down ++ codes "\"")
 boxing_text (Some StruckTwice) = codes " style=\"background: " ++ (line_up ++ (codes ", " ++ (line_down ++ codes "\"")))
+boxing_text (Some JoinedLines) = codes " style=\"border-collapse: collapse\""
 
 -- all attributes, each with a space before it
 abbrev pub attributes_text : Attributes → List ℕ
@@ -179,9 +181,30 @@ start_tag name a = codes "<" ++ (name ++ (attributes_text a ++ codes ">"))
 abbrev pub end_tag : List ℕ → List ℕ
 end_tag name = codes "</" ++ (name ++ codes ">")
 
+-- the attribute for the lines next to a row
+abbrev pub lines_text : RowLines → List ℕ
+lines_text Unlined = []
+lines_text LineAbove = codes " style=\"border-top: thin solid\""
+lines_text LineBelow = codes " style=\"border-bottom: thin solid\""
+lines_text LineAboveAndBelow = codes " style=\"border-top: thin solid; border-bottom: thin solid\""
+
+-- the start tag of a row
+abbrev pub row_tag : RowLines → List ℕ
+row_tag lines = codes "<mtr" ++ (lines_text lines ++ codes ">")
+
 -- a row of these cells, and a cell of these elements
-abbrev pub row_print : List ℕ → List ℕ
-row_print cells = codes "<mtr>" ++ (cells ++ codes "</mtr>")
+abbrev pub row_print : RowLines → List ℕ → List ℕ
+row_print lines cells = row_tag lines ++ (cells ++ codes "</mtr>")
+
+-- whether one of the rows has a line
+abbrev pub have_line : Rows → Bool
+have_line (one_row lines cells) = is_lined lines
+have_line (more_rows lines cells rows) = is_lined lines || have_line rows
+
+-- The attributes of a table, whose rows may have lines. Browsers draw the lines of rows only where all lines are joined.
+abbrev pub table_attributes : Bool → Attributes → Attributes
+table_attributes true a = record a { boxing = Some JoinedLines }
+table_attributes false a = a
 
 -- the start tag of a cell
 abbrev pub cell_tag : Column → List ℕ
@@ -199,7 +222,7 @@ abbrev mutual
   print (container c a xs) = start_tag (container_name c) a ++ (prints xs ++ end_tag (container_name c))
   print (pair p a x y) = start_tag (pair_name p) a ++ (print x ++ (print y ++ end_tag (pair_name p)))
   print (triple t a x y z) = start_tag (triple_name t) a ++ (print x ++ (print y ++ (print z ++ end_tag (triple_name t))))
-  print (table a rows) = start_tag (codes "mtable") a ++ (rows_print rows ++ end_tag (codes "mtable"))
+  print (table a rows) = start_tag (codes "mtable") (table_attributes (have_line rows) a) ++ (rows_print rows ++ end_tag (codes "mtable"))
 
   -- elements one after another
   pub prints : Elements → List ℕ
@@ -207,8 +230,8 @@ abbrev mutual
   prints (more x xs) = print x ++ prints xs
 
   pub rows_print : Rows → List ℕ
-  rows_print (one_row cells) = row_print (cells_print cells)
-  rows_print (more_rows cells rows) = row_print (cells_print cells) ++ rows_print rows
+  rows_print (one_row lines cells) = row_print lines (cells_print cells)
+  rows_print (more_rows lines cells rows) = row_print lines (cells_print cells) ++ rows_print rows
 
   pub cells_print : Cells → List ℕ
   cells_print (one_cell column xs) = cell_print column (prints xs)

@@ -11,6 +11,7 @@ use Rattle.latex2mathml_tex_grammar.specs.Rows.{Operand, Row, empty_row, single}
 use Rattle.latex2mathml_tex_grammar.specs.Rules.{Context, in_context, styled, Ending, InBraces, InDollars, begun, Rule, gives, refuses, reads_operand, reads_core, reads_atoms, reads_words, takes_if, if_follows, takes_digits, takes_delimiter, rule, takes_found, passes_over, reads_rows, TableEnd}
 use Rattle.latex2mathml_tex_grammar.specs.Starts.{ChangeStart, ScriptStart, RuleStart, NoStart, GroupStart, DigitStart, OtherStart, atom_start, operand_start, mark_of, GoesOn, TakesOperand, Forbidden, step_of_mark, step_next, empty_base, ends, unended, is_close, left_behind}
 use Rattle.latex2mathml_elements.specs.Columns.{Columns}
+use Rattle.latex2mathml_tex_grammar.specs.RowLines.{line_next, lined}
 use Rattle.latex2mathml_tex_grammar.specs.Scanning.{Spot, BeforeRow, Given, Missing, past, scan}
 use Rattle.latex2mathml_tex_grammar.specs.Tables.{Lines}
 use Rattle.latex2mathml_tex.specs.Tables.{RowsLead}
@@ -81,7 +82,7 @@ module _ {K : Outcome Core → Type 0} {l : Units} where
   pub passed : {spot : Spot} {then : Rule} → RuleLeads (passes_over spot then) K l → RuleLeads then K (past spot l)
   passed k = record { to = λ o d. k.to o (passed_over d) }
 
-  pub rows_due : {end : TableEnd} {place : ℕ} {columns : Columns} {c : Context} (then : Lines → ℕ → Rule) → RuleLeads (reads_rows end place columns c then) K l → (o : Outcome Lines) → ReadsRows end place columns c [] [] (past BeforeRow l) o → RowsLead then K o
+  pub rows_due : {end : TableEnd} {place : ℕ} {columns : Columns} {c : Context} (then : Lines → ℕ → Rule) → RuleLeads (reads_rows end place columns c then) K l → (o : Outcome Lines) → ReadsRows end place columns c (lined (line_next l) []) [] (past BeforeRow l) o → RowsLead then K o
   rows_due then k (Read lines m) d = record {
     at_unit = λ u n p. record { to = λ o ds. k.to o (rows_read d p ds) };
     at_end = λ at p. record { to = λ o ds. k.to o (rows_to_end d p ds) };

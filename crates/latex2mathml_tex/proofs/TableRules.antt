@@ -23,9 +23,9 @@ use Rattle.latex2mathml_tex.specs.Levels.{CoreMade, Refuses, RuleLeads}
 use Rattle.latex2mathml_tex_units.specs.{Errors.refusal_of, Left.unit_count, Left.units_at}
 use Rattle.latex2mathml_tex_commands.specs.Meanings.{style_of}
 use Rattle.latex2mathml_tex_atoms.specs.Models.{context_of}
-use Rattle.latex2mathml_tex.specs.Steps.{Begins, BeginsIn, EndsRows, Follows, GoesOnTable, HasElements, Holds, InnermostIs, Advances, MakesTable, TookText, elements_of, frame_weight, left_of, level, to_do}
+use Rattle.latex2mathml_tex.specs.Steps.{Begins, BeginsIn, BeginsTable, EndsRows, Follows, GoesOnTable, HasElements, Holds, InnermostIs, Advances, MakesTable, TookText, elements_of, frame_weight, left_of, level, to_do}
 use Rattle.latex2mathml_tex_units.specs.Environments.{delimiter_texts, environment_of}
-use Rattle.latex2mathml_tex.specs.Tables.{behind_rows}
+use Rattle.latex2mathml_tex.specs.Tables.{after_rows}
 use Rattle.latex2mathml_tex.specs.Innermost.{frame_context}
 use Rattle.latex2mathml_tex_atoms.specs.Models.{core_with}
 use Rattle.latex2mathml_tex_units.specs.declared.{environments.Environment.Environment, error.TexError.TexError, input.Input.Input}
@@ -101,38 +101,26 @@ passed_step p i spot n m new st answer units h step =
 
 -- Rows begin
 
-pub rows_begin : (s : Start) (p : Parser) (i : Input) (e : Bor Environment) (columns : CodeColumns) (place : ℕ) (c : Context) → units_at i ≡ past BeforeRow (left_of p) → BeginsIn c (rows_rule place (context_of c) e.now.name.now (environment_of e.now) (columns_of columns)) 0 s p → GoesOnTable (record { kind = kind.Environment e; columns = columns; rows = 0; cells = 0 }) place s (record p { input = i })
-rows_begin s p i e columns place c units g =
+pub rows_begin : (s : Start) (p : Parser) (e : Bor Environment) (columns : CodeColumns) (place : ℕ) (c : Context) → BeginsIn c (rows_rule place (context_of c) e.now.name.now (environment_of e.now) (columns_of columns)) 0 s p → BeginsTable (kind.Environment e) columns place s p
+rows_begin s p e columns place c g =
     let around = context_at (level 0 s p) in
-    let t : Table = record { kind = kind.Environment e; columns = columns; rows = 0; cells = 0 } in
     let k = subst (λ c. RuleLeads (rows_rule place c e.now.name.now (environment_of e.now) (columns_of columns)) (CoreMade (level 0 s p)) (left_of p)) g.context g.leads in
-    record {
-      style = g.style;
-      leads = λ o d. rows_due (behind_rows t around) k o (subst (λ l. ReadsRows ByName place (columns_of columns) (styled around (style_of e.now.style)) [] [] l o) units d);
-    }
+    record { style = g.style; leads = λ o d. rows_due (after_rows (kind.Environment e) (columns_of columns) around) k o d }
 
-pub substack_begins : (s : Start) (p : Parser) (i : Input) (columns : CodeColumns) (place : ℕ) (c : Context) → columns_of columns ≡ Alike Dense → units_at i ≡ past BeforeRow (left_of p) → BeginsIn c (reads_rows ByBrace place (Alike Dense) (styled (context_of c) symbols.InScript) (λ lines end. gives (a_table None (Alike Dense) symbols.InScript (context_of c).style lines))) 0 s p → GoesOnTable (record { kind = kind.Braces; columns = columns; rows = 0; cells = 0 }) place s (record p { input = i })
-substack_begins s p i columns place c dense units g =
+pub substack_begins : (s : Start) (p : Parser) (columns : CodeColumns) (place : ℕ) (c : Context) → columns_of columns ≡ Alike Dense → BeginsIn c (reads_rows ByBrace place (Alike Dense) (styled (context_of c) symbols.InScript) (λ lines end. gives (a_table None (Alike Dense) symbols.InScript (context_of c).style lines))) 0 s p → BeginsTable kind.Braces columns place s p
+substack_begins s p columns place c dense g =
     let around = context_at (level 0 s p) in
-    let t : Table = record { kind = kind.Braces; columns = columns; rows = 0; cells = 0 } in
     let j = subst (λ c. RuleLeads (reads_rows ByBrace place (Alike Dense) (styled c symbols.InScript) (λ lines end. gives (a_table None (Alike Dense) symbols.InScript c.style lines))) (CoreMade (level 0 s p)) (left_of p)) g.context g.leads in
     let k = subst (λ d. RuleLeads (reads_rows ByBrace place d (styled around symbols.InScript) (λ lines end. gives (a_table None d symbols.InScript around.style lines))) (CoreMade (level 0 s p)) (left_of p)) (sym dense) j in
-    record {
-      style = g.style;
-      leads = λ o d. rows_due (behind_rows t around) k o (subst (λ l. ReadsRows ByBrace place (columns_of columns) (styled around symbols.InScript) [] [] l o) units d);
-    }
+    record { style = g.style; leads = λ o d. rows_due (after_rows kind.Braces (columns_of columns) around) k o d }
 
 -- rows of a whole text
-pub text_begins : (s : Start) (p : Parser) (i : Input) (columns : CodeColumns) (place : ℕ) → columns_of columns ≡ InPairs → place ≡ 0 → units_at i ≡ past BeforeRow (left_of p) → Begins (rows_of_text (context_at (level 0 s p))) 0 s p → GoesOnTable (record { kind = kind.Text; columns = columns; rows = 0; cells = 0 }) place s (record p { input = i })
-text_begins s p i columns place in_pairs first units g =
+pub text_begins : (s : Start) (p : Parser) (columns : CodeColumns) (place : ℕ) → columns_of columns ≡ InPairs → place ≡ 0 → Begins (rows_of_text (context_at (level 0 s p))) 0 s p → BeginsTable kind.Text columns place s p
+text_begins s p columns place in_pairs first g =
     let around = context_at (level 0 s p) in
-    let t : Table = record { kind = kind.Text; columns = columns; rows = 0; cells = 0 } in
     let k = subst (λ d. RuleLeads (reads_rows ByText 0 d (styled around symbols.InDisplay) (λ lines end. gives (a_table None d symbols.InDisplay around.style lines))) (CoreMade (level 0 s p)) (left_of p)) (sym in_pairs) g.leads in
     let j = subst (λ n. RuleLeads (reads_rows ByText n (columns_of columns) (styled around symbols.InDisplay) (λ lines end. gives (a_table None (columns_of columns) symbols.InDisplay around.style lines))) (CoreMade (level 0 s p)) (left_of p)) (sym first) k in
-    record {
-      style = g.style;
-      leads = λ o d. rows_due (behind_rows t around) j o (subst (λ l. ReadsRows ByText place (columns_of columns) (styled around symbols.InDisplay) [] [] l o) units d);
-    }
+    record { style = g.style; leads = λ o d. rows_due (after_rows kind.Text (columns_of columns) around) j o d }
 
 -- An environment ends with its own name
 
@@ -168,6 +156,12 @@ table_made s p b delimiters columns own rows f around said c is inner says put m
     ∙ ap (λ k. between_any texts (table_with (attributes.styled k) (columns_of columns) (reverse (take rows (elements_of p)))) ∷ drop rows (elements_of p)) style
     ∙ ap (λ y. between_any texts y ∷ drop rows (elements_of p)) (table_of_lines a (columns_of columns) g.lines (take rows (elements_of p)) g.are) in
     record { style = g.style; claims = rw (one, made x) (given g.leads) }
+
+-- less is left to do after the lines before the first row
+pub begun_step : (p : Parser) (b : Built) (i : Input) (new : Parser) (st : State) (answer : Result ⊤ AllocError) → units_at i ≡ past BeforeRow (left_of p) → Advances 6 (record p { builder = b; input = i }) new st answer → Advances 12 p new st answer
+begun_step p b i new st answer units step =
+    let fewer : unit_count (units_at i) ≤ unit_count (left_of p) = rw units (no_more_past BeforeRow (left_of p)) in
+    step_within p (record p { builder = b; input = i }) new st answer 6 12 (omega (arith, fewer)) step
 
 -- less is left to do after the sign that ends a row
 pub broken_step : (p : Parser) (b : Built) (i : Input) (new : Parser) (st : State) (answer : Result ⊤ AllocError) → units_at i ≡ past_break (left_of p) → Advances 6 (record p { builder = b; input = i }) new st answer → Advances 13 p new st answer

@@ -1,11 +1,11 @@
 -- What holds of the parser within tables.
-use Rattle.std.proofs.Common.{◌≡◌, ℕ, zero, suc, ◌+◌, ◌<◌, ◌≤◌, List, [], ◌∷◌, drop, length, take, refl, sym, ap, subst, ◌∙◌, arith}
+use Rattle.std.proofs.Common.{◌≡◌, ℕ, zero, suc, ◌+◌, ◌<◌, ◌≤◌, Bool, true, false, List, [], ◌∷◌, drop, length, take, refl, sym, ap, subst, ◌∙◌, arith}
 use Rattle.std.proofs.lemmas.List.{drop-drop, length-drop, length-take-le}
 use Rattle.latex2mathml_elements.specs.Columns.{Columns, column_at}
 use Rattle.latex2mathml_elements.specs.Element.{Element}
 use Rattle.latex2mathml_builder.specs.Built.{Built, elements_in}
 use Rattle.latex2mathml_attributes.specs.Columns.{columns_of}
-use Rattle.latex2mathml_tex_grammar.specs.{Rows.Row, Rows.row_element, Scanning.past_break}
+use Rattle.latex2mathml_tex_grammar.specs.{RowLines.line_next, RowLines.lined, RowLines.row_line, Rows.Row, Rows.row_element, Scanning.BeforeRow, Scanning.past, Scanning.past_break, Scanning.past_gap}
 use Rattle.latex2mathml_tex_grammar.specs.Reading.{Outcome, Read, Refused, ReadsAtoms, ReadsRows, cell_read, cell_refused, next_cell, next_row, table_ends, text_ends_table}
 use Rattle.latex2mathml_tex_grammar.specs.Rules.{Context as RuleContext, InCell, TableEnd, in_context, styled}
 use Rattle.latex2mathml_tex_grammar.specs.Starts.{PartsCells, EndsRow, EndsTable as TableEnds, cell_end}
@@ -18,13 +18,14 @@ use Rattle.latex2mathml_tex.specs.Levels.{CoreMade, Leads, Level, RuleLeads}
 use Rattle.latex2mathml_tex_units.specs.{Left.units_at, Taking.piece_of, Taking.unit_of}
 use Rattle.latex2mathml_tex_commands.specs.Meanings.{style_of}
 use Rattle.latex2mathml_tex_atoms.specs.Models.{before_of, context_of, row_count, row_with}
-use Rattle.latex2mathml_tex.specs.Steps.{CanMake, ClosesCell, EndsCells, EndsRows, GoesOnTable, InnermostIs, core_made, elements_of, left_of, level, level_within}
-use Rattle.latex2mathml_tex.specs.Tables.{CellMade, RowsLead, TableMade, behind_rows, cell_context, cells_of, rows_of, style_in, table_end}
+use Rattle.latex2mathml_tex.specs.Steps.{BeginsTable, CanMake, ClosesCell, EndsCells, EndsRows, GoesOnTable, InnermostIs, core_made, elements_of, left_of, level, level_within}
+use Rattle.latex2mathml_tex.specs.Tables.{CellMade, RowsLead, TableMade, behind_rows, cell_context, cells_of, line_count, rows_of, style_in, table_end}
 use Rattle.latex2mathml_tex_units.specs.declared.{input.Input.Input, unit.Unit.Unit as CodeUnit}
 use Rattle.latex2mathml_tex_commands.specs.declared.meaning.Style.{Style}
 use Rattle.latex2mathml_tex_atoms.specs.declared.{atoms.Context.Context, atoms.Row.Row as CodeRow}
 use Rattle.latex2mathml_tex.specs.declared.parse.Parser.{Parser}
-use Rattle.latex2mathml_tex.specs.declared.parse.frames.{Frame.Frame, Table.Table}
+use Rattle.latex2mathml_tex.specs.declared.parse.frames.{Frame.Frame, Table.Table, TableKind.TableKind}
+use Rattle.latex2mathml_attributes.specs.declared.columns.Columns.{Columns as CodeColumns}
 use Rattle.latex2mathml_tex.specs.declared.parse.frames.Ending.TheVariants as ending
 use Rattle.latex2mathml_tex.specs.declared.parse.frames.Frame.TheVariants as frame
 use Rattle.latex2mathml_tex.proofs.{Opening.context_is, Wording.drop_more, Wording.take_more}
@@ -80,6 +81,36 @@ goes_on s q t place rows cells ys style r c d due = record {
       (subst (λ k. Due t place k cells (inside s q.frames.stack.items ys) (left_of q)) (sym r) due));
 }
 
+-- A line before a row
+
+lined_taken : (line : Bool) (n : ℕ) (x : Element) (xs : List Element) → take (n + 1 + line_count line) (lined line (x ∷ xs)) ≡ lined line (x ∷ take n xs)
+lined_taken true n x xs = take_more (n + 1) row_line (x ∷ xs) ∙ ap (λ l. row_line ∷ l) (take_more n x xs)
+lined_taken false n x xs = (let more : n + 1 + 0 ≡ n + 1 = omega arith in ap (λ k. take k (x ∷ xs)) more ∙ take_more n x xs)
+
+lined_dropped : (line : Bool) (n : ℕ) (x : Element) (xs : List Element) → drop (n + 1 + line_count line) (lined line (x ∷ xs)) ≡ drop n xs
+lined_dropped true n x xs = drop_more (n + 1) row_line (x ∷ xs) ∙ drop_more n x xs
+lined_dropped false n x xs = (let more : n + 1 + 0 ≡ n + 1 = omega arith in ap (λ k. drop k (x ∷ xs)) more ∙ drop_more n x xs)
+
+line_taken : (line : Bool) (xs : List Element) → take (line_count line) (lined line xs) ≡ lined line []
+line_taken true xs = refl
+line_taken false xs = refl
+
+line_dropped : (line : Bool) (xs : List Element) → drop (line_count line) (lined line xs) ≡ xs
+line_dropped true xs = refl
+line_dropped false xs = refl
+
+-- the first cell of a table is due, after the line before its row
+pub first_begins : (s : Start) (p : Parser) (b : Built) (i : Input) (k : TableKind) (columns : CodeColumns) (place : ℕ) (v : Table) (line : Bool) → v ≡ record { kind = k; columns = columns; rows = line_count line; cells = 0 } → elements_in b ≡ lined line (elements_of p) → line ≡ line_next (left_of p) → units_at i ≡ past BeforeRow (left_of p) → BeginsTable k columns place s p → GoesOnTable v place s (record p { builder = b; input = i })
+first_begins s p b i k columns place v line is put follows units g =
+    let n = line_count line in
+    let next : Table = record { kind = k; columns = columns; rows = n; cells = 0 } in
+    let rows : rows_of next (elements_in b) ≡ lined line [] = ap (take n) put ∙ line_taken line (elements_of p) in
+    let none : 0 + n ≡ n = omega arith in
+    let all : drop (0 + n) (elements_in b) ≡ elements_of p = ap (λ n. drop n (elements_in b)) none ∙ ap (drop n) put ∙ line_dropped line (elements_of p) in
+    let due : Due next place (lined line []) [] (inside s p.frames.stack.items (elements_of p)) (past BeforeRow (left_of p)) = subst (λ k. Due next place (lined k []) [] (inside s p.frames.stack.items (elements_of p)) (past BeforeRow (left_of p))) (sym follows) g.leads in
+    subst (λ v. GoesOnTable v place s (record p { builder = b; input = i })) (sym is)
+    (goes_on s (record p { builder = b; input = i }) next place (lined line []) [] (elements_of p) g.style rows refl all (subst (λ m. Due next place (lined line []) [] (inside s p.frames.stack.items (elements_of p)) m) (sym units) due))
+
 -- the unit ends the table
 abbrev PickedEnd : CodeUnit → Type 0
 PickedEnd u = TableEnds ≡ cell_end (piece_of u.piece)
@@ -125,16 +156,18 @@ module _ (s : Start) (p : Parser) (t : Table) (place : ℕ) (row : CodeRow) (u :
       subst (λ v. GoesOnTable v place s (record p { builder = b })) (sym is)
       (goes_on s (record p { builder = b }) next place (rows_of t below) (cell ∷ cells_of t below) outside g.style rows cells all (λ o d. g.leads o (next_cell g.next (sym ends) d)))
 
-  pub row_broken : (b : Built) (i : Input) (v : Table) → v ≡ record t { rows = t.rows + 1; cells = 0 } → elements_in b ≡ a_row (cell ∷ cells_of t below) ∷ drop t.cells below → units_at i ≡ past_break (left_of p) → EndsRow ≡ cell_end (piece_of u.piece) → GoesOnTable v place s (record p { builder = b; input = i })
-  row_broken b i v is put units ends =
-      let next : Table = record t { rows = t.rows + 1; cells = 0 } in
+  pub row_broken : (b : Built) (i : Input) (v : Table) (line : Bool) → v ≡ record t { rows = t.rows + 1 + line_count line; cells = 0 } → elements_in b ≡ lined line (a_row (cell ∷ cells_of t below) ∷ drop t.cells below) → line ≡ line_next (past_gap (left_of p)) → units_at i ≡ past_break (left_of p) → EndsRow ≡ cell_end (piece_of u.piece) → GoesOnTable v place s (record p { builder = b; input = i })
+  row_broken b i v line is put follows units ends =
+      let n = t.rows + 1 + line_count line in
+      let next : Table = record t { rows = n; cells = 0 } in
       let last = a_row (cell ∷ cells_of t below) in
-      let rows : rows_of next (elements_in b) ≡ last ∷ rows_of t below = ap (take (t.rows + 1)) put ∙ take_more t.rows last (drop t.cells below) in
-      let none : 0 + (t.rows + 1) ≡ t.rows + 1 = omega arith in
-      let all : drop (0 + (t.rows + 1)) (elements_in b) ≡ outside = ap (λ n. drop n (elements_in b)) none ∙ ap (drop (t.rows + 1)) put ∙ drop_more t.rows last (drop t.cells below) ∙ drop-drop t.rows t.cells below ∙ under in
-      let due : Due next place (last ∷ rows_of t below) [] (inside s p.frames.stack.items outside) (past_break (left_of p)) = λ o d. g.leads o (next_row g.next (sym ends) d) in
+      let rows : rows_of next (elements_in b) ≡ lined line (last ∷ rows_of t below) = ap (take n) put ∙ lined_taken line t.rows last (drop t.cells below) in
+      let none : 0 + n ≡ n = omega arith in
+      let all : drop (0 + n) (elements_in b) ≡ outside = ap (λ n. drop n (elements_in b)) none ∙ ap (drop n) put ∙ lined_dropped line t.rows last (drop t.cells below) ∙ drop-drop t.rows t.cells below ∙ under in
+      let due : Due next place (lined (line_next (past_gap (left_of p))) (last ∷ rows_of t below)) [] (inside s p.frames.stack.items outside) (past_break (left_of p)) = λ o d. g.leads o (next_row g.next (sym ends) d) in
+      let due_with : Due next place (lined line (last ∷ rows_of t below)) [] (inside s p.frames.stack.items outside) (past_break (left_of p)) = subst (λ k. Due next place (lined k (last ∷ rows_of t below)) [] (inside s p.frames.stack.items outside) (past_break (left_of p))) (sym follows) due in
       subst (λ v. GoesOnTable v place s (record p { builder = b; input = i })) (sym is)
-      (goes_on s (record p { builder = b; input = i }) next place (last ∷ rows_of t below) [] outside g.style rows refl all (subst (λ m. Due next place (last ∷ rows_of t below) [] (inside s p.frames.stack.items outside) m) (sym units) due))
+      (goes_on s (record p { builder = b; input = i }) next place (lined line (last ∷ rows_of t below)) [] outside g.style rows refl all (subst (λ m. Due next place (lined line (last ∷ rows_of t below)) [] (inside s p.frames.stack.items outside) m) (sym units) due_with))
 
   -- the table ends after the cell
   pub cell_ends : PickedEnd u → EndsCells t row.count u.place s p

@@ -12,12 +12,13 @@ use Rattle.latex2mathml_tex_grammar.specs.Reading.{Read, Refused, Outcome, Reads
 use Rattle.latex2mathml_tex_grammar.specs.{Refusal.Refusal, Rests.finished, Rows.Row, Starts.unended}
 use Rattle.latex2mathml_attributes.specs.Columns.{columns_of}
 use Rattle.latex2mathml_tex_units.specs.Environments.{delimiter_texts}
-use Rattle.latex2mathml_tex.specs.Tables.{RowsLead, after_rows, behind_rows, cell_context, cells_of, rows_of, table_end}
+use Rattle.latex2mathml_tex.specs.Tables.{RowsLead, after_rows, behind_rows, cell_context, cells_of, ended_by, rows_of, style_in, table_end}
 use Rattle.latex2mathml_tex_grammar.specs.Tables.{Lines, a_table, with_last}
-use Rattle.latex2mathml_tex_grammar.specs.Scanning.{Spot, Given, Missing, scan}
+use Rattle.latex2mathml_tex_grammar.specs.RowLines.{line_next, lined}
+use Rattle.latex2mathml_tex_grammar.specs.Scanning.{Spot, BeforeRow, Given, Missing, past, scan}
 use Rattle.latex2mathml_attributes.specs.declared.columns.Columns.{Columns}
 use Rattle.latex2mathml_tex_commands.specs.declared.meaning.Style.{Style}
-use Rattle.latex2mathml_tex_grammar.specs.Rules.{Rule, a_number, gives, rule, takes_delimiter}
+use Rattle.latex2mathml_tex_grammar.specs.Rules.{Rule, a_number, gives, rule, styled, takes_delimiter}
 use Rattle.latex2mathml_tex_grammar.specs.{Symbols.Alphabet, Symbols.Class, Words.Word, Words.with_word}
 use Rattle.latex2mathml_tex_grammar.specs.Starts as starts
 use Rattle.latex2mathml_tex_grammar.specs.Units as grammar
@@ -319,6 +320,13 @@ pub record GoesOnTable (t : Table) (place : ℕ) (s : Start) (p : Parser) : Type
   pub leads : (o : Outcome Lines)
       → ReadsRows (table_end t) place (columns_of t.columns) (cell_context t (context_at (level (t.cells + t.rows) s p))) (rows_of t (elements_of p)) (cells_of t (elements_of p)) (left_of p) o
       → RowsLead (behind_rows t (context_at (level (t.cells + t.rows) s p))) (CoreMade (level (t.cells + t.rows) s p)) o
+
+-- A table is due, and the line before its first row, if there is one.
+pub record BeginsTable (k : TableKind) (columns : Columns) (place : ℕ) (s : Start) (p : Parser) : Type 0 where
+  pub style : s.style ≡ style_of p.style
+  pub leads : (o : Outcome Lines)
+      → ReadsRows (ended_by k) place (columns_of columns) (styled (context_at (level 0 s p)) (style_in k)) (lined (line_next (left_of p)) []) [] (past BeforeRow (left_of p)) o
+      → RowsLead (after_rows k (columns_of columns) (context_at (level 0 s p))) (CoreMade (level 0 s p)) o
 
 -- A table ends at this place, after its last cell, whose elements are the `count` uppermost ones.
 pub record EndsCells (t : Table) (count at : ℕ) (s : Start) (p : Parser) : Type 0 where

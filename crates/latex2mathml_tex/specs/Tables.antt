@@ -1,5 +1,5 @@
 -- The tables that the parser reads, as the definitions have them.
-use Rattle.std.specs.Prelude.{◌≡◌, ℕ, List, drop, None, take}
+use Rattle.std.specs.Prelude.{◌≡◌, ℕ, Bool, true, false, List, drop, None, take}
 use Rattle.std.specs.Str.{bytes_eq}
 use Rattle.latex2mathml_elements.specs.Columns.{Columns as DefinedColumns}
 use Rattle.latex2mathml_attributes.specs.Columns.{columns_of}
@@ -68,7 +68,12 @@ abbrev pub CellMade : TableEnd → ℕ → DefinedColumns → Context → List E
 CellMade end place columns c rows cells K (Read row m) = (o : Outcome Lines) → ReadsBehindCell end place columns c rows cells row.elements m o → K o
 CellMade end place columns c rows cells K (Refused r) = K (Refused r)
 
--- the rows of a table and the cells of the next row, whose elements are the first of these
+-- how many elements a line before a row is, where there may be one
+abbrev pub line_count : Bool → ℕ
+line_count true = 1
+line_count false = 0
+
+-- the rows of a table, with the lines among them, and the cells of the next row, whose elements are the first of these
 abbrev pub cells_of : Table → List Element → List Element
 cells_of t xs = take t.cells xs
 

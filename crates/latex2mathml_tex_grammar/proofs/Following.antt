@@ -6,7 +6,7 @@ use Rattle.latex2mathml_tex_grammar.specs.{Atoms.Atom, Atoms.Before, Makes.Core,
 use Rattle.latex2mathml_tex_grammar.specs.Reading.{Outcome, Read, ReadsRule, ReadsOperand, ReadsScripts, ReadsAtom, divider_read, divider_refused, on_empty_row, base_read, base_refused, ReadsAtoms, ReadsWord, ReadsWords, ReadsRows, ReadsBehindCell}
 use Rattle.latex2mathml_tex_grammar.specs.Rests.{Rest, GoesOnIn, NoRest, rest_of}
 use Rattle.latex2mathml_tex_grammar.specs.Rules.{Context, Ending, InBraces, Rule, rule, TableEnd}
-use Rattle.latex2mathml_tex_grammar.specs.{Meaning.Change, Starts.atom_start, Starts.ChangeStart, Starts.step_next, Starts.step_of_mark, Starts.mark_of, Starts.Step, Starts.GoesOn, Starts.TakesOperand, Starts.Forbidden, Refusal.Kind, Refusal.Refusal, Refusal.refusal_at, Symbols.Alphabet, Words.Words, Words.WordRule, Words.TakesWords, Scanning.Found, Scanning.Given, Starts.CellEnd, Next.past_space, Tables.Lines}
+use Rattle.latex2mathml_tex_grammar.specs.{Meaning.Change, Starts.atom_start, Starts.ChangeStart, Starts.step_next, Starts.step_of_mark, Starts.mark_of, Starts.Step, Starts.GoesOn, Starts.TakesOperand, Starts.Forbidden, Refusal.Kind, Refusal.Refusal, Refusal.refusal_at, Symbols.Alphabet, Words.Words, Words.WordRule, Words.TakesWords, Scanning.Found, Scanning.Given, Starts.CellEnd, Next.past_space, RowLines.line_next, RowLines.lined, Scanning.past_break, Scanning.past_gap, Tables.Lines}
 use Rattle.latex2mathml_tex_grammar.specs.Units.{Unit, Units, Next, End}
 
 -- what holds of the unit that comes next, and of the units after it, holds whichever way it was found
@@ -102,6 +102,10 @@ rows_moved_to_end then {x} {y} {a} {b} {j} {k} {o} e p q d =
     let same : y ≡ x = cc in
     let at : b ≡ a = cc in
     subst (λ n. ReadsRule (then x n) (End n) o) at (subst (λ z. ReadsRule (then z b) (End b) o) same d)
+
+pub next_row_next : {end : TableEnd} {place : ℕ} {columns : Columns} {c : Context} {cells : List Element} (rows : List Element) {w m n : Units} {u v : Unit} {o : Outcome Lines} → w ≡ Next u m → w ≡ Next v n → ReadsRows end place columns c (lined (line_next (past_gap n)) rows) cells (past_break n) o → ReadsRows end place columns c (lined (line_next (past_gap m)) rows) cells (past_break m) o
+next_row_next {end} {place} {columns} {c} {cells} rows {o = o} p q d =
+    next_is (λ u m. ReadsRows end place columns c (lined (line_next (past_gap m)) rows) cells (past_break m) o) p q d
 
 pub rows_next : {end : TableEnd} {place : ℕ} {columns : Columns} {c : Context} {rows cells : List Element} (behind : Units → Units) {w m n : Units} {u v : Unit} {o : Outcome Lines} → w ≡ Next u m → w ≡ Next v n → ReadsRows end place columns c rows cells (behind n) o → ReadsRows end place columns c rows cells (behind m) o
 rows_next {end} {place} {columns} {c} {rows} {cells} behind {o = o} p q d = next_is (λ u m. ReadsRows end place columns c rows cells (behind m) o) p q d

@@ -5,7 +5,7 @@ use Rattle.std.specs.{Char.encode_utf8, Str.byte}
 use Rattle.latex2mathml_tex_grammar.specs.{Commands.command_entries, Commands.meaning_of, CommandsFromM.commands_from_m, CommandsUpToL.commands_up_to_l}
 use Rattle.latex2mathml_tex_grammar.specs.Meaning.{takes_words}
 use Rattle.latex2mathml_tex_grammar.specs.Refusal.{UnknownColumn, Refusal}
-use Rattle.latex2mathml_tex_grammar.specs.Scanning.{Name, ColumnList, Number, ColorName, Spot, BeforeArgument, InArgument, BeforeGap, InGap, BeforeBrace, BeforePosition, InPosition, BehindPosition, BeforeStar, BehindStar, BeforeLength, BeforeLengthInBraces, InLength, BehindSign, InNumber, InDecimals, BehindLetter, BehindLength, AtBracket, AtBrace, AtUnit, BeforeRow, Deed, Passes, Adds, Ends, Leaves, Misses, Refuses, deed, done, is_line, may_end, found_at_end, with_character, Found, Given, Missing, scan, behind_found, past, past_break}
+use Rattle.latex2mathml_tex_grammar.specs.Scanning.{Name, ColumnList, Number, ColorName, Spot, BeforeArgument, InArgument, BeforeGap, InGap, BeforeBrace, BeforePosition, InPosition, BehindPosition, BeforeStar, BehindStar, BeforeLength, BeforeLengthInBraces, InLength, BehindSign, InNumber, InDecimals, BehindLetter, BehindLength, AtBracket, AtBrace, AtUnit, BeforeRow, Deed, Passes, Adds, Ends, Leaves, Misses, Refuses, deed, done, is_line, may_end, found_at_end, with_character, Found, Given, Missing, scan, behind_found, past, past_break, past_gap}
 use Rattle.latex2mathml_tex_grammar.specs.Spacing.{Standing, standing_behind, AreAlike, both_end, both_stop, same_piece, space_before, space_behind}
 use Rattle.latex2mathml_tex_grammar.specs.Units.{Piece, Space, Open, Close, Command, Character, Unit, Units, Next}
 use Rattle.latex2mathml_tex_grammar.proofs.{OneList.is_byte, Plain.TakesNone, Plain.takes_none, Plain.open_plain, Plain.close_plain, Plain.is_named}
@@ -200,5 +200,8 @@ behind_alike (both_missing e) h = h
 pub past_too : {at : Standing} {l m : Units} (spot : Spot) → IsCalm at → AreAlike at l m → AreAlike at (past spot l) (past spot m)
 past_too spot calm h = behind_alike (scan_alike 0 0 calm h spot) h
 
+pub past_gap_too : {at : Standing} {l m : Units} → IsCalm at → AreAlike at l m → AreAlike at (past_gap l) (past_gap m)
+past_gap_too calm h = past_too BeforeLength calm (past_too BeforeStar calm h)
+
 pub past_break_too : {at : Standing} {l m : Units} → IsCalm at → AreAlike at l m → AreAlike at (past_break l) (past_break m)
-past_break_too calm h = past_too BeforeRow calm (past_too BeforeLength calm (past_too BeforeStar calm h))
+past_break_too calm h = past_too BeforeRow calm (past_gap_too calm h)

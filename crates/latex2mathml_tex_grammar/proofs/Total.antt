@@ -4,7 +4,7 @@ use Rattle.std.specs.Bool.{⊤}
 use Rattle.latex2mathml_elements.specs.Element.{Element}
 use Rattle.std.proofs.lemmas.Bool.{cases_Bool}
 use Rattle.std.specs.Bool.{⊤}
-use Rattle.latex2mathml_tex_grammar.specs.{Atoms.Atom, Atoms.Before, Rows.Row, Rows.Operand, Rows.empty_row, Rows.lone, Rows.row_element, Rows.with_atom, Rows.operand_of, Rows.single, Delimiters.delimiter_of, Laws.HasOneOutcome, Makes.Core, Makes.core, Makes.divider, Makes.Scripts, Makes.no_scripts, Meaning.Beside, Meaning.Change, Tables.Lines, Tables.begun_cell, Tables.a_row, Tables.with_last}
+use Rattle.latex2mathml_tex_grammar.specs.{Atoms.Atom, Atoms.Before, Rows.Row, Rows.Operand, Rows.empty_row, Rows.lone, Rows.row_element, Rows.with_atom, Rows.operand_of, Rows.single, Delimiters.delimiter_of, Laws.HasOneOutcome, Makes.Core, Makes.core, Makes.divider, Makes.Scripts, Makes.no_scripts, Meaning.Beside, Meaning.Change, RowLines.line_next, RowLines.lined, Tables.Lines, Tables.begun_cell, Tables.a_row, Tables.with_last}
 use Rattle.latex2mathml_tex_grammar.specs.Next.{follows, is_space_piece, past_space, next_are, digits_next, digits_here}
 use Rattle.latex2mathml_tex_grammar.specs.Reading.{Outcome, Read, Refused, ReadsRule, rule_gives, rule_refuses, operand_read, operand_refused, core_read, core_refused, core_missing, core_stopped, atoms_read, atoms_refused, words_read, words_refused, units_taken, units_missing, unit_follows, no_unit_follows, digits_taken, delimiter_taken, delimiter_missing, ReadsOperand, group_operand, group_refused, digit_operand, other_operand, other_refused, no_operand, operand_at_end, operand_stopped, ReadsScripts, scripts_end, mark_taken, script_read, script_refused, mark_refused, ReadsAtom, divider_read, divider_refused, on_empty_row, base_read, base_refused, ReadsAtoms, text_ends, never_ended, atoms_stopped, atoms_end, atom_read, atom_refused, rest_read, change_refused, ReadsWord, word_stands, group_of_words, formula_read, formula_refused, words_in_alphabet, no_word, word_missing, word_at_end, word_stopped, ReadsWords, words_end, words_never_ended, words_stopped, word_read, word_refused, found_taken, found_refused, passed_over, rows_read, rows_refused, ReadsRows, cell_read, cell_refused, ReadsBehindCell, next_cell, next_row, table_ends, rows_to_end, text_ends_table}
 use Rattle.latex2mathml_tex_grammar.specs.Refusal.{Refusal}
@@ -15,7 +15,7 @@ use Rattle.latex2mathml_elements.specs.Colors.{Color}
 use Rattle.latex2mathml_tex_grammar.specs.Rules.{Context, in_context, styled, Ending, WholeText, InBraces, InBrackets, InDollars, InDelimiters, begun, Rule, gives, refuses, reads_operand, reads_core, reads_atoms, reads_words, takes_if, if_follows, takes_digits, takes_delimiter, rule, a_digit, TableEnd, InCell, takes_found, passes_over, reads_rows}
 use Rattle.latex2mathml_tex_grammar.specs.Starts.{Mark, change_by, start_of_mark, is_command, step_of, AtomStart, DividerStart, ScriptStart, RuleStart, ChangeStart, OperandStart, NoStart, GroupStart, DigitStart, OtherStart, atom_start, operand_start, mark_of, Step, GoesOn, TakesOperand, Forbidden, step_of_mark, step_next, empty_base, ends, unended, is_close, left_behind, CellEnd, PartsCells, EndsRow, EndsTable, cell_end}
 use Rattle.latex2mathml_elements.specs.Columns.{Columns}
-use Rattle.latex2mathml_tex_grammar.specs.Scanning.{Spot, BeforeStar, BeforeLength, BeforeRow, Deed, Passes, Adds, Ends, Leaves, Misses, Refuses, deed, done, may_end, found_at_end, with_character, Found, Given, Missing, scan, behind_found, past, past_break}
+use Rattle.latex2mathml_tex_grammar.specs.Scanning.{Spot, BeforeStar, BeforeLength, BeforeRow, Deed, Passes, Adds, Ends, Leaves, Misses, Refuses, deed, done, may_end, found_at_end, with_character, Found, Given, Missing, scan, behind_found, past, past_break, past_gap}
 use Rattle.latex2mathml_tex_grammar.specs.Symbols.{InText, InScript, Alphabet}
 use Rattle.latex2mathml_tex_grammar.specs.Units.{Piece, Space, Open, Close, Command, Character, Unit, Units, Next, End, Stop}
 use Rattle.latex2mathml_tex_grammar.specs.Words.{Words, no_words, Formula, with_word, WordRule, IsWord, BeginsGroup, EndsGroup, BeginsFormula, TakesWords, NoWord, word_rule}
@@ -330,7 +330,7 @@ behind_cell_total k has end place columns c rows cells cell l m u p less h Parts
     with_rows (has.of_rows end place columns c rows (row_element cell ∷ cells) m h) (omega arith) (λ o. next_cell p s)
 behind_cell_total k has end place columns c rows cells cell l m u p less h EndsRow s =
     let short = size-past_break m in
-    with_rows (has.of_rows end place columns c (a_row (row_element cell ∷ cells) ∷ rows) [] (past_break m) (omega arith)) (omega arith) (λ o. next_row p s)
+    with_rows (has.of_rows end place columns c (lined (line_next (past_gap m)) (a_row (row_element cell ∷ cells) ∷ rows)) [] (past_break m) (omega arith)) (omega arith) (λ o. next_row p s)
 behind_cell_total k has end place columns c rows cells cell l m u p less h EndsTable s =
     rows_come (with_last rows cells cell) l m u p less (table_ends p s)
 
@@ -405,7 +405,7 @@ after_found : (spot : Spot) (place : ℕ) (then : List ℕ → Rule) (l : Units)
 after_found spot place then l (Given text m) e fits follow = with_outcome (follow text m fits) fits (λ o. found_taken e)
 after_found spot place then l (Missing r) e fits follow = is_refused r (found_refused e)
 
-after_rows : {end : TableEnd} {place : ℕ} {columns : Columns} {c : Context} (then : Lines → ℕ → Rule) (l : Units) → RowsCome (ReadsRows end place columns c [] [] (past BeforeRow l)) (size l) → ((lines : Lines) (at : ℕ) (m : Units) → size m ≤ size l → Comes Core (ReadsRule (then lines at) m) (size m)) → Comes Core (ReadsRule (reads_rows end place columns c then) l) (size l)
+after_rows : {end : TableEnd} {place : ℕ} {columns : Columns} {c : Context} (then : Lines → ℕ → Rule) (l : Units) → RowsCome (ReadsRows end place columns c (lined (line_next l) []) [] (past BeforeRow l)) (size l) → ((lines : Lines) (at : ℕ) (m : Units) → size m ≤ size l → Comes Core (ReadsRule (then lines at) m) (size m)) → Comes Core (ReadsRule (reads_rows end place columns c then) l) (size l)
 after_rows then l (rows_come lines j m u p fits d) follow = with_outcome (follow lines u.place m (omega arith)) (omega arith) (λ o. rows_read d p)
 after_rows then l (rows_come_to_end lines j at p d) follow = with_outcome (follow lines at (End at) (omega arith)) (omega arith) (λ o. rows_to_end d p)
 after_rows then l (rows_none r d) follow = is_refused r (rows_refused d)
@@ -431,7 +431,7 @@ rule_total k has (passes_over spot then) l h =
     let less = size-past spot l in with_outcome (rule_total k has then (past spot l) (omega arith)) less (λ o. passed_over)
 rule_total k has (reads_rows end place columns c then) l h =
     let less = size-past BeforeRow l in
-    after_rows then l (with_rows (rows_total k has end place columns c [] [] (past BeforeRow l) (omega arith)) less (λ o d. d)) (λ lines at m fits. rule_total k has (then lines at) m (omega arith))
+    after_rows then l (with_rows (rows_total k has end place columns c (lined (line_next l) []) [] (past BeforeRow l) (omega arith)) less (λ o d. d)) (λ lines at m fits. rule_total k has (then lines at) m (omega arith))
 rule_total k has (takes_delimiter then) l h = after_delimiter l then (find_next (delimiter_of ∷ []) l) (λ texts m fits. rule_total k has (then texts) m (omega arith))
 
 -- so there is an outcome, however many units there are

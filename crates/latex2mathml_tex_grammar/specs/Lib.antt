@@ -27,6 +27,7 @@ pub mod Next
 pub mod Reading
 pub mod Refusal
 pub mod Rests
+pub mod RowLines
 pub mod Rows
 pub mod Rules
 pub mod Scanning

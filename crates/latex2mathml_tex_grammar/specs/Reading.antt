@@ -5,11 +5,12 @@ use Rattle.latex2mathml_elements.specs.{Columns.Columns, Element.Element}
 use Rattle.latex2mathml_tex_grammar.specs.{Atoms.Atom, Atoms.Before, Delimiters.delimiter_of, Rows.Row, Rows.empty_row, Rows.lone, Rows.row_element, Rows.with_atom, Rows.Operand, Rows.operand_of, Rows.single}
 use Rattle.latex2mathml_tex_grammar.specs.Makes.{Core, core, number, divider, Scripts, no_scripts, scripted}
 use Rattle.latex2mathml_tex_grammar.specs.{Meaning.Beside, Meaning.Change, Next.past_space, Next.next_are, Next.follows, Next.digits_next, Next.refusal_here}
+use Rattle.latex2mathml_tex_grammar.specs.RowLines.{line_next, lined}
 use Rattle.latex2mathml_tex_grammar.specs.Refusal.{Kind, MissingArgument, UnclosedBrace, MissingDelimiter, Refusal, refusal_at}
 use Rattle.latex2mathml_tex_grammar.specs.Rests.{GoesOnIn, NoRest, finished, rest_of}
 use Rattle.latex2mathml_tex_grammar.specs.Rules.{Context, in_context, styled, Ending, InBraces, InDollars, begun, Rule, gives, refuses, reads_operand, reads_core, reads_atoms, reads_words, takes_if, if_follows, takes_digits, takes_delimiter, rule, TableEnd, InCell, takes_found, passes_over, reads_rows}
 use Rattle.latex2mathml_tex_grammar.specs.Starts.{DividerStart, ScriptStart, RuleStart, ChangeStart, NoStart, GroupStart, DigitStart, OtherStart, atom_start, operand_start, mark_of, GoesOn, TakesOperand, Forbidden, step_of_mark, step_next, empty_base, ends, unended, is_close, left_behind, PartsCells, EndsRow, EndsTable, cell_end}
-use Rattle.latex2mathml_tex_grammar.specs.Scanning.{Spot, BeforeRow, Given, Missing, scan, past, past_break}
+use Rattle.latex2mathml_tex_grammar.specs.Scanning.{Spot, BeforeRow, Given, Missing, scan, past, past_break, past_gap}
 use Rattle.latex2mathml_tex_grammar.specs.Symbols.{InText, InScript, Alphabet}
 use Rattle.latex2mathml_tex_grammar.specs.{Tables.Lines, Tables.begun_cell, Tables.a_row, Tables.with_last}
 use Rattle.latex2mathml_tex_grammar.specs.Units.{Piece, Unit, Units, Next, End, Stop}
@@ -113,20 +114,20 @@ mutual
     passed_over : {spot : Spot} {then : Rule} {l : Units} {o : Outcome Core}
         → ReadsRule then (past spot l) o
         → ReadsRule (passes_over spot then) l o
-    -- the rows are read up to their end, which is taken, then what follows it
+    -- the rows, and a line before them, are read up to their end, which is taken, then what follows it
     rows_read : {end : TableEnd} {place : ℕ} {columns : Columns} {c : Context} {then : Lines → ℕ → Rule} {l m n : Units} {u : Unit} {lines : Lines} {o : Outcome Core}
-        → ReadsRows end place columns c [] [] (past BeforeRow l) (Read lines m)
+        → ReadsRows end place columns c (lined (line_next l) []) [] (past BeforeRow l) (Read lines m)
         → past_space m ≡ Next u n
         → ReadsRule (then lines u.place) n o
         → ReadsRule (reads_rows end place columns c then) l o
     -- rows that are a whole text end with the text
     rows_to_end : {end : TableEnd} {place at : ℕ} {columns : Columns} {c : Context} {then : Lines → ℕ → Rule} {l m : Units} {lines : Lines} {o : Outcome Core}
-        → ReadsRows end place columns c [] [] (past BeforeRow l) (Read lines m)
+        → ReadsRows end place columns c (lined (line_next l) []) [] (past BeforeRow l) (Read lines m)
         → past_space m ≡ End at
         → ReadsRule (then lines at) (End at) o
         → ReadsRule (reads_rows end place columns c then) l o
     rows_refused : {end : TableEnd} {place : ℕ} {columns : Columns} {c : Context} {then : Lines → ℕ → Rule} {l : Units} {r : Refusal}
-        → ReadsRows end place columns c [] [] (past BeforeRow l) (Refused r)
+        → ReadsRows end place columns c (lined (line_next l) []) [] (past BeforeRow l) (Refused r)
         → ReadsRule (reads_rows end place columns c then) l (Refused r)
 
   -- the outcome of an operand, which is a group, one digit, or an atom without scripts; the place is that of what takes it
@@ -283,11 +284,11 @@ mutual
         → cell_end u.piece ≡ PartsCells
         → ReadsRows end place columns c rows (row_element cell ∷ cells) m o
         → ReadsBehindCell end place columns c rows cells cell l o
-    -- a row of these cells, and the rows after it
+    -- a row of these cells, and the line and the rows after it
     next_row : {end : TableEnd} {place : ℕ} {columns : Columns} {c : Context} {rows cells cell : List Element} {l m : Units} {u : Unit} {o : Outcome Lines}
         → past_space l ≡ Next u m
         → cell_end u.piece ≡ EndsRow
-        → ReadsRows end place columns c (a_row (row_element cell ∷ cells) ∷ rows) [] (past_break m) o
+        → ReadsRows end place columns c (lined (line_next (past_gap m)) (a_row (row_element cell ∷ cells) ∷ rows)) [] (past_break m) o
         → ReadsBehindCell end place columns c rows cells cell l o
     -- the end of the table is not taken
     table_ends : {end : TableEnd} {place : ℕ} {columns : Columns} {c : Context} {rows cells cell : List Element} {l m : Units} {u : Unit}

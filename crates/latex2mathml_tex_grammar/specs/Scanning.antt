@@ -330,6 +330,10 @@ behind_found l (Missing refusal) = l
 abbrev pub past : Spot → Units → Units
 past spot l = behind_found l (scan 0 l spot)
 
+-- the units after the star and the length that may follow the sign that ends a row
+abbrev pub past_gap : Units → Units
+past_gap l = past BeforeLength (past BeforeStar l)
+
 -- the units after the sign that ends a row: its star, a length, and the lines before the next row are skipped
 abbrev pub past_break : Units → Units
-past_break l = past BeforeRow (past BeforeLength (past BeforeStar l))
+past_break l = past BeforeRow (past_gap l)

@@ -15,13 +15,13 @@ before_cell alignment = Nothing
 abbrev pub begun_cell : Columns → ℕ → Row
 begun_cell columns k = record empty_row { before = before_cell (column_at columns k).alignment }
 
--- Rows: until a table is made of it, a row is an `mrow` of its cells
+-- Rows: until a table is made of it, a row is an `mrow` of its cells; the lines of `RowLines` are among the rows
 
 -- a row of these cells, the last one first
 abbrev pub a_row : List Element → Element
 a_row cells = container Mrow plain (children (reverse cells))
 
--- at least one row
+-- at least one row or line
 pub record Lines : Type 0 where
   pub last : Element
   pub others : List Element

@@ -1,11 +1,12 @@
 //! Names, columns and lengths, which are found among the units that are left and taken or skipped.
 ghost use Rattle.std.specs.Prelude.{◌≡◌, ◌≤◌, ℕ, IfOk, OnOk, string_bytes};
-ghost use Rattle.latex2mathml_tex_grammar.specs.Scanning.{past, past_break, scan};
+ghost use Rattle.latex2mathml_tex_grammar.specs.RowLines.{line_next};
+ghost use Rattle.latex2mathml_tex_grammar.specs.Scanning.{BeforeRow, past, past_break, past_gap, scan};
 ghost use Rattle.latex2mathml_tex_units.specs.{Left.SameUnits, Left.unit_count, Left.units_at, Scans.IsFound, Scans.behind_text, Scans.spot_of};
 
 use crate::error::{TexError, TexErrorKind};
 use crate::input::Input;
-use crate::scanning::{Argument, Deed, Spot};
+use crate::scanning::{Argument, Deed, Spot, is_line_command};
 use crate::unit::{Next, Piece};
 use std::alloc::{AllocError, Global};
 
@@ -109,13 +110,39 @@ impl<'a> Input<'a> {
         Ok(())
     }
 
-    /// Skips what is ignored after the sign that ends a row: its star, a length, and the lines before the next row.
-    pub fn pass_break(&mut self, alloc: Global) -> Result<(), AllocError>
-        ensures { OnOk result (units_at self.new ≡ past_break (units_at self.old)) }
+    /// Skips what may follow the sign that ends a row: its star, a length, and the lines before the next row. Returns whether
+    /// there is a line.
+    pub fn pass_break(&mut self, alloc: Global) -> Result<bool, AllocError>
+        ensures line { IfOk result (λ line. line ≡ line_next (past_gap (units_at self.old))) }
+        ensures units { OnOk result (units_at self.new ≡ past_break (units_at self.old)) }
     {
         self.pass(alloc, Spot::BeforeStar)?;
         self.pass(alloc, Spot::BeforeLength)?;
+        self.pass_lines(alloc)
+    }
+
+    /// Skips the lines before a row. Returns whether there is one.
+    pub fn pass_lines(&mut self, alloc: Global) -> Result<bool, AllocError>
+        ensures line { IfOk result (λ line. line ≡ line_next (units_at self.old)) }
+        ensures units { OnOk result (units_at self.new ≡ past BeforeRow (units_at self.old)) }
+    {
+        let line = self.line_is_next();
         self.pass(alloc, Spot::BeforeRow)?;
-        Ok(())
+        Ok(line)
+    }
+
+    /// Whether a line comes next. Takes nothing.
+    fn line_is_next(&mut self) -> bool
+        ensures answer { result ≡ line_next (units_at self.old) }
+        ensures unchanged { self.new ≡ self.old }
+    {
+        let start = self.taken;
+        self.skip_space();
+        let is_line = match self.peek() {
+            Next::Unit(unit) => is_line_command(unit.piece),
+            Next::End(_) | Next::Fault(_, _) => false,
+        };
+        self.taken = start;
+        is_line
     }
 }

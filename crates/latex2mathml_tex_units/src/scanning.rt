@@ -3,6 +3,7 @@
 ghost use Rattle.std.specs.Prelude.{◌≡◌, ℕ, [], IsFalse, Some};
 ghost use Rattle.latex2mathml_tex_grammar.specs.Refusal.{refusal_at};
 ghost use Rattle.latex2mathml_tex_grammar.specs.{Commands.meaning_of, Meaning.takes_words};
+ghost use Rattle.latex2mathml_tex_grammar.specs.RowLines.{is_line_command};
 ghost use Rattle.latex2mathml_tex_grammar.specs.Scanning;
 ghost use Rattle.latex2mathml_tex_grammar.specs.Scanning.{past, scan};
 ghost use Rattle.latex2mathml_tex_grammar.specs.Units.{End, Next, Stop, Units, unit};
@@ -337,11 +338,29 @@ fn row_deed(piece: Piece) -> Deed
     ensures { deed_of result ≡ Scanning.row_deed (piece_of piece.entry) }
 {
     match piece {
-        Piece::Command("hline" | "hdashline" | "toprule" | "midrule" | "bottomrule") => {
-            Deed::Passes(Spot::BeforeRow)
-        }
+        Piece::Command(name) if is_line(name) => Deed::Passes(Spot::BeforeRow),
         _ => Deed::Leaves,
     }
+}
+
+/// Whether a unit is a command for a line between rows.
+pub(crate) fn is_line_command(piece: Piece) -> bool
+    ensures { result ≡ is_line_command (piece_of piece.entry) }
+{
+    match piece {
+        Piece::Command(name) => is_line(name),
+        _ => false,
+    }
+}
+
+/// Whether this is the name of a line between rows.
+fn is_line(name: &str) -> bool
+    ensures { result ≡ Scanning.is_line name.now }
+{
+    matches!(
+        name,
+        "hline" | "hdashline" | "toprule" | "midrule" | "bottomrule"
+    )
 }
 
 impl Spot {

@@ -10,7 +10,7 @@ ghost use Rattle.latex2mathml_tex_units.specs.{Scans.argument_of, Environments.e
 ghost use Rattle.latex2mathml_tex_atoms.specs.Models.{context_of};
 ghost use Rattle.latex2mathml_tex.specs.Steps.{BeginsIn, CanBegin, Advances, LeadsOn};
 
-use crate::parse::frames::{Table, TableKind};
+use crate::parse::frames::TableKind;
 use crate::parse::{Parser, State};
 use latex2mathml_attributes::columns::{Alignment, Columns, ListedColumn};
 use latex2mathml_tex_atoms::atoms::Context;
@@ -239,14 +239,7 @@ impl<'a> Parser<'a> {
             self.old self.new next.new result }
         ensures step { Advances 12 self.old self.new next.new result }
     {
-        self.input.pass(self.alloc, Spot::BeforeRow)?;
-        let table = Table {
-            kind: TableKind::Environment(environment),
-            columns,
-            rows: 0,
-            cells: 0,
-        };
-        self.begin_cell(table, place, next)
+        self.begin_first_cell(TableKind::Environment(environment), columns, place, next)
     }
 }
 

@@ -5,20 +5,21 @@ ghost use Rattle.latex2mathml_attributes.specs.Columns.{columns_of};
 ghost use Rattle.latex2mathml_elements.specs.{Attributes.styled};
 ghost use Rattle.latex2mathml_attributes.specs.Names.{math_style_of};
 ghost use Rattle.latex2mathml_tex_grammar.specs.Tables;
-ghost use Rattle.latex2mathml_tex_grammar.specs.{Meaning.Substack, Starts.cell_end, Tables.a_row, Rows.row_element};
+ghost use Rattle.latex2mathml_tex_grammar.specs.{Meaning.Substack, RowLines.lined, Starts.cell_end, Tables.a_row, Rows.row_element};
 ghost use Rattle.latex2mathml_tex_grammar.specs.Rules.{meaning_rule, rows_of_text};
 ghost use Rattle.latex2mathml_tex_commands.specs.Meanings.{class_of, style_of};
 ghost use Rattle.latex2mathml_tex_units.specs.{Scans.spot_of, Taking.piece_of};
 ghost use Rattle.latex2mathml_tex.specs.Frames.{context_at};
 ghost use Rattle.latex2mathml_tex_atoms.specs.Models.{context_of};
 ghost use Rattle.latex2mathml_tex_units.specs.Environments.{delimiter_texts};
-ghost use Rattle.latex2mathml_tex.specs.Tables.{cell_end_of};
-ghost use Rattle.latex2mathml_tex.specs.Steps.{BeginsIn, CanBegin, CanMake, Begins, ClosesCell, EndsCells, EndsRows, GoesOnTable, Advances, LeadsOn, MakesTable, TookText, core_made, level};
+ghost use Rattle.latex2mathml_tex.specs.Tables.{cell_end_of, line_count};
+ghost use Rattle.latex2mathml_tex.specs.Steps.{BeginsIn, BeginsTable, CanBegin, CanMake, Begins, ClosesCell, EndsCells, EndsRows, GoesOnTable, Advances, LeadsOn, MakesTable, TookText, core_made, level};
 
 use crate::parse::frames::{Ending, Frame, Table, TableKind};
 use crate::parse::{Parser, State};
 use latex2mathml_attributes::attributes::{Attributes, MathStyle};
 use latex2mathml_attributes::columns::{Alignment, Columns};
+use latex2mathml_attributes::extent::Extent;
 use latex2mathml_attributes::tag::Container;
 use latex2mathml_builder::builder::Builder;
 use latex2mathml_tex_atoms::atoms::{Context, Core, Kind, Row};
@@ -29,6 +30,14 @@ use latex2mathml_tex_units::error::TexErrorKind;
 use latex2mathml_tex_units::scanning::{Argument, Spot};
 use latex2mathml_tex_units::unit::{Piece, Unit};
 use std::alloc::AllocError;
+
+/// A line among the rows of which a table is made: a black rectangle of no size.
+const ROW_LINE: Extent = Extent {
+    width: 0,
+    height: 0,
+    depth: 0,
+    is_black: true,
+};
 
 /// What the end of a cell does.
 #[derive(Clone, Copy)]
@@ -74,14 +83,8 @@ impl<'a> Parser<'a> {
             *next = State::Refused;
             return Ok(());
         };
-        self.input.pass(self.alloc, Spot::BeforeRow)?;
-        let table = Table {
-            kind: TableKind::Braces,
-            columns: Columns::alike(Alignment::Dense),
-            rows: 0,
-            cells: 0,
-        };
-        self.begin_cell(table, place, next)
+        let columns = Columns::alike(Alignment::Dense);
+        self.begin_first_cell(TableKind::Braces, columns, place, next)
     }
 
     /// Begins the rows of the whole text.
@@ -92,14 +95,31 @@ impl<'a> Parser<'a> {
             self.old self.new next.new result }
         ensures step { Advances 13 self.old self.new next.new result }
     {
-        self.input.pass(self.alloc, Spot::BeforeRow)?;
+        self.begin_first_cell(TableKind::Text, Columns::in_pairs(), 0, next)
+    }
+
+    /// Begins the first cell of a table, and the line before its row, if there is one.
+    pub(crate) fn begin_first_cell(
+        &mut self,
+        kind: TableKind,
+        columns: Columns,
+        place: usize,
+        next: &mut State,
+    ) -> Result<(), AllocError>
+        requires begin { CanBegin 0 self.old }
+        ensures holds { LeadsOn (BeginsTable kind columns place)
+            self.old self.new next.new result }
+        ensures step { Advances 12 self.old self.new next.new result }
+    {
+        let line = self.input.pass_lines(self.alloc)?;
+        let rows = put_line(&mut self.builder, line)?;
         let table = Table {
-            kind: TableKind::Text,
-            columns: Columns::in_pairs(),
-            rows: 0,
+            kind,
+            columns,
+            rows,
             cells: 0,
         };
-        self.begin_cell(table, 0, next)
+        self.begin_cell(table, place, next)
     }
 
     /// Begins the next cell of a table.
@@ -145,9 +165,10 @@ impl<'a> Parser<'a> {
             }
             CellEnd::EndsRow => {
                 put_last(&mut self.builder, row.count, table.cells)?;
-                self.input.pass_break(self.alloc)?;
+                let line = self.input.pass_break(self.alloc)?;
+                let lines = put_line(&mut self.builder, line)?;
                 let _ = self.builder.len();
-                let rows = table.rows + 1;
+                let rows = table.rows + 1 + lines;
                 self.begin_cell(
                     Table {
                         rows,
@@ -328,6 +349,21 @@ fn put_last(builder: &mut Builder, count: usize, cells: usize) -> Result<(), All
     put_row(builder, count)?;
     let _ = builder.len();
     builder.container(Container::Mrow, Attributes::plain(), cells + 1)
+}
+
+/// Pushes a line between rows, if there is one. Returns how many elements it is.
+fn put_line(builder: &mut Builder, line: bool) -> Result<usize, AllocError>
+    ensures elements { OnOk result (elements_in builder.new
+        ≡ lined line (elements_in builder.old)) }
+    ensures count { IfOk result (λ n. n ≡ line_count line) }
+    ensures more { IfOk result (λ n. length (elements_in builder.new)
+        ≡ n + length (elements_in builder.old)) }
+{
+    if !line {
+        return Ok(0);
+    }
+    builder.rectangle(ROW_LINE)?;
+    Ok(1)
 }
 
 /// Returns the style that a table states, where its cells have the first style and the second is the style around it.

@@ -2,11 +2,11 @@ use Rattle.std.proofs.Common.{codes, option_map, refl, ◌+◌, ◌<◌, ◌≤�
 use Rattle.std.proofs.lemmas.Result.{IfOk-weaker}
 use Rattle.latex2mathml_elements.specs.Attributes.{styled}
 use Rattle.latex2mathml_elements.specs.Element.{children}
-use Rattle.latex2mathml_elements.specs.Print.{attributes_text, container_name, pair_name, print, prints, start_tag, triple_name}
+use Rattle.latex2mathml_elements.specs.Print.{container_name, pair_name, print, prints, start_tag, table_attributes, triple_name}
 use Rattle.latex2mathml_attributes.specs.Arounds.{around_attributes, around_name}
 use Rattle.latex2mathml_builder.specs.Built.{Fits, element_of, settled_in}
 use Rattle.latex2mathml_attributes.specs.Columns.{columns_of}
-use Rattle.latex2mathml_builder.specs.Due.{arranged, due, settled_from, weight}
+use Rattle.latex2mathml_builder.specs.Due.{arranged, due, has_line, settled_from, weight}
 use Rattle.latex2mathml_attributes.specs.Names.{attributes_if_any, math_style_of, pair_of, triple_of}
 use Rattle.latex2mathml_builder.proofs.Parts.{settled_count}
 use Rattle.latex2mathml_builder.proofs.Tables.{begun, table_loaded, table_written}
@@ -69,9 +69,9 @@ returns-in_ok-start_triple-in-Triple-clause-weight c =
     let whole = ap (λ p. weight (element_of b.texts (settled_in b) p)) found.is ∙ weight_triple (triple_of found.tag) (attributes_if_any found.attributes) found.is_exchanged (settled_in b) found.first enough in
     IfOk-weaker c.three.result _ _ (λ run h. omega (arith, h, whole)) c.three.ensures.weight
 
-pub returns-in_ok-start_with_attributes-in-Table-clause-print :
-    goal.returns-in_ok-start_with_attributes-in-Table-clause-print
-returns-in_ok-start_with_attributes-in-Table-clause-print c =
+pub returns-in_ok-start_table-in-Table-clause-print :
+    goal.returns-in_ok-start_table-in-Table-clause-print
+returns-in_ok-start_table-in-Table-clause-print c =
     let b = c.args.self.now in
     let found = c.in-Table in
     let columns = columns_of found.columns in
@@ -81,14 +81,14 @@ returns-in_ok-start_with_attributes-in-Table-clause-print c =
     let enough : found.first + found.count ≤ length (settled_in b) = omega (arith, settled_count b.texts b.settled, fits.1) in
     let some : 0 < length xs = omega (arith, taken_length (settled_in b) found.first found.count enough, fits.0) in
     let whole = ap (λ p. print (element_of b.texts (settled_in b) p)) found.is ∙ table_written a columns xs some in
-    let begins = c.in_ok-start_with_attributes-in-Table.ensures ∙ ap (λ d. string_bytes c.args.out.now ++ (codes "<mtable" ++ (attributes_text d ++ codes ">"))) c.styled.ensures in
+    let begins = c.in_ok-start_table-in-Table.ensures ∙ ap (λ k. string_bytes c.args.out.now ++ start_tag (codes "mtable") (table_attributes k a)) c.has_line.ensures in
     IfOk-weaker c.write_rows.result _ _
-    (λ run h. begun (string_bytes c.args.out.now) (due b c.args.works.now.items) (start_tag (codes "mtable") a) _ _ _ _ begins h whole)
+    (λ run h. begun (string_bytes c.args.out.now) (due b c.args.works.now.items) (start_tag (codes "mtable") (table_attributes (has_line xs) a)) _ _ _ _ begins h whole)
     c.write_rows.ensures.print
 
-pub returns-in_ok-start_with_attributes-in-Table-clause-weight :
-    goal.returns-in_ok-start_with_attributes-in-Table-clause-weight
-returns-in_ok-start_with_attributes-in-Table-clause-weight c =
+pub returns-in_ok-start_table-in-Table-clause-weight :
+    goal.returns-in_ok-start_table-in-Table-clause-weight
+returns-in_ok-start_table-in-Table-clause-weight c =
     let b = c.args.self.now in
     let found = c.in-Table in
     let columns = columns_of found.columns in

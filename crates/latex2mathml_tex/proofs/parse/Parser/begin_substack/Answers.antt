@@ -1,11 +1,11 @@
 use Rattle.std.proofs.Common.{ℕ, List, arith, string_bytes}
 use Rattle.latex2mathml_elements.specs.Columns.{Alike, Dense}
 use Rattle.latex2mathml_tex_grammar.specs.Rules.{ByBrace, Rule, gives, reads_rows, styled}
-use Rattle.latex2mathml_tex_grammar.specs.Scanning.{BeforeBrace, BeforeRow}
+use Rattle.latex2mathml_tex_grammar.specs.Scanning.{BeforeBrace}
 use Rattle.latex2mathml_tex_grammar.specs.Symbols.{InScript}
 use Rattle.latex2mathml_tex_grammar.specs.Tables.{a_table}
 use Rattle.latex2mathml_tex_atoms.specs.Models.{context_of}
-use Rattle.latex2mathml_tex.proofs.TableRules.{substack_begins, passed_step, text_refused, text_step, text_taken, took_none, took_some}
+use Rattle.latex2mathml_tex.proofs.TableRules.{substack_begins, text_refused, text_step, text_taken, took_none, took_some}
 use Rattle.std.proofs.Common.{None}
 use Rattle.latex2mathml_tex.proofs.parse.Parser.begin_substack.Goals as goal
 
@@ -26,11 +26,11 @@ returns-clause-holds c = λ s g.
     let took = took_some string_bytes place BeforeBrace p q _ c.in-Some._brace c.in-Some.is c.in_ok-_brace.ensures in
     let rule : List ℕ → Rule = λ brace. reads_rows ByBrace place (Alike Dense) (styled context InScript) (λ lines end. gives (a_table None (Alike Dense) InScript context.style lines)) in
     let begins = text_taken p q place BeforeBrace (string_bytes c.in-Some._brace) took s c.args.context rule g in
-    c.begin_cell.ensures.holds s (substack_begins s q c.pass.new.self c.alike.result place c.args.context c.alike.ensures c.in_ok-pass.ensures begins)
+    c.begin_first_cell.ensures.holds s (substack_begins s q c.alike-columns.result place c.args.context c.alike-columns.ensures begins)
 
 pub returns-clause-step : goal.returns-clause-step
 returns-clause-step c =
     let p = c.args.self.now in
     let q = c.take_text.new.self in
     let took = took_some string_bytes c.args.place BeforeBrace p q _ c.in-Some._brace c.in-Some.is c.in_ok-_brace.ensures in
-    text_step p q c.args.place BeforeBrace (string_bytes c.in-Some._brace) took 13 c.begin_cell.new.self c.begin_cell.new.next c.begin_cell.result (omega arith) (passed_step q c.pass.new.self BeforeRow 6 13 c.begin_cell.new.self c.begin_cell.new.next c.begin_cell.result c.in_ok-pass.ensures (omega arith) c.begin_cell.ensures.step)
+    text_step p q c.args.place BeforeBrace (string_bytes c.in-Some._brace) took 12 c.begin_first_cell.new.self c.begin_first_cell.new.next c.begin_first_cell.result (omega arith) c.begin_first_cell.ensures.step

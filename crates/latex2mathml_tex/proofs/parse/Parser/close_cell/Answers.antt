@@ -1,4 +1,6 @@
-use Rattle.std.proofs.Common.{◌+◌, ap, arith, drop, refl, sym, ◌∙◌}
+use Rattle.std.proofs.Common.{ℕ, ◌+◌, ap, arith, drop, length, refl, sym, ◌∙◌}
+use Rattle.latex2mathml_tex_grammar.specs.RowLines.{lined}
+use Rattle.latex2mathml_tex.specs.declared.parse.frames.Table.{Table}
 use Rattle.std.proofs.lemmas.List.{length-drop}
 use Rattle.latex2mathml_tex.specs.Steps.{core_made, elements_of}
 use Rattle.latex2mathml_tex.specs.Tables.{cell_end_of}
@@ -10,14 +12,18 @@ returns-in_ok-put_row-in-PartsCells-clause-holds c = λ s g.
     let ends = sym (ap cell_end_of c.in-PartsCells.is) ∙ c.cell_end.ensures in
     c.begin_cell.ensures.holds s (cell_parted s c.args.self.now c.args.table c.args.place c.args.row c.args.unit g c.put_row.new.builder _ refl c.in_ok-put_row-in-PartsCells.ensures ends)
 
-pub returns-in_ok-pass_break-in-EndsRow-clause-holds : goal.returns-in_ok-pass_break-in-EndsRow-clause-holds
-returns-in_ok-pass_break-in-EndsRow-clause-holds c = λ s g.
+pub returns-in_ok-lines-in-EndsRow-clause-holds : goal.returns-in_ok-lines-in-EndsRow-clause-holds
+returns-in_ok-lines-in-EndsRow-clause-holds c = λ s g.
+    let t = c.args.table in
     let ends = sym (ap cell_end_of c.in-EndsRow.is) ∙ c.cell_end.ensures in
-    c.begin_cell-in-EndsRow.ensures.holds s (row_broken s c.args.self.now c.args.table c.args.place c.args.row c.args.unit g c.put_last.new.builder c.pass_break.new.self _ refl c.in_ok-put_last-in-EndsRow.ensures c.in_ok-pass_break-in-EndsRow.ensures ends)
+    let line = c.in_ok-line-in-EndsRow.line in
+    let table : ℕ → Table = λ n. record t { rows = t.rows + 1 + n; cells = 0 } in
+    let puts = c.in_ok-lines-in-EndsRow.ensures.elements ∙ ap (lined line) c.in_ok-put_last-in-EndsRow.ensures in
+    c.begin_cell-in-EndsRow.ensures.holds s (row_broken s c.args.self.now t c.args.place c.args.row c.args.unit g c.put_line.new.builder c.pass_break.new.self _ line (ap table c.in_ok-lines-in-EndsRow.ensures.count) puts c.in_ok-line-in-EndsRow.ensures.line c.in_ok-line-in-EndsRow.ensures.units ends)
 
-pub returns-in_ok-pass_break-in-EndsRow-clause-step : goal.returns-in_ok-pass_break-in-EndsRow-clause-step
-returns-in_ok-pass_break-in-EndsRow-clause-step c =
-    broken_step c.args.self.now c.put_last.new.builder c.pass_break.new.self c.begin_cell-in-EndsRow.new.self c.begin_cell-in-EndsRow.new.next c.begin_cell-in-EndsRow.result c.in_ok-pass_break-in-EndsRow.ensures c.begin_cell-in-EndsRow.ensures.step
+pub returns-in_ok-lines-in-EndsRow-clause-step : goal.returns-in_ok-lines-in-EndsRow-clause-step
+returns-in_ok-lines-in-EndsRow-clause-step c =
+    broken_step c.args.self.now c.put_line.new.builder c.pass_break.new.self c.begin_cell-in-EndsRow.new.self c.begin_cell-in-EndsRow.new.next c.begin_cell-in-EndsRow.result c.in_ok-line-in-EndsRow.ensures.units c.begin_cell-in-EndsRow.ensures.step
 
 pub returns-in-EndsTable-clause-holds : goal.returns-in-EndsTable-clause-holds
 returns-in-EndsTable-clause-holds c = λ s g.
@@ -45,9 +51,11 @@ begin_cell-requires-in-EndsRow c =
     let cells = c.args.table.cells in
     let count = c.args.row.count in
     let can = c.requires.can in
+    let more = c.in_ok-lines-in-EndsRow.ensures.more in
+    let put = ap length c.in_ok-put_last-in-EndsRow.ensures in
     record {
       can = record {
-        elements = rw c.in_ok-put_last-in-EndsRow.ensures (omega (arith, can.elements, length-drop count xs, length-drop cells (drop count xs)));
+        elements = omega (arith, can.elements, more, put, length-drop count xs, length-drop cells (drop count xs));
         awaits = record { accepted = can.awaits.accepted; nested = can.awaits.nested };
       };
     }
