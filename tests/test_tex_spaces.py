@@ -1,11 +1,11 @@
-"""The space that Chromium leaves between the atoms of a formula of `tex_to_mathml`, against TeX's table of spaces. The comparison
-of markup with KaTeX (`test_tex_katex`) does not see space."""
+"""The space that Chromium leaves between the atoms of a formula of `tex_to_mathml`, against TeX's table of spaces, and the space that
+both browsers leave at the sides of columns. The comparison of markup with KaTeX (`test_tex_katex`) does not see space."""
 import itertools
 import math
 import unittest
 
 from tests import support
-from tests.browsers import chromium
+from tests.browsers import chromium, firefox
 from tests.support import Case, requires, tex_program
 from tests.test_page import judge, settle, spaces_between
 
@@ -22,17 +22,30 @@ EMS = {"0": 0, "1": 3 / 18, "2": 4 / 18, "3": 5 / 18}
 # Rounding to thousandths of an em, to a pixel at each side of a fraction, and to 64ths of a pixel: less than a third of a thin space.
 NEARLY = 0.05
 
+# Tables of letters, and the ems that TeX leaves in the first row: before the first letter, between the letters, and after the last.
+TABLES = {r"\begin{matrix}c&c&c\\c\end{matrix}": [0, 1, 1, 0], r"\begin{cases}c&c\\c\end{cases}": [0, 1, 0],
+          r"\begin{pmatrix*}[r]c&c\end{pmatrix*}": [0, 1, 0], r"\begin{gathered}c\\c\end{gathered}": [0, 0],
+          r"\begin{aligned}c&c&c&c&c\\c\end{aligned}": [0, 0, 1, 0, 1, 0], r"\begin{array}{c|r}c&c\\c\end{array}": [1 / 2, 1, 1 / 2],
+          r"\begin{array}{|l|}c&c\end{array}": [1 / 2, 1, 1 / 2], r"\begin{eqnarray}c&c&c\end{eqnarray}": [1 / 2, 1, 1, 1 / 2],
+          r"\begin{smallmatrix}c&c&c\end{smallmatrix}": [0, 5 / 18, 5 / 18, 0], r"x_{\substack{c\\c}}": [0, 0]}
+
 PAGE = """<!DOCTYPE html><meta charset="utf-8"><style>math { font-size: 100px }</style>%s<script>
-const gaps = row => {
-    const boxes = [...row.children].filter(child => child.localName !== "mspace").map(child => child.getBoundingClientRect());
-    const em = parseFloat(getComputedStyle(row).fontSize);
-    return boxes.slice(1).map((box, place) => (box.left - boxes[place].right) / em);
-};
+const gapsBetween = (boxes, em) => boxes.slice(1).map((box, place) => (box.left - boxes[place].right) / em);
+const boxesOf = elements => elements.map(element => element.getBoundingClientRect());
+const gaps = %s;
 addEventListener("load", () => {
-    const found = [...document.querySelectorAll("p > math")].map(formula => gaps(formula.querySelector("msup > mrow") ?? formula));
-    fetch("/spaces.html", {method: "POST", body: JSON.stringify(found)});
+    fetch("/spaces.html", {method: "POST", body: JSON.stringify([...document.querySelectorAll("p > math")].map(gaps))});
 });
 </script>"""
+OF_ATOMS = """formula => {
+    const row = formula.querySelector("msup > mrow") ?? formula;
+    const boxes = boxesOf([...row.children].filter(child => child.localName !== "mspace"));
+    return gapsBetween(boxes, parseFloat(getComputedStyle(row).fontSize));
+}"""
+OF_CELLS = """formula => {
+    const {left, right} = formula.querySelector("mtable").getBoundingClientRect();
+    return gapsBetween([{right: left}, ...boxesOf([...formula.querySelectorAll("mtr:first-child > mtd > mi")]), {left: right}], 100);
+}"""
 
 
 def pairs():
@@ -60,15 +73,21 @@ def keeps_space(left, right, one, other, in_script):
             or left in {"opening", "punctuation"} and other == SIZED)
 
 
-@requires("chromium")
-class AsTexSpaces(Case):
-    def compare(self, around, in_script):
-        formulas = [around.format(f"a {one} {other} b") for _, _, one, other in pairs()]
+class Spaces(Case):
+    def spaces(self, formulas, browser, gaps):
+        """What this script finds in the markup of these formulas."""
         done = support.run([tex_program(), "--null"], stdin="".join(f"{formula}\0" for formula in formulas).encode())
         self.assertEqual(done.returncode, 0, done.stderr.decode())
         markups = [reply.split("\n", 1)[1] for reply in done.stdout.decode().split("\0")[:-1]]
-        (self.folder / "spaces.html").write_text(PAGE % "".join(f"<p>{markup}</p>" for markup in markups))
-        found = judge(chromium, self.folder, ["spaces.html"])["spaces.html"]
+        (self.folder / "spaces.html").write_text(PAGE % ("".join(f"<p>{markup}</p>" for markup in markups), gaps))
+        return judge(browser, self.folder, ["spaces.html"])["spaces.html"]
+
+
+@requires("chromium")
+class AsTexSpaces(Spaces):
+    def compare(self, around, in_script):
+        formulas = [around.format(f"a {one} {other} b") for _, _, one, other in pairs()]
+        found = self.spaces(formulas, chromium, OF_ATOMS)
         for (left, right, one, other), formula, gaps in zip(pairs(), formulas, found, strict=True):
             with self.subTest(formula):
                 ems = due(left, right, in_script)
@@ -82,6 +101,22 @@ class AsTexSpaces(Case):
 
     def test_in_scripts(self):
         self.compare("x^{{{}}}", in_script=True)
+
+
+class Columns(Spaces):
+    def compare(self, browser):
+        for (formula, ems), gaps in zip(TABLES.items(), self.spaces(TABLES, browser, OF_CELLS), strict=True):
+            with self.subTest(formula):
+                alike = all(math.isclose(gap, em, abs_tol=NEARLY) for gap, em in zip(gaps, ems, strict=True))
+                self.assertTrue(alike, f"found {gaps}, TeX {ems}")
+
+    @requires("chromium")
+    def test_in_chromium(self):
+        self.compare(chromium)
+
+    @requires("firefox-esr")
+    def test_in_firefox(self):
+        self.compare(firefox)
 
 
 if __name__ == "__main__":
