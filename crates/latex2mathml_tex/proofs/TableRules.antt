@@ -13,8 +13,7 @@ use Rattle.latex2mathml_attributes.specs.Columns.{columns_of}
 use Rattle.latex2mathml_attributes.specs.declared.columns.Columns.{Columns as CodeColumns}
 use Rattle.latex2mathml_attributes.specs.{Names.math_style_of, declared.attributes.MathStyle.MathStyle}
 use Rattle.latex2mathml_tex_grammar.specs.{Atoms.Plain, Atoms.atom, Makes.core, Refusal.Refusal}
-use Rattle.latex2mathml_tex_grammar.specs.Reading.{ReadsRows}
-use Rattle.latex2mathml_tex_grammar.specs.Rules.{ByBrace, ByName, ByText, Context as RuleContext, Rule, ended_table, gives, passes_over, reads_rows, rows_of_text, rows_rule, styled, takes_found}
+use Rattle.latex2mathml_tex_grammar.specs.Rules.{ByBrace, ByText, Context as RuleContext, Rule, ended_table, gives, passes_over, reads_rows, rows_of_text, rows_rule, styled, takes_found}
 use Rattle.latex2mathml_tex_grammar.specs.Scanning.{BeforeArgument, BeforeRow, Name, Spot, past, past_break}
 use Rattle.latex2mathml_tex_grammar.specs.Symbols as symbols
 use Rattle.latex2mathml_tex_grammar.specs.Tables.{Lines, a_table, between_any, rows_of, rows_onto, said_style, table_class}
@@ -23,7 +22,7 @@ use Rattle.latex2mathml_tex.specs.Levels.{CoreMade, Refuses, RuleLeads}
 use Rattle.latex2mathml_tex_units.specs.{Errors.refusal_of, Left.unit_count, Left.units_at}
 use Rattle.latex2mathml_tex_commands.specs.Meanings.{style_of}
 use Rattle.latex2mathml_tex_atoms.specs.Models.{context_of}
-use Rattle.latex2mathml_tex.specs.Steps.{Begins, BeginsIn, BeginsTable, EndsRows, Follows, GoesOnTable, HasElements, Holds, InnermostIs, Advances, MakesTable, TookText, elements_of, frame_weight, left_of, level, to_do}
+use Rattle.latex2mathml_tex.specs.Steps.{Begins, BeginsIn, BeginsTable, EndsRows, Follows, HasElements, Holds, InnermostIs, Advances, MakesTable, TookText, elements_of, frame_weight, left_of, level, to_do}
 use Rattle.latex2mathml_tex_units.specs.Environments.{delimiter_texts, environment_of}
 use Rattle.latex2mathml_tex.specs.Tables.{after_rows}
 use Rattle.latex2mathml_tex.specs.Innermost.{frame_context}
@@ -34,7 +33,6 @@ use Rattle.latex2mathml_tex_atoms.specs.declared.{atoms.Context.Context, atoms.C
 use Rattle.latex2mathml_tex.specs.declared.{parse.Parser.Parser, parse.State.State}
 use Rattle.latex2mathml_tex.specs.declared.parse.frames.Frame.{Frame}
 use Rattle.latex2mathml_tex.specs.declared.parse.State.TheVariants as state
-use Rattle.latex2mathml_tex.specs.declared.parse.frames.Table.{Table}
 use Rattle.latex2mathml_tex.proofs.Leading.{found, given, not_found, passed, rows_due}
 use Rattle.latex2mathml_tex_units.proofs.Scanned.{no_more_past, no_more_past_break, no_more_scanned}
 use Rattle.latex2mathml_tex.proofs.{Marks.all_refuse, Marks.core_refuses, Rows.refused_within, Rows.step_within, Opening.context_is}

@@ -71,7 +71,7 @@ pub(crate) enum TableKind {
 pub(crate) struct Table {
     pub(crate) kind: TableKind,
     pub(crate) columns: Columns,
-    /// How many rows come before the one that is being read.
+    /// How many rows come before the one that is being read, and lines between them.
     pub(crate) rows: usize,
     /// How many cells of that row come before the one that is being read.
     pub(crate) cells: usize,
