@@ -26,7 +26,6 @@ pub use Rattle.latex2mathml_tokens.specs.Attributes
 pub use Rattle.latex2mathml_tokens.specs.Commands
 pub use Rattle.latex2mathml_tokens.specs.Escape
 pub use Rattle.latex2mathml_tokens.specs.Tok
-pub use Rattle.latex2mathml_tokens.specs.TokenText
 pub use Rattle.latex2mathml_trees.specs.Arguments
 pub use Rattle.latex2mathml_trees.specs.Print
 pub use Rattle.latex2mathml_trees.specs.Style

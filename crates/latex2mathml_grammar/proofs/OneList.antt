@@ -8,8 +8,8 @@ use Rattle.latex2mathml_grammar.proofs.{FirstSlices.parted, FirstSlices.slice_of
 use Rattle.latex2mathml_tokens.specs.{Among.is_among, Commands.command_token}
 use Rattle.latex2mathml_grammar.specs.Cutting.{slice, slices_within, slices_of}
 use Rattle.latex2mathml_grammar.specs.{Beginnings.BeginsWith, Beginnings.BeginsWithNumber, Beginnings.IsLongestRun, TokenLists.HasOneTokenList}
-use Rattle.latex2mathml_grammar.specs.Spelling.{Slice, IsFirstSlice, HasSlices, HasTokens, takes_digit, is_period, is_equals_sign, character_token, character, colon, colon_equals, number, digit, symbol_command, letter_command, lone_backslash}
-use Rattle.latex2mathml_tokens.specs.Tok.{Tok, Number, Command, Paren, Operator}
+use Rattle.latex2mathml_grammar.specs.Spelling.{Slice, IsFirstSlice, HasSlices, HasTokens, is_period, is_equals_sign, character_token, character, colon, colon_equals, number, digit, symbol_command, letter_command, lone_backslash}
+use Rattle.latex2mathml_tokens.specs.Tok.{Tok, Number, Command, Paren, Operator, takes_digit}
 use Rattle.latex2mathml_grammar.proofs.Numbers.{digits_alone, digits_with_period}
 use Rattle.latex2mathml_grammar.proofs.Tokenizing.{spells_dark, step_shortens}
 

@@ -4,8 +4,8 @@ use Rattle.std.proofs.Common.{◌≡◌, ◌⊎◌, ℕ, Bool, true, false, not,
 use Rattle.std.specs.{Char.encode_utf8, List.list_all, Str.byte, Str.bytes_eq}
 use Rattle.latex2mathml_tokens.specs.Commands.{command_entries, command_token, entry_token}
 use Rattle.latex2mathml_grammar.specs.Dollars.{is_other}
-use Rattle.latex2mathml_grammar.specs.Spelling.{SpellsAt, character_token, Slice, HasSlices, HasTokens, takes_digit}
-use Rattle.latex2mathml_tokens.specs.Tok.{Tok, EOF, Paren, Underscore, Circumflex, Big, Operator, Command}
+use Rattle.latex2mathml_grammar.specs.Spelling.{SpellsAt, character_token, Slice, HasSlices, HasTokens}
+use Rattle.latex2mathml_tokens.specs.Tok.{Tok, EOF, Paren, Underscore, Circumflex, Big, Operator, Command, takes_digit}
 use Rattle.std.proofs.{lemmas.Bool.Decides.nat_tests}
 
 -- the token is not the end of a formula, a prime, a sign, an opening bracket, or a size with a dollar sign

@@ -5,8 +5,8 @@ use Rattle.std.specs.{Char.is_ascii_digit, Char.is_ascii_alphabetic, List.AllPas
 use Rattle.latex2mathml_grammar.specs.Characters.{Begins, Stops, head, is_empty, is_space}
 use Rattle.latex2mathml_grammar.specs.{Cutting.slices_of, Rendering.IsRendering, Rendering.IsFormulaRefusal}
 use Rattle.latex2mathml_grammar.specs.Places.{AreSlices, IsBetweenTokens, IsDigitPlace, IsReadAlike, SpaceChangesNothing, HasPlaces}
-use Rattle.latex2mathml_grammar.specs.Spelling.{SpellsAt, Slice, HasSlices, HasTokens, is_equals_sign, is_period, takes_digit, character, colon, colon_equals, number, digit, symbol_command, letter_command, lone_backslash}
-use Rattle.latex2mathml_tokens.specs.Tok.{Tok}
+use Rattle.latex2mathml_grammar.specs.Spelling.{SpellsAt, Slice, HasSlices, HasTokens, is_equals_sign, is_period, character, colon, colon_equals, number, digit, symbol_command, letter_command, lone_backslash}
+use Rattle.latex2mathml_tokens.specs.Tok.{Tok, takes_digit}
 use Rattle.latex2mathml_grammar.proofs.{OneList.at_most_one, OneList.cut}
 use Rattle.latex2mathml_grammar.proofs.Tokenizing.{Dark, spells_dark}
 

@@ -4,8 +4,8 @@ use Rattle.std.specs.Prelude.{ℕ, zero, suc, Bool, ◌&&◌, List, [], ◌∷�
 use Rattle.std.specs.{Char.is_ascii_digit, Char.is_ascii_alphabetic, Str.byte, Str.encode_utf8_all}
 use Rattle.latex2mathml_grammar.specs.Characters.{◌∈◌, is_empty, is_space}
 use Rattle.latex2mathml_tokens.specs.Commands.{command_token}
-use Rattle.latex2mathml_grammar.specs.Spelling.{Slice, is_period, is_equals_sign, character_token, takes_digit}
-use Rattle.latex2mathml_tokens.specs.Tok.{Tok, EOF, Number, Command, Paren, Operator}
+use Rattle.latex2mathml_grammar.specs.Spelling.{Slice, is_period, is_equals_sign, character_token}
+use Rattle.latex2mathml_tokens.specs.Tok.{Tok, EOF, Number, Command, Paren, Operator, takes_digit}
 
 -- the longest run of characters that pass the test
 abbrev pub run_of : (ℕ → Bool) → List ℕ → List ℕ

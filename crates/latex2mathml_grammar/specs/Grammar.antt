@@ -6,7 +6,7 @@ use Rattle.latex2mathml_trees.specs.Productions.{binomial_tree, environment_tree
 use Rattle.latex2mathml_tokens.specs.Refusal.{Refusal, UnexpectedToken, MissingParensethis, UnknownEnvironment}
 use Rattle.latex2mathml_trees.specs.Style.{styled}
 use Rattle.latex2mathml_tokens.specs.Tok.{Tok, Illegal, EOF, Begin, End, Ampersand, Paren, LBrace, RBrace, NewLine, Left, Right, Middle, Frac, Underscore, Circumflex, Binom, Overset, Underset, Overbrace, Underbrace, Sqrt, Integral, Lim, Letter, Number, Operator, BigOp, Space, Style, Big, Over, Under, Function, OperatorName, Slashed, Text, Command}
-use Rattle.latex2mathml_tokens.specs.{TokenText.token_text, declared.attribute.LineThickness.TheVariants.Medium}
+use Rattle.latex2mathml_tokens.specs.{Tok.token_text, declared.attribute.LineThickness.TheVariants.Medium}
 use Rattle.latex2mathml_trees.specs.Tree.{Tree, number, letter, operator, function, space, other_operator, subscript, superscript, sub_sup, over_op, under_op, overset, underset, under, under_over, root, sqrt, frac, fenced, sized_paren, words, ampersand, new_line, slashed, undefined}
 
 -- what a part of a rule may be: a core; a single, which is a core with what directly follows it; or a node, which is a

@@ -5,8 +5,8 @@ use Rattle.std.specs.Prelude.{◌≡◌, ◌↔◌, ℕ, Bool, false, ◌&&◌, 
 use Rattle.std.specs.{Char.is_ascii_digit, List.AllPass, Str.chars}
 use Rattle.latex2mathml_grammar.specs.Characters.{Begins, head, is_empty, is_space}
 use Rattle.latex2mathml_grammar.specs.Rendering.{IsRendering, IsFormulaRefusal}
-use Rattle.latex2mathml_grammar.specs.Spelling.{Slice, SpellsAt, HasSlices, HasTokens, takes_digit}
-use Rattle.latex2mathml_tokens.specs.{Refusal.Refusal, Tok.Tok, declared.DisplayStyle.DisplayStyle}
+use Rattle.latex2mathml_grammar.specs.Spelling.{Slice, SpellsAt, HasSlices, HasTokens}
+use Rattle.latex2mathml_tokens.specs.{Refusal.Refusal, Tok.Tok, Tok.takes_digit, declared.DisplayStyle.DisplayStyle}
 
 -- the text w, after which the text `behind` follows, is these slices in turn, with or without white space before each
 abbrev pub AreSlices : Bool → List ℕ → List ℕ → List Slice → Type 0

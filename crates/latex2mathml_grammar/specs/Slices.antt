@@ -4,7 +4,7 @@ use Rattle.std.specs.Prelude.{◌≡◌, ◌≢◌, ℕ, List, [], ◌∷◌, �
 use Rattle.latex2mathml_trees.specs.Productions.{prime_mark}
 use Rattle.latex2mathml_grammar.specs.Grammar.{Sort, core, single, node, Rule, gives, reads_part, reads_members, reads_sign, takes_token, sees_token, takes_letters, rule, prime, first, first_or_end, letter_of, first_letter}
 use Rattle.latex2mathml_tokens.specs.Tok.{Tok, EOF, Underscore, Circumflex}
-use Rattle.latex2mathml_tokens.specs.TokenText.{token_text}
+use Rattle.latex2mathml_tokens.specs.Tok.{token_text}
 use Rattle.latex2mathml_trees.specs.Tree.{Tree, subscript, superscript, undefined}
 
 mutual

@@ -1,10 +1,10 @@
 -- How a text spells its tokens. Nothing here scans: `SpellsAt` relates a slice of the text, and the character that follows it,
 -- to the token that the slice spells.
-use Rattle.std.specs.Prelude.{◌≡◌, ℕ, ◌≤◌, Bool, true, false, ◌&&◌, ◌||◌, ◌==◌, IsTrue, IsFalse, List, [], ◌∷◌, ◌++◌, map, count_by, codes, Option, Some, None, if◌then◌else◌}
+use Rattle.std.specs.Prelude.{◌≡◌, ℕ, ◌≤◌, Bool, ◌&&◌, ◌||◌, ◌==◌, IsTrue, IsFalse, List, [], ◌∷◌, ◌++◌, map, count_by, codes, Option, Some, None, if◌then◌else◌}
 use Rattle.std.specs.{Char.is_ascii_digit, Char.is_ascii_alphabetic, List.AllPass, Str.byte, Str.encode_utf8_all}
 use Rattle.latex2mathml_grammar.specs.Characters.{◌∈◌, Begins, Stops, head, is_empty, is_space}
 use Rattle.latex2mathml_tokens.specs.Commands.{command_token}
-use Rattle.latex2mathml_tokens.specs.Tok.{Tok, Illegal, Ampersand, Paren, LBrace, RBrace, Underscore, Circumflex, Operator, Letter, Number, Command, Sqrt, Frac, Binom, Style}
+use Rattle.latex2mathml_tokens.specs.Tok.{Tok, Illegal, Ampersand, Paren, LBrace, RBrace, Underscore, Circumflex, Operator, Letter, Number, Command, takes_digit}
 use Rattle.latex2mathml_tokens.specs.declared.attribute.Variant.TheVariants.{Normal, Italic}
 
 -- the character is an operator by itself
@@ -52,15 +52,6 @@ pub record IsNumber (w : List ℕ) (next : Option ℕ) : Type 0 where
   pub at_most_one : count_by is_period w ≤ 1
   pub ends : Stops is_ascii_digit next
   pub longest : count_by is_period w ≡ 0 → Stops is_period next
-
--- whether a digit that directly follows the token is a number of its own
-abbrev pub takes_digit : Option Tok → Bool
-takes_digit None = false
-takes_digit (Some Sqrt) = true
-takes_digit (Some Frac) = true
-takes_digit (Some (Binom display)) = true
-takes_digit (Some (Style variant)) = true
-takes_digit (Some t) = false
 
 -- the slice w, before the character `next` or the end of the text, spells the token t. `alone` says that a digit here is a
 -- number of its own.

@@ -8,8 +8,8 @@ use Rattle.latex2mathml_grammar.specs.Counts.{IsComparisonCount, IsRefusalCount,
 use Rattle.latex2mathml_grammar.specs.{Cutting.slices_of, Grammar.ReadsFormula, Grammar.Refuses, Openers.IsFrameCount}
 use Rattle.latex2mathml_tokens.specs.Refusal.{IfRefused, Refusal, refusal_of}
 use Rattle.latex2mathml_grammar.specs.Rendering.{IsFormulaRefusal, IsRendering, math_print}
-use Rattle.latex2mathml_grammar.specs.Spelling.{HasSlices, HasTokens, Slice, takes_digit}
-use Rattle.latex2mathml_tokens.specs.{Tok.Tok, declared.DisplayStyle.DisplayStyle, declared.error.LatexError.LatexError}
+use Rattle.latex2mathml_grammar.specs.Spelling.{HasSlices, HasTokens, Slice}
+use Rattle.latex2mathml_tokens.specs.{Tok.Tok, Tok.takes_digit, declared.DisplayStyle.DisplayStyle, declared.error.LatexError.LatexError}
 use Rattle.latex2mathml_trees.specs.Tree.{Tree}
 use Rattle.latex2mathml_parser.specs.{Steps.IsRefusedWithin, Unread.GoesOn, Unread.OpensFor, Unread.Unread, Unread.token_list}
 use Rattle.std.proofs.lemmas.Option.{IfSome_then}

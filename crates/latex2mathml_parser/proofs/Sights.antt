@@ -4,9 +4,9 @@ use Rattle.std.proofs.{lemmas.Bool.both_ways, lemmas.Bool.Decides.nat_tests}
 use Rattle.std.specs.Str.{byte}
 use Rattle.latex2mathml_grammar.specs.{Beginnings.BeginsWith, Characters.head, Cutting.first_slice, Cutting.slice, Cutting.slices_of, Grammar.first}
 use Rattle.latex2mathml_parser.specs.{Lexing.IsStart, Marks.IsSeen, Marks.Shows}
-use Rattle.latex2mathml_grammar.specs.Spelling.{Slice, character_token, takes_digit}
+use Rattle.latex2mathml_grammar.specs.Spelling.{Slice, character_token}
 use Rattle.latex2mathml_parser.specs.Unread.{token_list}
-use Rattle.latex2mathml_tokens.specs.Tok.{Tok, EOF}
+use Rattle.latex2mathml_tokens.specs.Tok.{Tok, EOF, takes_digit}
 use Rattle.latex2mathml_grammar.proofs.{FirstSlices.slice_of, OneList.Begun, OneList.begun, OneList.cut_step}
 use Rattle.latex2mathml_grammar.proofs.PlainTokens.{is_plain, IsKnown, known}
 use Rattle.latex2mathml_parser.proofs.Starts.{step_from}

@@ -9,9 +9,9 @@ use Rattle.latex2mathml_grammar.specs.Characters.{head, is_space}
 use Rattle.latex2mathml_grammar.specs.{Counts.backslashes, Counts.begins_with_backslash, Cutting.slice, Cutting.slices_of, Grammar.first_or_end, Openers.openers, Openers.opens}
 use Rattle.latex2mathml_grammar.specs.Beginnings.{BeginsWith, IsLongestRun}
 use Rattle.latex2mathml_parser.specs.{Lexing.IsStart, Lexing.is_lone, Marks.rest_of}
-use Rattle.latex2mathml_grammar.specs.Spelling.{Slice, SpellsAt, IsFirstSlice, begins_longer, character_token, takes_digit}
+use Rattle.latex2mathml_grammar.specs.Spelling.{Slice, SpellsAt, IsFirstSlice, begins_longer, character_token}
 use Rattle.latex2mathml_parser.specs.Unread.{Takes, unread_in, token_list}
-use Rattle.latex2mathml_tokens.specs.Tok.{Tok, EOF, Letter, Number}
+use Rattle.latex2mathml_tokens.specs.Tok.{Tok, EOF, Letter, Number, takes_digit}
 use Rattle.latex2mathml_tokens.specs.declared.attribute.Variant.TheVariants.{Italic}
 use Rattle.latex2mathml_parser.proofs.{Fronts.no_characters, Spellings.lone_digit, Spellings.one_character}
 use Rattle.latex2mathml_grammar.proofs.OneList.{begun, cut_step, one_cut, only_space}

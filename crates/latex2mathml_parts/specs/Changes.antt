@@ -3,7 +3,7 @@ use Rattle.std.specs.Prelude.{◌≡◌, ℕ, List, ◌∷◌, Option, Some, Non
 use Rattle.latex2mathml_trees.specs.Productions.{environment_tree, group_tree}
 use Rattle.latex2mathml_trees.specs.Tree.{Tree, undefined}
 use Rattle.latex2mathml_parts.specs.{Forests.Forest, Forests.trees_in, Parts.top, Parts.words_of}
-use Rattle.latex2mathml_tokens.specs.{Lexemes.lexeme_tok, TokenText.token_text, declared.lexeme.Lexeme.Lexeme}
+use Rattle.latex2mathml_tokens.specs.{Lexemes.lexeme_tok, Tok.token_text, declared.lexeme.Lexeme.Lexeme}
 
 -- this tree took the place of the last n
 abbrev pub Makes : Tree → ℕ → Forest → Forest → Type 0

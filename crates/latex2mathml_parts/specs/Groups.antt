@@ -5,7 +5,7 @@ use Rattle.latex2mathml_trees.specs.Print.{member_print, print}
 use Rattle.latex2mathml_trees.specs.Tree.{Tree, Trees, matrix, row}
 use Rattle.latex2mathml_tokens.specs.{Attributes.align_text, declared.attribute.Variant.Variant}
 use Rattle.latex2mathml_parts.specs.{Forests.Forest, Forests.trees_at, Forms.in_style, Forms.members_of, declared.write.groups.Group.Group}
-use Rattle.latex2mathml_parts.specs.{Tags.ending_text, declared.write.tags.Ending.Ending}
+use Rattle.latex2mathml_parts.specs.{Shapes.ending_text, declared.write.shapes.Tag.Tag}
 use Rattle.latex2mathml_parts.specs.declared.write.groups.Group.TheVariants as group
 
 -- the tree of a group
@@ -38,9 +38,9 @@ abbrev pub names_of : Group → ℕ
 names_of group.Row = 0
 names_of (group.Matrix align) = 1
 
--- in any style, a member is written as this ending, or as itself
-abbrev pub IsMark : Group → Tree → Ending → Type 0
-IsMark g x ending = (style : Option Variant) → member_in g style x ≡ ending_text ending
+-- in any style, a member is written as what ends this, or as itself
+abbrev pub IsMark : Group → Tree → Tag → Type 0
+IsMark g x tag = (style : Option Variant) → member_in g style x ≡ ending_text tag
 
 abbrev pub IsNoMark : Group → Tree → Type 0
 IsNoMark g x = (style : Option Variant) → member_in g style x ≡ print (in_style style x)

@@ -6,5 +6,4 @@ pub mod Groups
 pub mod Parts
 pub mod Plain
 pub mod Shapes
-pub mod Tags
 pub mod Works

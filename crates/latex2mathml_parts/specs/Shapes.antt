@@ -1,12 +1,12 @@
 -- The markup of parts with operands: what precedes the operands, what is between them and what follows them.
-use Rattle.std.specs.Prelude.{◌≡◌, ℕ, ◌+◌, ◌*◌, ◌≤◌, List, ◌++◌, Option, Some, None, codes, drop}
-use Rattle.latex2mathml_trees.specs.{Print.print, Tree.Tree, Tree.function, Tree.operator, Weight.weight}
+use Rattle.std.specs.Prelude.{◌≡◌, ℕ, ◌+◌, ◌*◌, ◌≤◌, List, [], ◌++◌, Option, Some, None, codes, drop}
+use Rattle.latex2mathml_trees.specs.{Print.print, Productions.prime_mark, Tree.Tree, Tree.function, Tree.operator, Weight.weight}
 use Rattle.latex2mathml_tokens.specs.{Attributes.accent_text, Attributes.variant_text, Escape.content, Escape.content_char, Names.limit_text}
 use Rattle.latex2mathml_tokens.specs.{declared.attribute.Accent.Accent, declared.attribute.Variant.Variant}
 use Rattle.latex2mathml_parts.specs.{Parts.arity, Parts.fence_text, Parts.put, Parts.top, declared.kind.Kind.Kind}
-use Rattle.latex2mathml_parts.specs.{Tags.ending_text, Tags.opening_text, declared.write.tags.Opening.Opening}
-use Rattle.latex2mathml_parts.specs.declared.write.shapes.{Operands.Operands, Shape.Shape}
+use Rattle.latex2mathml_parts.specs.declared.write.shapes.{Operands.Operands, Shape.Shape, Tag.Tag}
 use Rattle.latex2mathml_parts.specs.declared.write.shapes.Operands.TheVariants as operands
+use Rattle.latex2mathml_parts.specs.declared.write.shapes.Tag.TheVariants as tag
 
 -- a sign over or under a tree
 abbrev pub sign_print : ℕ → Accent → List ℕ
@@ -35,10 +35,57 @@ styled_print c variant = codes "<mi mathvariant=\"" ++ (variant_text variant ++ 
 abbrev pub upright_print : ℕ → List ℕ
 upright_print c = codes "<mo>" ++ (content_char c ++ codes "</mo>")
 
+-- the texts that open an element and end it
+abbrev pub opening_text : Tag → List ℕ
+opening_text tag.Row = codes "<mrow>"
+opening_text tag.Sqrt = codes "<msqrt>"
+opening_text tag.Sup = codes "<msup>"
+opening_text tag.Sub = codes "<msub>"
+opening_text tag.Frac = codes "<mfrac>"
+opening_text tag.Over = codes "<mover>"
+opening_text tag.Under = codes "<munder>"
+opening_text tag.Root = codes "<mroot>"
+opening_text tag.SubSup = codes "<msubsup>"
+opening_text tag.UnderOver = codes "<munderover>"
+opening_text tag.Primed = codes "<msup>"
+opening_text tag.TwoOver = codes "<mover>"
+opening_text tag.TwoUnder = codes "<munder>"
+opening_text tag.Matrix = codes "<mtable><mtr><mtd>"
+opening_text tag.LeftMatrix = codes "<mtable columnalign=\"left\"><mtr><mtd>"
+opening_text tag.RightMatrix = codes "<mtable columnalign=\"right\"><mtr><mtd>"
+opening_text tag.Binom = codes "<mrow><mo stretchy=\"true\" form=\"prefix\">(</mo><mfrac linethickness=\"0\">"
+opening_text tag.BlockBinom = codes "<mstyle displaystyle=\"true\"><mrow><mrow><mo stretchy=\"true\" form=\"prefix\">(</mo><mfrac linethickness=\"0\">"
+opening_text tag.InlineBinom = codes "<mstyle displaystyle=\"false\"><mrow><mrow><mo stretchy=\"true\" form=\"prefix\">(</mo><mfrac linethickness=\"0\">"
+opening_text tag.Cell = []
+opening_text tag.MatrixRow = []
+
+abbrev pub ending_text : Tag → List ℕ
+ending_text tag.Row = codes "</mrow>"
+ending_text tag.Sqrt = codes "</msqrt>"
+ending_text tag.Sup = codes "</msup>"
+ending_text tag.Sub = codes "</msub>"
+ending_text tag.Frac = codes "</mfrac>"
+ending_text tag.Over = codes "</mover>"
+ending_text tag.Under = codes "</munder>"
+ending_text tag.Root = codes "</mroot>"
+ending_text tag.SubSup = codes "</msubsup>"
+ending_text tag.UnderOver = codes "</munderover>"
+ending_text tag.Matrix = codes "</mtd></mtr></mtable>"
+ending_text tag.LeftMatrix = codes "</mtd></mtr></mtable>"
+ending_text tag.RightMatrix = codes "</mtd></mtr></mtable>"
+ending_text tag.Cell = codes "</mtd><mtd>"
+ending_text tag.MatrixRow = codes "</mtd></mtr><mtr><mtd>"
+ending_text tag.Primed = print prime_mark ++ codes "</msup>"
+ending_text tag.TwoOver = codes "</mover></mover>"
+ending_text tag.TwoUnder = codes "</munder></munder>"
+ending_text tag.Binom = codes "</mfrac><mo stretchy=\"true\" form=\"postfix\">)</mo></mrow>"
+ending_text tag.BlockBinom = codes "</mfrac><mo stretchy=\"true\" form=\"postfix\">)</mo></mrow></mrow></mstyle>"
+ending_text tag.InlineBinom = codes "</mfrac><mo stretchy=\"true\" form=\"postfix\">)</mo></mrow></mrow></mstyle>"
+
 -- what precedes the first operand
-abbrev pub opening_print : Opening → Option ℕ → List ℕ
-opening_print o None = opening_text o
-opening_print o (Some c) = opening_text o ++ print (operator c)
+abbrev pub opening_print : Tag → Option ℕ → List ℕ
+opening_print t None = opening_text t
+opening_print t (Some c) = opening_text t ++ print (operator c)
 
 -- how many operands there are
 abbrev pub count_of : Operands → ℕ
@@ -67,7 +114,7 @@ operands_weight o ts = print_weight (top ts)
 
 -- the operands of a shape, with what is before and after them
 abbrev pub shape_print : Shape → List Tree → List ℕ
-shape_print s ts = opening_print s.0 s.1 ++ operands_print s.2 (opening_text s.0) ts (ending_text s.3)
+shape_print s ts = opening_print s.0 s.1 ++ operands_print s.2 (opening_text s.0) ts (ending_text s.0)
 
 -- a part of this kind has the shape, and more to write than its operands
 pub record IsShapeOf (k : Kind) (s : Shape) : Type 0 where

@@ -5,17 +5,17 @@ use Rattle.std.specs.{List.All, List.flat_map}
 use Rattle.latex2mathml_trees.specs.{Print.print, Tree.operator}
 use Rattle.latex2mathml_parts.specs.{Forests.Forest, Forests.IsPlace, Forests.tree_at, Forests.trees_at, Forms.in_style}
 use Rattle.latex2mathml_parts.specs.{Parts.fence_text, Shapes.begun_weight, Shapes.fence_close, Shapes.print_weight, Shapes.sign_print}
-use Rattle.latex2mathml_parts.specs.{Tags.ending_text, Tags.opening_text, declared.work.Work.Work}
+use Rattle.latex2mathml_parts.specs.{Shapes.ending_text, Shapes.opening_text, declared.work.Work.Work}
 use Rattle.latex2mathml_parts.specs.declared.work.Work.TheVariants as work
 
 abbrev pub work_print : Forest → Work → List ℕ
 work_print f (work.Tree end) = print (tree_at f end)
 work_print f (work.Styled variant end) = print (in_style (Some variant) (tree_at f end))
-work_print f (work.End ending) = ending_text ending
-work_print f (work.Brace opening c) = opening_text opening ++ print (operator c)
-work_print f (work.LastBrace c ending) = print (operator c) ++ ending_text ending
-work_print f (work.LastSign c accent ending) = sign_print c accent ++ ending_text ending
-work_print f (work.LastFence fence ending) = fence_close (fence_text fence) ++ ending_text ending
+work_print f (work.End tag) = ending_text tag
+work_print f (work.Brace tag c) = opening_text tag ++ print (operator c)
+work_print f (work.LastBrace c tag) = print (operator c) ++ ending_text tag
+work_print f (work.LastSign c accent tag) = sign_print c accent ++ ending_text tag
+work_print f (work.LastFence fence tag) = fence_close (fence_text fence) ++ ending_text tag
 
 abbrev pub due : Forest → List Work → List ℕ
 due f ws = flat_map (work_print f) (reverse ws)

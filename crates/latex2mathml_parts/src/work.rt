@@ -1,6 +1,6 @@
 //! What is still to be written.
 
-use crate::write::tags::{Ending, Opening};
+use crate::write::shapes::Tag;
 use latex2mathml_tokens::attribute::{Accent, Variant};
 use latex2mathml_tokens::names::Paren;
 use std::alloc::Global;
@@ -27,13 +27,14 @@ pub(crate) enum Work {
     Tree(usize),
     /// The same, in a style.
     Styled(Variant, usize),
-    End(Ending),
+    /// What ends an element.
+    End(Tag),
     /// What opens an element, and the brace in it.
-    Brace(Opening, char),
+    Brace(Tag, char),
     /// A brace and what ends its element.
-    LastBrace(char, Ending),
+    LastBrace(char, Tag),
     /// A sign and what ends its element.
-    LastSign(char, Accent, Ending),
+    LastSign(char, Accent, Tag),
     /// A closing fence and what ends its element.
-    LastFence(Option<Paren>, Ending),
+    LastFence(Option<Paren>, Tag),
 }

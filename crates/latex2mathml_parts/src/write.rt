@@ -10,9 +10,8 @@ mod fences;
 mod groups;
 mod leaves;
 mod operands;
-mod shapes;
+pub(crate) mod shapes;
 mod tables;
-pub(crate) mod tags;
 
 use crate::form::Form;
 use crate::kind::Kind;
@@ -67,22 +66,22 @@ impl Parts<'_> {
         match work {
             Work::Tree(end) => return Ok(Some(end)),
             Work::Styled(variant, end) => return self.write_styled(variant, end, works, out),
-            Work::End(ending) => ending.append(out)?,
-            Work::Brace(opening, c) => {
-                opening.append(out)?;
+            Work::End(tag) => tag.end(out)?,
+            Work::Brace(tag, c) => {
+                tag.open(out)?;
                 write_operator(c, out)?
             }
-            Work::LastBrace(c, ending) => {
+            Work::LastBrace(c, tag) => {
                 write_operator(c, out)?;
-                ending.append(out)?
+                tag.end(out)?
             }
-            Work::LastSign(c, accent, ending) => {
+            Work::LastSign(c, accent, tag) => {
                 write_char(sign_open(accent), c, "</mo>", out)?;
-                ending.append(out)?
+                tag.end(out)?
             }
-            Work::LastFence(fence, ending) => {
+            Work::LastFence(fence, tag) => {
                 out.push_str(closing_markup(fence))?;
-                ending.append(out)?
+                tag.end(out)?
             }
         }
         Ok(None)

@@ -12,4 +12,3 @@ pub mod Refusal
 pub mod Same
 pub mod Tok
 pub mod TokenContents
-pub mod TokenText

@@ -1,6 +1,6 @@
 -- Why a formula or a document is refused, as values, and the texts of refusals.
 use Rattle.std.specs.Prelude.{ℕ, List, ◌++◌, Option, Some, None, IfErr, IfSome, Result, codes, string_bytes}
-use Rattle.latex2mathml_tokens.specs.{Tok.Tok, Tok.tok, TokenText.token_text, declared.error.LatexError.LatexError}
+use Rattle.latex2mathml_tokens.specs.{Tok.Tok, Tok.tok, Tok.token_text, declared.error.LatexError.LatexError}
 use Rattle.latex2mathml_tokens.specs.declared.error.LatexError.TheVariants as error
 
 -- No formula is refused for its dollar signs: that is a refusal of a document.

@@ -1,7 +1,7 @@
 -- What the text of a token has after the name of its kind.
 use Rattle.std.specs.Prelude.{ℕ, List, [], ◌++◌, codes}
 use Rattle.std.specs.Fmt.{signed_decimal}
-use Rattle.latex2mathml_tokens.specs.{Escape.quoted, Escape.quoted_char, TokenText.accent_name, TokenText.variant_name}
+use Rattle.latex2mathml_tokens.specs.{Escape.quoted, Escape.quoted_char, Tok.accent_name, Tok.variant_name}
 use Rattle.latex2mathml_tokens.specs.declared.token.text.Contents.{Contents}
 use Rattle.latex2mathml_tokens.specs.declared.token.text.Contents.TheVariants as contents
 

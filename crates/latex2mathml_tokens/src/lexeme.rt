@@ -1,6 +1,6 @@
 //! Tokens that borrow their texts. The lexer and the parser pass them by value, and a refusal makes a [`Token`] of a lexeme.
-ghost use Rattle.std.specs.Prelude.{◌≡◌, ◌≤◌, IfOk, IsFalse, IsOk};
-ghost use Rattle.latex2mathml_tokens.specs.{Commands.command_token, Lexemes.lexeme_tok, Lexemes.owns_text, Tok.tok};
+ghost use Rattle.std.specs.Prelude.{◌≡◌, ◌≤◌, IfOk, IsFalse, IsOk, Some};
+ghost use Rattle.latex2mathml_tokens.specs.{Commands.command_token, Lexemes.lexeme_tok, Lexemes.owns_text, Tok.takes_digit, Tok.tok};
 
 use crate::DisplayStyle;
 use crate::attribute::{Accent, Variant};
@@ -105,15 +105,18 @@ impl<'a> Lexeme<'a> {
         (lexeme, comparisons)
     }
 
-    /// Returns the token, with texts of its own, or an `Err` if memory runs out for a text. An `Err` leaves nothing allocated.
-    pub fn token(self, alloc: Global) -> Result<Token, AllocError>
-        ensures { IfOk result (λ token. tok token ≡ lexeme_tok self.entry) }
+    /// Whether a digit that directly follows the lexeme is a number of its own.
+    pub fn takes_digit(self) -> bool
+        ensures { result ≡ takes_digit (Some (lexeme_tok self.entry)) }
     {
-        self.owned(alloc)
+        match self {
+            Lexeme::Sqrt | Lexeme::Frac | Lexeme::Binom(_) | Lexeme::Style(_) => true,
+            _ => false,
+        }
     }
 
-    /// Does the same as `token`. This contract also says which tokens need no memory.
-    pub(crate) fn owned(self, alloc: Global) -> Result<Token, AllocError>
+    /// Returns the token, with texts of its own, or an `Err` if memory runs out for a text. An `Err` leaves nothing allocated.
+    pub fn token(self, alloc: Global) -> Result<Token, AllocError>
         ensures token { IfOk result (λ token. tok token ≡ lexeme_tok self.entry) }
         ensures no_text { IsFalse (owns_text (lexeme_tok self.entry)) → IsOk result }
     {

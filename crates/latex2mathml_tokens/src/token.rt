@@ -1,7 +1,8 @@
 //! Tokens, and the tokens of commands.
-ghost use Rattle.std.specs.Prelude.{◌≡◌, ◌≤◌, ◌↔◌, IsOk, IsSome, IsTrue, IfOk};
+ghost use Rattle.std.specs.Prelude.{◌≡◌, ◌≤◌, ◌++◌, ◌↔◌, IsOk, IsSome, IsTrue, IfOk};
 ghost use Rattle.latex2mathml_tokens.specs.Commands.{command_entries, command_token, entry_token};
-ghost use Rattle.latex2mathml_tokens.specs.{Discreteness.same_tok, Discreteness.tok-discrete, Same.same_laws, Tok.tok};
+ghost use Rattle.latex2mathml_tokens.specs.{Discreteness.same_tok, Discreteness.tok-discrete, Same.same_laws};
+ghost use Rattle.latex2mathml_tokens.specs.{Tok.tok, Tok.token_text, TokenContents.contents_text};
 
 pub(crate) mod search;
 mod table;
@@ -10,6 +11,7 @@ pub mod text;
 use crate::DisplayStyle;
 use crate::attribute::{Accent, Variant};
 use crate::lexeme::Lexeme;
+use crate::token::text::Contents;
 use std::alloc::{AllocError, Global};
 
 /// What a slice of a formula represents.
@@ -120,7 +122,7 @@ impl Token {
     {
         let (lexeme, comparisons) = Lexeme::of_command(command);
         *compared = u128::from(comparisons);
-        lexeme.owned(alloc)
+        lexeme.token(alloc)
     }
 
     /// Returns a token with the same contents, or an `Err` if memory runs out for its text. An `Err` leaves nothing allocated.
@@ -167,6 +169,53 @@ impl Token {
             Token::Command(text) => Token::Command(String::from_str(alloc, text)?),
         };
         Ok(token)
+    }
+
+    /// Returns the name of the kind of the token, and what it contains. The style of a binomial coefficient is in the name.
+    pub(crate) fn parts(&self) -> (&'static str, Contents<'_>)
+        ensures { result.0.now ++ contents_text result.1 ≡ token_text (tok self.now) }
+    {
+        match self {
+            Token::Illegal(c) => ("Illegal", Contents::Character(*c)),
+            Token::EOF => ("EOF", Contents::Nothing),
+            Token::Begin => ("Begin", Contents::Nothing),
+            Token::End => ("End", Contents::Nothing),
+            Token::Ampersand => ("Ampersand", Contents::Nothing),
+            Token::NewLine => ("NewLine", Contents::Nothing),
+            Token::Left => ("Left", Contents::Nothing),
+            Token::Right => ("Right", Contents::Nothing),
+            Token::Middle => ("Middle", Contents::Nothing),
+            Token::Paren(text) => ("Paren", Contents::Text(text)),
+            Token::LBrace => ("LBrace", Contents::Nothing),
+            Token::RBrace => ("RBrace", Contents::Nothing),
+            Token::Frac => ("Frac", Contents::Nothing),
+            Token::Underscore => ("Underscore", Contents::Nothing),
+            Token::Circumflex => ("Circumflex", Contents::Nothing),
+            Token::Binom(None) => ("Binom(None)", Contents::Nothing),
+            Token::Binom(Some(DisplayStyle::Block)) => ("Binom(Some(Block))", Contents::Nothing),
+            Token::Binom(Some(DisplayStyle::Inline)) => ("Binom(Some(Inline))", Contents::Nothing),
+            Token::Overset => ("Overset", Contents::Nothing),
+            Token::Underset => ("Underset", Contents::Nothing),
+            Token::Overbrace(c) => ("Overbrace", Contents::Character(*c)),
+            Token::Underbrace(c) => ("Underbrace", Contents::Character(*c)),
+            Token::Sqrt => ("Sqrt", Contents::Nothing),
+            Token::Integral(c) => ("Integral", Contents::Character(*c)),
+            Token::Lim(text) => ("Lim", Contents::Text(text)),
+            Token::Space(width) => ("Space", Contents::Width(*width)),
+            Token::Style(variant) => ("Style", Contents::Style(*variant)),
+            Token::Big(text) => ("Big", Contents::Text(text)),
+            Token::Over(c, accent) => ("Over", Contents::Sign(*c, *accent)),
+            Token::Under(c, accent) => ("Under", Contents::Sign(*c, *accent)),
+            Token::Operator(c) => ("Operator", Contents::Character(*c)),
+            Token::BigOp(c) => ("BigOp", Contents::Character(*c)),
+            Token::Letter(c, variant) => ("Letter", Contents::Letter(*c, *variant)),
+            Token::Number(text) => ("Number", Contents::Text(text)),
+            Token::Function(text) => ("Function", Contents::Text(text)),
+            Token::OperatorName => ("OperatorName", Contents::Nothing),
+            Token::Slashed => ("Slashed", Contents::Nothing),
+            Token::Text => ("Text", Contents::Nothing),
+            Token::Command(text) => ("Command", Contents::Text(text)),
+        }
     }
 }
 

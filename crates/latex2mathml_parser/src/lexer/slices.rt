@@ -4,9 +4,8 @@ ghost use Rattle.std.specs.{Char.is_ascii_digit, Str.byte, Str.chars};
 ghost use Rattle.latex2mathml_grammar.specs.{Characters.Begins, Characters.is_space, Spelling.begins_longer, Spelling.character_token};
 ghost use Rattle.latex2mathml_grammar.specs.Beginnings.{BeginsWith, BeginsWithNumber};
 ghost use Rattle.latex2mathml_parser.specs.Lexing.{BeginsWithName, IsStart};
-ghost use Rattle.latex2mathml_grammar.specs.Spelling;
 ghost use Rattle.latex2mathml_parser.specs.Lexing;
-ghost use Rattle.latex2mathml_tokens.specs.Lexemes.{lexeme_tok};
+ghost use Rattle.latex2mathml_tokens.specs.{Lexemes.lexeme_tok, Tok.takes_digit};
 
 use crate::lexer::characters::{
     Class, after_char, after_one, before, first_ascii, first_char, is_space, skip_run, skip_space,
@@ -52,16 +51,6 @@ pub(crate) fn find_start<'a>(text: &'a str, takes: bool) -> Start<'a>
     }
 }
 
-/// Whether a digit that directly follows the lexeme is a number of its own.
-fn takes_digit(lexeme: Lexeme<'_>) -> bool
-    ensures { result ≡ Spelling.takes_digit (Some (lexeme_tok lexeme.entry)) }
-{
-    match lexeme {
-        Lexeme::Sqrt | Lexeme::Frac | Lexeme::Binom(_) | Lexeme::Style(_) => true,
-        _ => false,
-    }
-}
-
 /// Writes the lexeme at the start of the text, and returns what follows it, where the text is `c` followed by `after`, and
 /// `c` is not a backslash. `alone` says that a digit is a number of its own.
 pub(crate) fn slice_at<'a>(
@@ -75,7 +64,7 @@ pub(crate) fn slice_at<'a>(
     requires no_space { IsFalse (is_space c) }
     requires no_backslash { c ≢ byte "\\" }
     ensures lexeme { BeginsWith alone (chars text.now) (lexeme_tok lexeme.new) (chars result.now) }
-    ensures no_digit { IsFalse (Spelling.takes_digit (Some (lexeme_tok lexeme.new))) }
+    ensures no_digit { IsFalse (takes_digit (Some (lexeme_tok lexeme.new))) }
 {
     if c.is_ascii_digit() {
         if is_lone(after, alone) {
@@ -115,7 +104,7 @@ pub(crate) fn stands_alone(c: char) -> bool
 pub(crate) fn character(c: char, lexeme: &mut Lexeme<'_>)
     requires { IsFalse (begins_longer c) }
     ensures lexeme { lexeme_tok lexeme.new ≡ character_token c }
-    ensures no_digit { IsFalse (Spelling.takes_digit (Some (lexeme_tok lexeme.new))) }
+    ensures no_digit { IsFalse (takes_digit (Some (lexeme_tok lexeme.new))) }
 {
     match c {
         '=' | '<' | '>' | '+' | '-' | '*' | '/' => *lexeme = Lexeme::Operator(c),
@@ -176,7 +165,7 @@ pub(crate) fn command<'a>(
     requires room { comparisons.old + 9 < 2 ^ 128 }
     ensures lexeme { (any : Bool) → BeginsWith any
         (byte "\\" ∷ chars text.now) (lexeme_tok lexeme.new) (chars rest.new.now) }
-    ensures alone { alone.new ≡ Spelling.takes_digit (Some (lexeme_tok lexeme.new)) }
+    ensures alone { alone.new ≡ takes_digit (Some (lexeme_tok lexeme.new)) }
     ensures at_least { comparisons.old + 1 ≤ comparisons.new }
     ensures at_most { comparisons.new ≤ comparisons.old + 9 }
 {
@@ -185,7 +174,7 @@ pub(crate) fn command<'a>(
     // Written before the look-up, which then has fewer values to keep.
     *rest = behind;
     let (found, compared) = Lexeme::of_command(name);
-    *alone = takes_digit(found);
+    *alone = found.takes_digit();
     *comparisons += u128::from(compared);
     *lexeme = found;
 }

@@ -3,8 +3,8 @@ ghost use Rattle.std.specs.Prelude.{◌≡◌, ◌+◌, ◌-◌, ◌≤◌, ◌<
 ghost use Rattle.latex2mathml_trees.specs.{Print.print, Texts.Appends};
 ghost use Rattle.latex2mathml_parts.specs.Forests.{AreLeaves, IsPlace, members_at, tree_at, trees_at};
 ghost use Rattle.latex2mathml_parts.specs.Groups.{IsMark, IsNoMark, group_at, group_close, group_open, names_of};
-ghost use Rattle.latex2mathml_parts.specs.{Groups.member_in, Groups.members_in, Shapes.begun_weight, Shapes.print_weight};
-ghost use Rattle.latex2mathml_parts.specs.Tags.{ending_text, opening_text};
+ghost use Rattle.latex2mathml_parts.specs.Groups.{member_in, members_in};
+ghost use Rattle.latex2mathml_parts.specs.Shapes.{begun_weight, ending_text, opening_text, print_weight};
 ghost use Rattle.latex2mathml_parts.specs.Works.{Adds, AreIn, IsIn, Leaves, Writes, load};
 ghost use Rattle.latex2mathml_parts.specs.Works.{members_weight_at, work_print, work_weight};
 
@@ -12,7 +12,7 @@ use crate::form::Form;
 use crate::kind::Kind;
 use crate::parts::Parts;
 use crate::work::Work;
-use crate::write::tags::{Ending, Opening};
+use crate::write::shapes::Tag;
 use latex2mathml_tokens::attribute::{ColumnAlign, Variant};
 use std::alloc::AllocError;
 
@@ -24,27 +24,17 @@ pub(crate) enum Group {
 }
 
 impl Group {
-    /// Returns what precedes the members.
+    /// Returns what is around the members.
     #[inline(always)]
-    fn opening(self) -> Opening
-        ensures { opening_text result ≡ group_open self }
+    fn tag(self) -> Tag
+        ensures opening { opening_text result ≡ group_open self }
+        ensures ending { ending_text result ≡ group_close self }
     {
         match self {
-            Group::Row => Opening::Row,
-            Group::Matrix(ColumnAlign::Center) => Opening::Matrix,
-            Group::Matrix(ColumnAlign::Left) => Opening::LeftMatrix,
-            Group::Matrix(ColumnAlign::Right) => Opening::RightMatrix,
-        }
-    }
-
-    /// Returns what follows them.
-    #[inline(always)]
-    fn ending(self) -> Ending
-        ensures { ending_text result ≡ group_close self }
-    {
-        match self {
-            Group::Row => Ending::Row,
-            Group::Matrix(_) => Ending::Matrix,
+            Group::Row => Tag::Row,
+            Group::Matrix(ColumnAlign::Center) => Tag::Matrix,
+            Group::Matrix(ColumnAlign::Left) => Tag::LeftMatrix,
+            Group::Matrix(ColumnAlign::Right) => Tag::RightMatrix,
         }
     }
 
@@ -86,13 +76,14 @@ impl Parts<'_> {
         ensures left { OnOk result (Leaves self.now works.old works.new
             (begun_weight (group_at self.now group count style end)) None) }
     {
-        group.opening().append(out)?;
+        let tag = group.tag();
+        tag.open(out)?;
         if style.is_none() && end - start == count + group.names() {
             self.write_leaves(group, count, end, out)?;
-            group.ending().append(out)?;
+            tag.end(out)?;
             return Ok(());
         }
-        self.push_work(Work::End(group.ending()), works)?;
+        self.push_work(Work::End(tag), works)?;
         self.push_members(group, count, style, end, works)?;
         Ok(())
     }
@@ -117,7 +108,7 @@ impl Parts<'_> {
         'members: while place < end {
             place += 1;
             match self.mark(group, place) {
-                Some(ending) => ending.append(out)?,
+                Some(tag) => tag.end(out)?,
                 None => self.write_leaf_at(place, out)?,
             }
         }
@@ -161,8 +152,8 @@ impl Parts<'_> {
         ensures print { work_print self.now result ≡ member_in group style (tree_at self.now end) }
         ensures weight { work_weight self.now result ≤ print_weight (tree_at self.now end) }
     {
-        if let Some(ending) = self.mark(group, end) {
-            return Work::End(ending);
+        if let Some(tag) = self.mark(group, end) {
+            return Work::End(tag);
         }
         match style {
             None => Work::Tree(end),
@@ -172,7 +163,7 @@ impl Parts<'_> {
 
     /// Returns what a member of a matrix is written as if it ends a cell or a row of the matrix.
     #[inline(always)]
-    fn mark(&self, group: Group, end: usize) -> Option<Ending>
+    fn mark(&self, group: Group, end: usize) -> Option<Tag>
         requires place { IsPlace self.now end }
         ensures { MatchOption result (IsNoMark group (tree_at self.now end))
             (IsMark group (tree_at self.now end)) }
@@ -180,8 +171,8 @@ impl Parts<'_> {
         match group {
             Group::Row => None,
             Group::Matrix(_) => match self.part_at(end).form {
-                Form::Of(Kind::NewLine) => Some(Ending::MatrixRow),
-                Form::Of(Kind::Ampersand) => Some(Ending::Cell),
+                Form::Of(Kind::NewLine) => Some(Tag::MatrixRow),
+                Form::Of(Kind::Ampersand) => Some(Tag::Cell),
                 _ => None,
             },
         }

@@ -3,8 +3,7 @@ ghost use Rattle.std.specs.Prelude.{◌≡◌, ◌+◌, ◌<◌, ◌≤◌, ◌+
 ghost use Rattle.latex2mathml_trees.specs.{Print.print, Texts.Appends};
 ghost use Rattle.latex2mathml_parts.specs.{Forests.IsPlace, Forests.form_tree, Forests.tree_at, Forests.trees_at};
 ghost use Rattle.latex2mathml_parts.specs.{Parts.arity, declared.form.Form.Form};
-ghost use Rattle.latex2mathml_parts.specs.Shapes.{begun_weight, opening_print, print_weight};
-ghost use Rattle.latex2mathml_parts.specs.Tags.{ending_text};
+ghost use Rattle.latex2mathml_parts.specs.Shapes.{begun_weight, ending_text, opening_print, print_weight};
 ghost use Rattle.latex2mathml_parts.specs.Works.{AreIn, Leaves, Writes};
 
 use crate::kind::Kind;
@@ -12,9 +11,8 @@ use crate::parts::Parts;
 use crate::work::Work;
 use crate::write::fences::opening_markup;
 use crate::write::leaves::write_operator;
-use crate::write::shapes::{Operands, Shape, shape_of};
+use crate::write::shapes::{Operands, Shape, Tag, shape_of};
 use crate::write::tables::limit_markup;
-use crate::write::tags::{Ending, Opening};
 use std::alloc::AllocError;
 
 impl Parts<'_> {
@@ -37,41 +35,41 @@ impl Parts<'_> {
         ensures left { IfOk result (Leaves self.now works.old works.new
             (begun_weight (form_tree self.now (Form.Of kind.entry) end))) }
     {
-        let Shape(opening, sign, operands, ending) = shape_of(kind);
-        write_opening(opening, sign, out)?;
+        let Shape(tag, sign, operands) = shape_of(kind);
+        write_opening(tag, sign, out)?;
         match operands {
-            Operands::One => self.write_last(end, ending, works, out),
+            Operands::One => self.write_last(end, tag, works, out),
             Operands::Two => {
                 let first = self.before_last(end);
-                self.write_both(first, end, ending, works, out)
+                self.write_both(first, end, tag, works, out)
             }
             Operands::Swapped => {
                 let second = self.before_last(end);
-                self.write_both(end, second, ending, works, out)
+                self.write_both(end, second, tag, works, out)
             }
             Operands::Labelled(brace) => {
                 let first = self.before_last(end);
-                self.push_work(Work::End(ending), works)?;
+                self.push_work(Work::End(tag), works)?;
                 self.push_work(Work::Tree(end), works)?;
-                self.push_work(Work::Brace(opening, brace), works)?;
+                self.push_work(Work::Brace(tag, brace), works)?;
                 Ok(Some(first))
             }
             Operands::Named(name) => {
                 out.push_str(limit_markup(name))?;
-                self.push_work(Work::End(ending), works)?;
+                self.push_work(Work::End(tag), works)?;
                 Ok(Some(end))
             }
             Operands::Fenced(open, close) => {
                 out.push_str(opening_markup(open))?;
-                self.push_work(Work::LastFence(close, ending), works)?;
+                self.push_work(Work::LastFence(close, tag), works)?;
                 Ok(Some(end))
             }
             Operands::Braced(brace) => {
-                self.push_work(Work::LastBrace(brace, ending), works)?;
+                self.push_work(Work::LastBrace(brace, tag), works)?;
                 Ok(Some(end))
             }
             Operands::Signed(sign, accent) => {
-                self.push_work(Work::LastSign(sign, accent, ending), works)?;
+                self.push_work(Work::LastSign(sign, accent, tag), works)?;
                 Ok(Some(end))
             }
         }
@@ -83,7 +81,7 @@ impl Parts<'_> {
         &self,
         first: usize,
         last: usize,
-        ending: Ending,
+        tag: Tag,
         works: &mut Vec<Work>,
         out: &mut String,
     ) -> Result<Option<usize>, AllocError>
@@ -92,15 +90,15 @@ impl Parts<'_> {
         requires inside { AreIn self.now works.old.items }
         ensures print { IfOk result (Writes self.now out.old works.old out.new works.new
             (print (tree_at self.now first)
-            ++ (print (tree_at self.now last) ++ ending_text ending))) }
+            ++ (print (tree_at self.now last) ++ ending_text tag))) }
         ensures left { IfOk result (Leaves self.now works.old works.new
             (print_weight (tree_at self.now first) + print_weight (tree_at self.now last) + 3)) }
     {
         if self.is_leaf(first) {
             self.write_leaf_at(first, out)?;
-            return self.write_last(last, ending, works, out);
+            return self.write_last(last, tag, works, out);
         }
-        self.push_work(Work::End(ending), works)?;
+        self.push_work(Work::End(tag), works)?;
         self.push_work(Work::Tree(last), works)?;
         Ok(Some(first))
     }
@@ -110,33 +108,33 @@ impl Parts<'_> {
     fn write_last(
         &self,
         last: usize,
-        ending: Ending,
+        tag: Tag,
         works: &mut Vec<Work>,
         out: &mut String,
     ) -> Result<Option<usize>, AllocError>
         requires last { IsPlace self.now last }
         requires inside { AreIn self.now works.old.items }
         ensures print { IfOk result (Writes self.now out.old works.old out.new works.new
-            (print (tree_at self.now last) ++ ending_text ending)) }
+            (print (tree_at self.now last) ++ ending_text tag)) }
         ensures left { IfOk result (Leaves self.now works.old works.new
             (print_weight (tree_at self.now last) + 2)) }
     {
         if self.is_leaf(last) {
             self.write_leaf_at(last, out)?;
-            ending.append(out)?;
+            tag.end(out)?;
             return Ok(None);
         }
-        self.push_work(Work::End(ending), works)?;
+        self.push_work(Work::End(tag), works)?;
         Ok(Some(last))
     }
 }
 
 /// Writes what precedes the operands.
 #[inline(always)]
-fn write_opening(opening: Opening, sign: Option<char>, out: &mut String) -> Result<(), AllocError>
-    ensures { Appends out.old out.new (opening_print opening sign) result }
+fn write_opening(tag: Tag, sign: Option<char>, out: &mut String) -> Result<(), AllocError>
+    ensures { Appends out.old out.new (opening_print tag sign) result }
 {
-    opening.append(out)?;
+    tag.open(out)?;
     match sign {
         None => Ok(()),
         Some(c) => write_operator(c, out),

@@ -1,10 +1,9 @@
 //! The text of a token, as refusals and marked errors name it.
-ghost use Rattle.std.specs.Prelude.{◌≡◌, ◌++◌, Some};
+ghost use Rattle.std.specs.Prelude.{Some};
 ghost use Rattle.std.specs.{Char.encode_utf8, Fmt.WritesOnOk, List.flat_map};
 ghost use Rattle.latex2mathml_tokens.specs.{Escape.quoted, Escape.quoted_byte, Escape.quoted_char, Tok.tok};
-ghost use Rattle.latex2mathml_tokens.specs.{TokenContents.contents_text, TokenText.accent_name, TokenText.token_text, TokenText.variant_name};
+ghost use Rattle.latex2mathml_tokens.specs.{TokenContents.contents_text, Tok.accent_name, Tok.token_text, Tok.variant_name};
 
-use crate::DisplayStyle;
 use crate::attribute::{Accent, Variant};
 use crate::token::Token;
 use std::fmt;
@@ -105,7 +104,7 @@ impl fmt::Display for AccentName {
 
 /// What a token contains, which its text has in parentheses.
 #[derive(Clone, Copy)]
-enum Contents<'a> {
+pub(crate) enum Contents<'a> {
     Nothing,
     Character(char),
     Text(&'a str),
@@ -113,53 +112,6 @@ enum Contents<'a> {
     Style(Variant),
     Sign(char, Accent),
     Letter(char, Variant),
-}
-
-/// Returns the name of the kind of the token, and what the token contains. The style of a binomial coefficient is in the name.
-fn parts(token: &Token) -> (&'static str, Contents<'_>)
-    ensures { result.0.now ++ contents_text result.1 ≡ token_text (tok token.now) }
-{
-    match token {
-        Token::Illegal(c) => ("Illegal", Contents::Character(*c)),
-        Token::EOF => ("EOF", Contents::Nothing),
-        Token::Begin => ("Begin", Contents::Nothing),
-        Token::End => ("End", Contents::Nothing),
-        Token::Ampersand => ("Ampersand", Contents::Nothing),
-        Token::NewLine => ("NewLine", Contents::Nothing),
-        Token::Left => ("Left", Contents::Nothing),
-        Token::Right => ("Right", Contents::Nothing),
-        Token::Middle => ("Middle", Contents::Nothing),
-        Token::Paren(text) => ("Paren", Contents::Text(text)),
-        Token::LBrace => ("LBrace", Contents::Nothing),
-        Token::RBrace => ("RBrace", Contents::Nothing),
-        Token::Frac => ("Frac", Contents::Nothing),
-        Token::Underscore => ("Underscore", Contents::Nothing),
-        Token::Circumflex => ("Circumflex", Contents::Nothing),
-        Token::Binom(None) => ("Binom(None)", Contents::Nothing),
-        Token::Binom(Some(DisplayStyle::Block)) => ("Binom(Some(Block))", Contents::Nothing),
-        Token::Binom(Some(DisplayStyle::Inline)) => ("Binom(Some(Inline))", Contents::Nothing),
-        Token::Overset => ("Overset", Contents::Nothing),
-        Token::Underset => ("Underset", Contents::Nothing),
-        Token::Overbrace(c) => ("Overbrace", Contents::Character(*c)),
-        Token::Underbrace(c) => ("Underbrace", Contents::Character(*c)),
-        Token::Sqrt => ("Sqrt", Contents::Nothing),
-        Token::Integral(c) => ("Integral", Contents::Character(*c)),
-        Token::Lim(text) => ("Lim", Contents::Text(text)),
-        Token::Space(width) => ("Space", Contents::Width(*width)),
-        Token::Style(variant) => ("Style", Contents::Style(*variant)),
-        Token::Big(text) => ("Big", Contents::Text(text)),
-        Token::Over(c, accent) => ("Over", Contents::Sign(*c, *accent)),
-        Token::Under(c, accent) => ("Under", Contents::Sign(*c, *accent)),
-        Token::Operator(c) => ("Operator", Contents::Character(*c)),
-        Token::BigOp(c) => ("BigOp", Contents::Character(*c)),
-        Token::Letter(c, variant) => ("Letter", Contents::Letter(*c, *variant)),
-        Token::Number(text) => ("Number", Contents::Text(text)),
-        Token::Function(text) => ("Function", Contents::Text(text)),
-        Token::OperatorName => ("OperatorName", Contents::Nothing),
-        Token::Slashed => ("Slashed", Contents::Nothing),
-        Token::Text => ("Text", Contents::Nothing),
-        Token::Command(text) => ("Command", Contents::Text(text)),
-    }
 }
 
 /// The text of a token, such as `Operator('<')` or `Command("foo")`.
@@ -170,7 +122,7 @@ impl fmt::Display for TokenText<'_> {
     ghost output = { λ text. Some (token_text (tok text.0.now)) };
 
     fn fmt<W: fmt::Write>(&self, f: &mut fmt::Formatter<W>) -> fmt::Result {
-        let (name, contents) = parts(self.0);
+        let (name, contents) = self.0.parts();
         f.write_str(name)?;
         write_contents(contents, f)
     }

@@ -8,5 +8,5 @@ returns-in-Paren-clause-holds c = λ input k.
 pub returns-in_ok-got-in_default-clause-holds : goal.returns-in_ok-got-in_default-clause-holds
 returns-in_ok-got-in_default-clause-holds c = λ input k.
     c.refuse.ensures.holds input
-    (rw c.in_ok-got-in_default.ensures
+    (rw c.in_ok-got-in_default.ensures.token
     (core_refused 0 input c.args.self.now (rw (not_sized _ c.take.result c.in_default.not-Paren) at (taken c.take.ensures.token c.take.ensures.list k))))

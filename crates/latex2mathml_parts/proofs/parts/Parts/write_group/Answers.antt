@@ -14,4 +14,4 @@ write_leaves-requires-clause-leaves c = λ k h i.
 pub returns-clause-print : goal.returns-clause-print
 returns-clause-print c =
     let members = group_print c.args.group c.args.style c.args.count (trees_at c.args.self.now c.args.end) in
-    rw (c.in_ok-append.ensures, c.opening.ensures, c.in_ok-push_members.ensures.print, c.in_ok-push_work.ensures.print, c.ending-2.ensures, ← members) (simp append_assoc)
+    rw (c.in_ok-open.ensures, c.tag-tag.ensures.opening, c.in_ok-push_members.ensures.print, c.in_ok-push_work.ensures.print, c.tag-tag.ensures.ending, ← members) (simp append_assoc)
