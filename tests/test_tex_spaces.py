@@ -108,7 +108,7 @@ class Columns(Spaces):
         for (formula, ems), gaps in zip(TABLES.items(), self.spaces(TABLES, browser, OF_CELLS), strict=True):
             with self.subTest(formula):
                 alike = all(math.isclose(gap, em, abs_tol=NEARLY) for gap, em in zip(gaps, ems, strict=True))
-                self.assertTrue(alike, f"found {gaps}, TeX {ems}")
+                self.assertTrue(alike, msg=f"found {gaps}, TeX {ems}")
 
     @requires("chromium")
     def test_in_chromium(self):
