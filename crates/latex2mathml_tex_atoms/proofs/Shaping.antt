@@ -15,7 +15,7 @@ use Rattle.latex2mathml_tex_grammar.specs.Meaning
 use Rattle.latex2mathml_tex_grammar.specs.Rows
 use Rattle.latex2mathml_tex_grammar.specs.Symbols.{Class, Ordinary, Style}
 use Rattle.latex2mathml_tex_commands.specs.Meanings.{class_of}
-use Rattle.latex2mathml_tex_atoms.specs.Models.{kind_of, top}
+use Rattle.latex2mathml_tex_atoms.specs.Models.{is_relation, kind_of, top}
 use Rattle.latex2mathml_tex_atoms.specs.Shapes.{changed_at, mapped_first}
 use Rattle.latex2mathml_tex_atoms.specs.declared.atoms.Kind.{Kind as CodeKind}
 use Rattle.latex2mathml_tex_atoms.specs.declared.atoms.Kind.TheVariants as code_kind
@@ -169,6 +169,12 @@ no_sign style first before kind s p o x = refl
 pub parted_there : (style : Style) (before : Before) (kind : CodeKind) → (kind ≡ code_kind.Blank → ⊥) → Atoms.parts style before (Atoms.past before (kind_of kind)) ≡ Atoms.is_parted style before (kind_of kind)
 parted_there style before code_kind.Blank h = absurd (h refl)
 parted_there style before kind h = refl
+
+-- an atom that joins nothing: no letter of a word, and no relation behind another
+pub apart_there : (last kind : CodeKind) → (kind ≡ code_kind.UprightLetters → ⊥) → (is_relation kind ≡ true → is_relation last ≡ true → ⊥) → Rows.joining (kind_of last) (kind_of kind) ≡ Rows.Apart
+apart_there code_kind.UprightLetters code_kind.UprightLetters word two = absurd (word refl)
+apart_there (code_kind.SignOf code_class.Relation) (code_kind.SignOf code_class.Relation) word two = absurd (two refl refl)
+apart_there last kind word two = refl
 
 -- The first elements changed, one after the other
 

@@ -28,6 +28,11 @@ kind_of kind.FunctionWord = atoms.FunctionWord
 kind_of kind.Divider = atoms.Divider
 kind_of kind.Blank = atoms.Blank
 
+-- whether an atom is a relation that may join another
+abbrev pub is_relation : Kind → Bool
+is_relation (kind.SignOf class.Relation) = true
+is_relation k = false
+
 abbrev pub joining_of : Joining → rows.Joining
 joining_of joining.ToWord = rows.ToWord
 joining_of joining.ToRelations = rows.ToRelations

@@ -5,7 +5,7 @@ ghost use Rattle.latex2mathml_tex_grammar.specs.Atoms;
 ghost use Rattle.latex2mathml_tex_grammar.specs.Makes;
 ghost use Rattle.latex2mathml_tex_grammar.specs.Rows;
 ghost use Rattle.latex2mathml_tex_commands.specs.Meanings.{class_of, limit_place_of, style_of};
-ghost use Rattle.latex2mathml_tex_atoms.specs.Models.{IsFinished, begun, has_script, empty_row, before_of, joining_of, kind_of, script_count};
+ghost use Rattle.latex2mathml_tex_atoms.specs.Models.{IsFinished, begun, has_script, empty_row, before_of, is_relation, joining_of, kind_of, script_count};
 ghost use Rattle.latex2mathml_tex_atoms.specs.Adding.{IsAdded};
 
 use crate::signs::is_put_as_it_is;
@@ -68,6 +68,14 @@ impl Kind {
             (Kind::SignOf(Class::Relation), Kind::SignOf(Class::Relation)) => Joining::ToRelations,
             _ => Joining::Apart,
         }
+    }
+
+    /// Whether the atom is a relation that may join another.
+    #[inline(always)]
+    fn is_relation(self) -> bool
+        ensures { result ≡ is_relation self }
+    {
+        matches!(self, Kind::SignOf(Class::Relation))
     }
 
     /// Whether a browser leaves a space around the element of the atom.
@@ -345,7 +353,11 @@ impl Row {
         ensures added { IsTrue result → IsAdded style core self.old self.new }
         ensures unchanged { result ≡ false → self.new ≡ self.old }
     {
-        if !is_put_as_it_is(style, self.count == 0, self.before, self.last, core.kind) {
+        // Only here is the last atom read, so that other atoms need no register for it.
+        if core.kind.is_relation() && self.last.is_relation() {
+            return false;
+        }
+        if !is_put_as_it_is(style, self.count == 0, self.before, core.kind) {
             return false;
         }
         let Some(count) = self.count.checked_add(1) else {

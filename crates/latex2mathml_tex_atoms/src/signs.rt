@@ -17,14 +17,8 @@ use latex2mathml_tex_commands::meaning::{Class, Style};
 
 /// Whether the element of an atom there stays as it is, with no space before it. That of most atoms does.
 #[inline(always)]
-pub(crate) fn is_put_as_it_is(
-    style: Style,
-    first: bool,
-    before: Before,
-    last: Kind,
-    kind: Kind,
-) -> bool
-    ensures apart { IsTrue result → Rows.joining (kind_of last) (kind_of kind) ≡ Rows.Apart }
+pub(crate) fn is_put_as_it_is(style: Style, first: bool, before: Before, kind: Kind) -> bool
+    ensures word { IsTrue result → kind ≢ Kind.UprightLetters }
     ensures parted { IsTrue result
         → Atoms.is_parted (style_of style) (before_of before) (kind_of kind) ≡ false }
     ensures element { (x : Element) → IsTrue result
@@ -37,22 +31,12 @@ pub(crate) fn is_put_as_it_is(
         Kind::Plain(Class::Inner) | Kind::SignOf(Class::Inner) => false,
         Kind::Plain(Class::Operator) | Kind::SignOf(Class::Operator) => !before.leads_operator(),
         Kind::Plain(_) => true,
-        Kind::SignOf(Class::Relation) => {
-            keeps_space(style) && !is_relation(last) && !before.leads_relation()
-        }
+        Kind::SignOf(Class::Relation) => keeps_space(style) && !before.leads_relation(),
         Kind::SignOf(Class::Binary) => keeps_space(style) && (first || !before.begins_operand()),
         Kind::SignOf(_) => keeps_space(style),
         Kind::PlusOrMinus => keeps_space(style) && !first && !before.begins_operand(),
         Kind::UprightLetters | Kind::FunctionWord | Kind::Divider | Kind::Blank => false,
     }
-}
-
-/// Whether a relation joins an atom of this kind.
-#[inline(always)]
-fn is_relation(kind: Kind) -> bool
-    ensures { result ≡ false → Rows.joining (kind_of kind) (Atoms.SignOf Relation) ≡ Rows.Apart }
-{
-    matches!(kind, Kind::SignOf(Class::Relation))
 }
 
 /// Whether signs keep the space around them.
