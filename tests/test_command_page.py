@@ -20,6 +20,8 @@ BEHIND = re.compile(r"`(\[.\]|\{\w+\})`")  # what the page says to follow the na
 BELOW = "{1}x"  # an arrow is before what is above it
 # the arguments of macros that do not take every formula
 FIRST_ARGUMENTS = {"\\colorbox": "red", "\\raisebox": "1em"}
+# the macros that begin and end a formula in words
+SIGNS_IN_WORDS = ["\\(", "\\)"]
 
 
 class Page(Case):
@@ -105,8 +107,11 @@ class Read(Case):
 
     def test_macros(self):
         """With an operand after each: the body of one ends with a command that takes it."""
-        names = [f"{it.name}{{a}}" for it in listed_in("Usual macros")]
-        self.are_read([re.sub("#[2-9]", "a", it.replace("#1", FIRST_ARGUMENTS.get(it.partition("{")[0], "a"))) for it in names])
+        names = [f"{it.name}{{a}}" for it in listed_in("Usual macros") if it.name not in SIGNS_IN_WORDS]
+        arguments = [it.replace("#1", FIRST_ARGUMENTS.get(it.partition("{")[0], "a")).replace("#2", "a") for it in names]
+        # the third argument of the only macro that has one is an operator
+        self.are_read([it.replace("#3", r"\sum") for it in arguments])
+        self.are_read([rf"\text{{{'a'.join(SIGNS_IN_WORDS)}}}"])
 
     def test_environments_of_the_other_call(self):
         for name in token_commands.environments():

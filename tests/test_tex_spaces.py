@@ -1,5 +1,6 @@
 """The space that Chromium leaves between the atoms of a formula of `tex_to_mathml`, against TeX's table of spaces, and the space that
-both browsers leave at the sides of columns. The comparison of markup with KaTeX (`test_tex_katex`) does not see space."""
+both browsers leave at the sides of columns and next to an atom that begins a cell. The comparison of markup with KaTeX
+(`test_tex_katex`) does not see space."""
 import itertools
 import math
 import unittest
@@ -13,6 +14,9 @@ from tests.test_page import judge, settle, spaces_between
 SIZED = r"\bigm|"
 # operators that are signs, to which a browser gives a space of their own
 SUMS = {r"\sum", r"\int_c"}
+# Atoms that are not compared at the beginning of a cell: a relation with a size keeps its space, as after an opening sign, and
+# Firefox leaves room next to a fraction.
+KEEPING = {SIZED, r"\frac cd"}
 # atoms of each class of TeX
 ATOMS = {"ordinary": ["c", "2", r"\frac cd", r"\sqrt c", "{=}", "{,}", "|"], "operator": [r"\sin", r"\mathop{c}", r"\lim_c", *SUMS],
          "binary": ["+", "-"], "relation": ["=", r"\to", ":", SIZED], "opening": ["(", r"\bigl("], "closing": [")", r"\rangle"],
@@ -45,6 +49,12 @@ OF_ATOMS = """formula => {
 OF_CELLS = """formula => {
     const {left, right} = formula.querySelector("mtable").getBoundingClientRect();
     return gapsBetween([{right: left}, ...boxesOf([...formula.querySelectorAll("mtr:first-child > mtd > mi")]), {left: right}], 100);
+}"""
+# the ems between the left side of the first cell and its last letter, without the width of the atom that is all of the second cell
+OF_FIRST = """formula => {
+    const [first, second] = formula.querySelectorAll(":scope > mtable > mtr > mtd");
+    const [cell, letter, atom] = boxesOf([first, first.firstElementChild.lastElementChild, second.firstElementChild]);
+    return [(letter.left - cell.left - atom.width) / 100];
 }"""
 
 
@@ -109,6 +119,26 @@ class Columns(Spaces):
             with self.subTest(formula):
                 alike = all(math.isclose(gap, em, abs_tol=NEARLY) for gap, em in zip(gaps, ems, strict=True))
                 self.assertTrue(alike, msg=f"found {gaps}, TeX {ems}")
+
+    @requires("chromium")
+    def test_in_chromium(self):
+        self.compare(chromium)
+
+    @requires("firefox-esr")
+    def test_in_firefox(self):
+        self.compare(firefox)
+
+
+class BeginningCells(Spaces):
+    """TeX reads a cell as a formula of its own: there is no space before its first atom, nor next to one that is all of it."""
+
+    def compare(self, browser):
+        atoms = [(kind, atom) for kind, atoms in ATOMS.items() for atom in atoms if atom not in KEEPING]
+        formulas = [rf"\begin{{matrix*}}[l]{atom} b\\{atom}\end{{matrix*}}" for _, atom in atoms]
+        for (kind, atom), [gap] in zip(atoms, self.spaces(formulas, browser, OF_FIRST), strict=True):
+            with self.subTest(atom):
+                [neighbours] = itertools.pairwise(settle([kind, "ordinary"]))
+                self.assertAlmostEqual(gap, EMS[spaces_between()[neighbours].strip("()")], delta=NEARLY)
 
     @requires("chromium")
     def test_in_chromium(self):

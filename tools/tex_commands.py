@@ -60,7 +60,7 @@ def forms():
     for name, arity, body in macros():
         yield f"\\{value(name)}" + "".join(f"{{#{number + 1}}}" for number in range(int(arity))), f"Usual({body})"
     yield from ((f"\\{name}", word) for name, word in answers(f"{UNITS}/macros/definitions.rt", "word_named", r"Word::(\w+)"))
-    yield from ((f"\\{name}", "Line") for name, _ in answers(f"{UNITS}/scanning.rt", "is_line", r"(\))"))
+    yield from ((f"\\{name}", "Line") for name, _ in answers(f"{UNITS}/row_lines.rt", "is_line", r"(\))"))
 
 
 @functools.cache

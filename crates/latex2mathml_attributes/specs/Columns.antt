@@ -1,6 +1,9 @@
 -- The columns of the code, as values of the definitions.
-use Rattle.std.specs.Prelude.{Bool, false, nat_lt, List, [], ◌∷◌, ◌++◌, length, map, take, if◌then◌else◌}
+use Rattle.std.specs.Prelude.{ℕ, zero, suc, Bool, false, nat_lt, List, [], ◌∷◌, ◌++◌, codes, length, map, take, if◌then◌else◌}
 use Rattle.latex2mathml_elements.specs.Columns as defined
+use Rattle.latex2mathml_elements.specs.Lines as lines
+use Rattle.latex2mathml_elements.specs.Print.{alignment_style, alignment_text, spacing_style}
+use Rattle.latex2mathml_attributes.specs.Lines.{line_of}
 use Rattle.latex2mathml_attributes.specs.declared.columns.Alignment.{Alignment}
 use Rattle.latex2mathml_attributes.specs.declared.columns.Alignment.TheVariants as alignment
 use Rattle.latex2mathml_attributes.specs.declared.columns.Column.{Column}
@@ -17,45 +20,59 @@ alignment_of alignment.LeftAligned = defined.LeftAligned
 alignment_of alignment.RightAligned = defined.RightAligned
 alignment_of alignment.Dense = defined.Dense
 
--- a listed column with these lines
-abbrev lined : defined.Alignment → defined.Borders → defined.Column
-lined alignment borders = record (defined.unlined alignment) { borders = borders }
+-- a listed column with this line after it
+abbrev before_line : defined.Alignment → lines.Line → defined.Column
+before_line alignment line = record (defined.unlined alignment) { after = line }
 
 abbrev pub listed_of : ListedColumn → defined.Column
 listed_of listed.Centered = defined.unlined defined.Centered
-listed_of listed.CenteredBehindLine = lined defined.Centered defined.LineBefore
-listed_of listed.CenteredBeforeLine = lined defined.Centered defined.LineAfter
-listed_of listed.CenteredBetweenLines = lined defined.Centered defined.LinesAround
+listed_of listed.CenteredBeforeLine = before_line defined.Centered lines.OneLine
+listed_of listed.CenteredBeforeTwoLines = before_line defined.Centered lines.TwoLines
+listed_of listed.CenteredBeforeDashes = before_line defined.Centered lines.Dashes
 listed_of listed.LeftAligned = defined.unlined defined.LeftAligned
-listed_of listed.LeftAlignedBehindLine = lined defined.LeftAligned defined.LineBefore
-listed_of listed.LeftAlignedBeforeLine = lined defined.LeftAligned defined.LineAfter
-listed_of listed.LeftAlignedBetweenLines = lined defined.LeftAligned defined.LinesAround
+listed_of listed.LeftAlignedBeforeLine = before_line defined.LeftAligned lines.OneLine
+listed_of listed.LeftAlignedBeforeTwoLines = before_line defined.LeftAligned lines.TwoLines
+listed_of listed.LeftAlignedBeforeDashes = before_line defined.LeftAligned lines.Dashes
 listed_of listed.RightAligned = defined.unlined defined.RightAligned
-listed_of listed.RightAlignedBehindLine = lined defined.RightAligned defined.LineBefore
-listed_of listed.RightAlignedBeforeLine = lined defined.RightAligned defined.LineAfter
-listed_of listed.RightAlignedBetweenLines = lined defined.RightAligned defined.LinesAround
+listed_of listed.RightAlignedBeforeLine = before_line defined.RightAligned lines.OneLine
+listed_of listed.RightAlignedBeforeTwoLines = before_line defined.RightAligned lines.TwoLines
+listed_of listed.RightAlignedBeforeDashes = before_line defined.RightAligned lines.Dashes
+
+-- a column with this line before it
+abbrev pub behind_line : lines.Line → defined.Column → defined.Column
+behind_line line c = record c { before = line }
 
 abbrev pub column_of : Column → defined.Column
-column_of (column.Listed c) = listed_of c
+column_of (column.Listed line c) = behind_line (line_of line) (listed_of c)
 column_of (column.First alignment) = defined.spaced defined.Unspaced (alignment_of alignment)
 column_of (column.Later alignment) = defined.spaced defined.SpaceBefore (alignment_of alignment)
 column_of column.SecondOfPair = defined.spaced defined.Unspaced defined.SecondOfPair
 
--- columns of this kind; the list is that of listed columns
-abbrev pub columns_with : Kind → List defined.Column → defined.Columns
-columns_with (kind.Alike alignment) listed = defined.Alike (alignment_of alignment)
-columns_with kind.InPairs listed = defined.InPairs
-columns_with kind.Listed listed = defined.Listed listed
+-- the start tag of a cell of a listed column, up to its lines
+abbrev pub cell_start : defined.Alignment → List ℕ
+cell_start alignment =
+    codes "<mtd" ++ (alignment_text alignment ++ (codes " style=\"" ++ (alignment_style alignment ++ spacing_style alignment defined.SpaceAround)))
+
+-- only the first column has this line before it
+abbrev pub line_before : lines.Line → ℕ → lines.Line
+line_before line zero = line
+line_before line (suc place) = lines.NoLine
+
+-- columns of this kind; the line before the first and the list are those of listed columns
+abbrev pub columns_with : Kind → lines.Line → List defined.Column → defined.Columns
+columns_with (kind.Alike alignment) line listed = defined.Alike (alignment_of alignment)
+columns_with kind.InPairs line listed = defined.InPairs
+columns_with kind.Listed line listed = defined.Listed line listed
 
 abbrev pub columns_of : Columns → defined.Columns
-columns_of c = columns_with c.kind (map listed_of (take c.len c.listed))
+columns_of c = columns_with c.kind (line_of c.before) (map listed_of (take c.len c.listed))
 
 -- the columns are a list of fewer than 16
 abbrev pub has_room : defined.Columns → Bool
-has_room (defined.Listed columns) = nat_lt (length columns) 16
+has_room (defined.Listed line columns) = nat_lt (length columns) 16
 has_room columns = false
 
 -- one more column, if there is room
 abbrev pub listed_behind : defined.Column → defined.Columns → defined.Columns
-listed_behind column (defined.Listed columns) = defined.Listed (if nat_lt (length columns) 16 then columns ++ column ∷ [] else columns)
+listed_behind column (defined.Listed line columns) = defined.Listed line (if nat_lt (length columns) 16 then columns ++ column ∷ [] else columns)
 listed_behind column columns = columns

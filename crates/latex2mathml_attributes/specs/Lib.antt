@@ -1,3 +1,4 @@
 pub mod Arounds
 pub mod Columns
+pub mod Lines
 pub mod Names

@@ -1,8 +1,13 @@
 //! The columns of tables.
-ghost use Rattle.std.specs.Prelude.{◌≡◌, ◌∷◌, []};
+ghost use Rattle.std.specs.Prelude.{◌≡◌, ◌∷◌, ◌++◌, [], OnOk, string_bytes};
+ghost use Rattle.latex2mathml_elements.specs.Lines.{NoLine};
 ghost use Rattle.latex2mathml_elements.specs.Print.{cell_tag};
-ghost use Rattle.latex2mathml_elements.specs.Columns.{Alike, Centered, InPairs, LeftAligned, Listed, RightAligned, column_at, unlined};
-ghost use Rattle.latex2mathml_attributes.specs.Columns.{alignment_of, column_of, columns_of, has_room, listed_behind, listed_of};
+ghost use Rattle.latex2mathml_elements.specs.Columns.{Alike, Centered, InPairs, LeftAligned, Listed, RightAligned, are_lined, column_at, unlined};
+ghost use Rattle.latex2mathml_attributes.specs.Columns.{alignment_of, behind_line, cell_start, column_of, columns_of, has_room, line_before, listed_behind, listed_of};
+ghost use Rattle.latex2mathml_attributes.specs.Lines.{line_of};
+
+use crate::line::Line;
+use std::alloc::AllocError;
 
 /// How the cells of a column are aligned.
 #[derive(Debug, Clone, Copy)]
@@ -14,29 +19,29 @@ pub enum Alignment {
     Dense,
 }
 
-/// How the cells of a listed column are aligned, and where lines are drawn next to it. A byte has all of it, since arrays of columns
-/// are copied.
+/// How the cells of a listed column are aligned, and what is drawn after it. A byte has all of it, since arrays of columns are
+/// copied.
 #[derive(Debug, Clone, Copy)]
 pub enum ListedColumn {
     Centered,
-    CenteredBehindLine,
     CenteredBeforeLine,
-    CenteredBetweenLines,
+    CenteredBeforeTwoLines,
+    CenteredBeforeDashes,
     LeftAligned,
-    LeftAlignedBehindLine,
     LeftAlignedBeforeLine,
-    LeftAlignedBetweenLines,
+    LeftAlignedBeforeTwoLines,
+    LeftAlignedBeforeDashes,
     RightAligned,
-    RightAlignedBehindLine,
     RightAlignedBeforeLine,
-    RightAlignedBetweenLines,
+    RightAlignedBeforeTwoLines,
+    RightAlignedBeforeDashes,
 }
 
 /// A column of a table.
 #[derive(Debug, Clone, Copy)]
 pub enum Column {
-    /// There is space at both sides.
-    Listed(ListedColumn),
+    /// There is space at both sides, and this line before it.
+    Listed(Line, ListedColumn),
     /// There is no space at the sides.
     First(Alignment),
     /// There is space before it.
@@ -49,6 +54,8 @@ pub enum Column {
 #[derive(Debug, Clone, Copy)]
 pub struct Columns {
     kind: Kind,
+    /// What is drawn before the first listed column.
+    before: Line,
     /// An array and its length, since parts are copied, and a list that allocates cannot be.
     listed: [ListedColumn; 16],
     len: u8,
@@ -62,61 +69,93 @@ enum Kind {
 }
 
 impl ListedColumn {
-    /// Returns the start tag of a cell.
-    fn tag(self) -> &'static str
-        ensures { result.now ≡ cell_tag (listed_of self) }
+    /// Returns what is drawn after the column.
+    fn line(self) -> Line
+        ensures { line_of result ≡ (listed_of self).after }
     {
         match self {
-            ListedColumn::Centered => "<mtd style=\"padding-inline: 0.5em\">",
-            ListedColumn::CenteredBehindLine =>
-                "<mtd style=\"padding-inline: 0.5em; border-left: thin solid\">",
-            ListedColumn::CenteredBeforeLine =>
-                "<mtd style=\"padding-inline: 0.5em; border-right: thin solid\">",
-            ListedColumn::CenteredBetweenLines =>
-                "<mtd style=\"padding-inline: 0.5em; border-left: thin solid; border-right: thin solid\">",
-            ListedColumn::LeftAligned =>
-                "<mtd columnalign=\"left\" style=\"text-align: left; padding-inline: 0.5em\">",
-            ListedColumn::LeftAlignedBehindLine =>
-                "<mtd columnalign=\"left\" style=\"text-align: left; padding-inline: 0.5em; border-left: thin solid\">",
-            ListedColumn::LeftAlignedBeforeLine =>
-                "<mtd columnalign=\"left\" style=\"text-align: left; padding-inline: 0.5em; border-right: thin solid\">",
-            ListedColumn::LeftAlignedBetweenLines =>
-                "<mtd columnalign=\"left\" style=\"text-align: left; padding-inline: 0.5em; border-left: thin solid; border-right: thin solid\">",
-            ListedColumn::RightAligned =>
-                "<mtd columnalign=\"right\" style=\"text-align: right; text-align: -webkit-right; padding-inline: 0.5em\">",
-            ListedColumn::RightAlignedBehindLine =>
-                "<mtd columnalign=\"right\" style=\"text-align: right; text-align: -webkit-right; padding-inline: 0.5em; border-left: thin solid\">",
-            ListedColumn::RightAlignedBeforeLine =>
-                "<mtd columnalign=\"right\" style=\"text-align: right; text-align: -webkit-right; padding-inline: 0.5em; border-right: thin solid\">",
-            ListedColumn::RightAlignedBetweenLines =>
-                "<mtd columnalign=\"right\" style=\"text-align: right; text-align: -webkit-right; padding-inline: 0.5em; border-left: thin solid; border-right: thin solid\">",
+            ListedColumn::Centered | ListedColumn::LeftAligned | ListedColumn::RightAligned => {
+                Line::Nothing
+            }
+            ListedColumn::CenteredBeforeLine
+            | ListedColumn::LeftAlignedBeforeLine
+            | ListedColumn::RightAlignedBeforeLine => Line::One,
+            ListedColumn::CenteredBeforeTwoLines
+            | ListedColumn::LeftAlignedBeforeTwoLines
+            | ListedColumn::RightAlignedBeforeTwoLines => Line::Two,
+            ListedColumn::CenteredBeforeDashes
+            | ListedColumn::LeftAlignedBeforeDashes
+            | ListedColumn::RightAlignedBeforeDashes => Line::Dashes,
+        }
+    }
+
+    /// Returns the start tag of a cell up to its lines.
+    fn start(self) -> &'static str
+        ensures { result.now ≡ cell_start (listed_of self).alignment }
+    {
+        match self {
+            ListedColumn::Centered
+            | ListedColumn::CenteredBeforeLine
+            | ListedColumn::CenteredBeforeTwoLines
+            | ListedColumn::CenteredBeforeDashes => "<mtd style=\"padding-inline: 0.5em",
+            ListedColumn::LeftAligned
+            | ListedColumn::LeftAlignedBeforeLine
+            | ListedColumn::LeftAlignedBeforeTwoLines
+            | ListedColumn::LeftAlignedBeforeDashes =>
+                "<mtd columnalign=\"left\" style=\"text-align: left; padding-inline: 0.5em",
+            ListedColumn::RightAligned
+            | ListedColumn::RightAlignedBeforeLine
+            | ListedColumn::RightAlignedBeforeTwoLines
+            | ListedColumn::RightAlignedBeforeDashes =>
+                "<mtd columnalign=\"right\" style=\"text-align: right; text-align: -webkit-right; padding-inline: 0.5em",
         }
     }
 }
 
 impl Column {
-    /// Returns the start tag of a cell.
-    pub fn tag(self) -> &'static str
-        ensures { result.now ≡ cell_tag (column_of self) }
+    /// Appends the start tag of a cell.
+    pub fn append_tag(self, out: &mut String) -> Result<(), AllocError>
+        ensures { OnOk result (string_bytes out.new
+            ≡ string_bytes out.old ++ cell_tag (column_of self)) }
     {
         match self {
-            Column::Listed(column) => column.tag(),
-            Column::First(Alignment::Centered) => "<mtd style=\"padding-inline: 0\">",
-            Column::First(Alignment::LeftAligned) =>
+            Column::Listed(before, column) => append_listed_tag(before, column, out),
+            Column::First(Alignment::Centered) => out.push_str("<mtd style=\"padding-inline: 0\">"),
+            Column::First(Alignment::LeftAligned) => out.push_str(
                 "<mtd columnalign=\"left\" style=\"text-align: left; padding-inline: 0\">",
-            Column::First(Alignment::RightAligned) =>
+            ),
+            Column::First(Alignment::RightAligned) => out.push_str(
                 "<mtd columnalign=\"right\" style=\"text-align: right; text-align: -webkit-right; padding-inline: 0\">",
-            Column::First(Alignment::Dense) => "<mtd style=\"padding: 0.1em 0\">",
-            Column::Later(Alignment::Centered) => "<mtd style=\"padding-inline: 1em 0\">",
-            Column::Later(Alignment::LeftAligned) =>
+            ),
+            Column::First(Alignment::Dense) => out.push_str("<mtd style=\"padding: 0.1em 0\">"),
+            Column::Later(Alignment::Centered) => out.push_str(
+                "<mtd style=\"padding-inline: 1em 0\">",
+            ),
+            Column::Later(Alignment::LeftAligned) => out.push_str(
                 "<mtd columnalign=\"left\" style=\"text-align: left; padding-inline: 1em 0\">",
-            Column::Later(Alignment::RightAligned) =>
+            ),
+            Column::Later(Alignment::RightAligned) => out.push_str(
                 "<mtd columnalign=\"right\" style=\"text-align: right; text-align: -webkit-right; padding-inline: 1em 0\">",
-            Column::Later(Alignment::Dense) => "<mtd style=\"padding: 0.1em 0 0.1em 0.4em\">",
-            Column::SecondOfPair =>
+            ),
+            Column::Later(Alignment::Dense) => out.push_str(
+                "<mtd style=\"padding: 0.1em 0 0.1em 0.4em\">",
+            ),
+            Column::SecondOfPair => out.push_str(
                 "<mtd columnalign=\"left\" style=\"text-align: left; padding-inline: 0\">",
+            ),
         }
     }
+}
+
+/// Appends the start tag of a cell of a listed column with this line before it.
+#[tactic(auto, using(std::proofs::lemmas::Grind::common_steps))]
+fn append_listed_tag(before: Line, column: ListedColumn, out: &mut String) -> Result<(), AllocError>
+    ensures { OnOk result (string_bytes out.new ≡ string_bytes out.old
+        ++ cell_tag (behind_line (line_of before) (listed_of column))) }
+{
+    out.push_str(column.start())?;
+    out.push_str(before.at_left())?;
+    out.push_str(column.line().at_right())
 }
 
 impl Columns {
@@ -126,7 +165,7 @@ impl Columns {
     {
         Columns {
             kind: Kind::Alike(alignment),
-            ..Columns::none()
+            ..Columns::none(Line::Nothing)
         }
     }
 
@@ -136,13 +175,13 @@ impl Columns {
     {
         Columns {
             kind: Kind::InPairs,
-            ..Columns::none()
+            ..Columns::none(Line::Nothing)
         }
     }
 
     /// Returns a right-aligned, a centered and a left-aligned column, followed by centered ones.
     pub fn right_center_left() -> Columns
-        ensures { columns_of result ≡ Listed (unlined RightAligned ∷ unlined Centered
+        ensures { columns_of result ≡ Listed NoLine (unlined RightAligned ∷ unlined Centered
             ∷ unlined LeftAligned ∷ []) }
     {
         let mut listed = [ListedColumn::Centered; 16];
@@ -150,17 +189,19 @@ impl Columns {
         listed[2] = ListedColumn::LeftAligned;
         Columns {
             kind: Kind::Listed,
+            before: Line::Nothing,
             listed,
             len: 3,
         }
     }
 
-    /// Returns an empty list of columns. The listed columns are followed by centered ones.
-    pub fn none() -> Columns
-        ensures { columns_of result ≡ Listed [] }
+    /// Returns an empty list of columns, with this line before the first. The listed columns are followed by centered ones.
+    pub fn none(before: Line) -> Columns
+        ensures { columns_of result ≡ Listed (line_of before) [] }
     {
         Columns {
             kind: Kind::Listed,
+            before,
             listed: [ListedColumn::Centered; 16],
             len: 0,
         }
@@ -193,9 +234,41 @@ impl Columns {
             Kind::InPairs if place % 2 == 0 => Column::Later(Alignment::RightAligned),
             Kind::InPairs => Column::SecondOfPair,
             Kind::Listed if place < listed.len() && place < self.len as usize => {
-                Column::Listed(listed[place])
+                Column::Listed(self.line_before(place), listed[place])
             }
-            Kind::Listed => Column::Listed(ListedColumn::Centered),
+            Kind::Listed => Column::Listed(Line::Nothing, ListedColumn::Centered),
         }
+    }
+
+    /// Returns the line before the listed column at this place, apart from the one after the column before it.
+    fn line_before(&self, place: usize) -> Line
+        ensures { line_of result ≡ line_before (line_of self.now.before) place }
+    {
+        if place == 0 {
+            self.before
+        } else {
+            Line::Nothing
+        }
+    }
+
+    /// Whether lines are drawn next to columns.
+    pub fn are_lined(&self) -> bool
+        ensures { result ≡ are_lined (columns_of self.now) }
+    {
+        if !matches!(self.kind, Kind::Listed) {
+            return false;
+        }
+        if self.before.is_drawn() {
+            return true;
+        }
+        let len = self.len as usize;
+        let mut place = 0;
+        'columns: while place < len && place < 16 {
+            if self.listed[place].line().is_drawn() {
+                return true;
+            }
+            place += 1;
+        }
+        false
     }
 }

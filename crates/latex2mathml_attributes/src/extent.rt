@@ -2,8 +2,10 @@
 ghost use Rattle.std.specs.Prelude.{◌≡◌, ℕ, List, ◌++◌, OnOk, codes, string_bytes, unsigned_abs};
 ghost use Rattle.latex2mathml_elements.specs.Extents.{black_text, ems, extent_text, length_if_any, wide};
 ghost use Rattle.latex2mathml_trees.specs.Width.{thousandths_text};
-ghost use Rattle.latex2mathml_attributes.specs.Arounds.{extent_of};
+ghost use Rattle.latex2mathml_elements.specs.Tables.{line_as};
+ghost use Rattle.latex2mathml_attributes.specs.{Arounds.extent_of, Lines.line_of};
 
+use crate::line::Line;
 use std::alloc::AllocError;
 
 /// The width, height and depth of a rectangle, in thousandths of an em.
@@ -27,6 +29,17 @@ impl Extent {
             height: 0,
             depth: 0,
             is_black: false,
+        }
+    }
+
+    /// Returns the line that the rectangle is among the rows of a table.
+    pub fn line(self) -> Line
+        ensures { line_of result ≡ line_as self.is_black self.height }
+    {
+        match (self.is_black, self.height) {
+            (false, _) => Line::Dashes,
+            (true, 0) => Line::One,
+            (true, _) => Line::Two,
         }
     }
 

@@ -7,4 +7,5 @@ pub mod around;
 pub mod attributes;
 pub mod columns;
 pub mod extent;
+pub mod line;
 pub mod tag;

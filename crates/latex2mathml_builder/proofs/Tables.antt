@@ -1,12 +1,12 @@
 -- How the rows and the cells of a table are written, and how much there is to write.
 use Rattle.std.proofs.Common.{codes, ◌≡◌, ℕ, zero, suc, ◌+◌, ◌-◌, ◌<◌, ◌≤◌, Bool, true, false, not, ◌&&◌, ◌||◌, nat_eq, if◌then◌else◌, List, [], ◌∷◌, ◌++◌, length, append_assoc, append-nil, drop, take, refl, sym, ap, ◌∙◌, arith}
-use Rattle.latex2mathml_elements.specs.{Columns.Columns, Columns.column_at}
+use Rattle.latex2mathml_elements.specs.{Columns.Columns, Columns.are_lined, Columns.column_at}
 use Rattle.latex2mathml_elements.specs.Attributes.{Attributes}
 use Rattle.latex2mathml_elements.specs.Element.{Mrow, Msqrt, Mstyle, Mpadded, Mphantom, Element, Elements, Rows, Cells, token, space, rectangle, container, pair, triple, table, none, more, one_row, more_rows, one_cell, children}
 use Rattle.latex2mathml_elements.specs.Print.{cell_print, cell_tag, cells_print, end_tag, have_line, print, prints, row_print, rows_print, start_tag, table_attributes}
-use Rattle.latex2mathml_elements.specs.RowLines.{RowLines, LineAbove, row_lines}
-use Rattle.latex2mathml_elements.specs.Tables.{are_line, cells_behind, cells_in, is_line, rows_behind}
-use Rattle.latex2mathml_builder.specs.Due.{begins_with_line, cell_loads, cell_prints, cell_weights, has_line, in_cells, listed, row_loads, row_prints, row_weights, weight, weights}
+use Rattle.latex2mathml_elements.specs.Lines.{Line, NoLine, OneLine, TwoLines, Dashes, RowLines, is_drawn, row_lines}
+use Rattle.latex2mathml_elements.specs.Tables.{are_line, attributes_in, cells_behind, cells_in, is_line, last_line, line_of, rows_behind}
+use Rattle.latex2mathml_builder.specs.Due.{cell_loads, cell_prints, cell_weights, first_line, has_line, in_cells, listed, row_loads, row_prints, row_weights, weight, weights}
 use Rattle.latex2mathml_builder.specs.Stacks.{table_with}
 use Rattle.latex2mathml_builder.proofs.Written.{first_taken}
 
@@ -74,25 +74,25 @@ row_loaded columns (triple t a x y z) ys = cells_loaded zero columns (triple t a
 row_loaded columns (table a rows) ys = cells_loaded zero columns (table a rows) none
 
 -- a row, and what comes after it
-row_first : (columns : Columns) (line : Bool) (x : Element) (xs : List Element) → (not line && is_line x) ≡ false → row_prints columns line (x ∷ xs) ≡ row_print (row_lines line (are_line xs)) (cells_print (cells_in columns x)) ++ (if are_line xs then [] else row_prints columns false xs)
+row_first : (columns : Columns) (line : Line) (x : Element) (xs : List Element) → (not (is_drawn line) && is_line x) ≡ false → row_prints columns line (x ∷ xs) ≡ row_print (row_lines line (last_line xs)) (cells_print (cells_in columns x)) ++ (if are_line xs then [] else row_prints columns NoLine xs)
 row_first columns line x xs h =
-    ap (λ b. if b then row_prints columns true xs else row_print (row_lines line (are_line xs)) (cells_print (cells_in columns x)) ++ (if are_line xs then [] else row_prints columns false xs)) h
+    ap (λ b. if b then row_prints columns (line_of x) xs else row_print (row_lines line (last_line xs)) (cells_print (cells_in columns x)) ++ (if are_line xs then [] else row_prints columns NoLine xs)) h
 
-row_load_first : (columns : Columns) (line : Bool) (x : Element) (xs : List Element) → (not line && is_line x) ≡ false → row_loads columns line (x ∷ xs) ≡ 3 + (cell_weights (cells_in columns x) + (if are_line xs then 0 else row_loads columns false xs))
+row_load_first : (columns : Columns) (line : Line) (x : Element) (xs : List Element) → (not (is_drawn line) && is_line x) ≡ false → row_loads columns line (x ∷ xs) ≡ 3 + (cell_weights (cells_in columns x) + (if are_line xs then 0 else row_loads columns NoLine xs))
 row_load_first columns line x xs h =
-    ap (λ b. if b then row_loads columns true xs else 3 + (cell_weights (cells_in columns x) + (if are_line xs then 0 else row_loads columns false xs))) h
+    ap (λ b. if b then row_loads columns (line_of x) xs else 3 + (cell_weights (cells_in columns x) + (if are_line xs then 0 else row_loads columns NoLine xs))) h
 
 -- nothing comes after the last row
-rest_written : (columns : Columns) (b : Bool) (n : ℕ) (xs : List Element) → (if b then [] else row_prints columns false (take n xs)) ≡ row_prints columns false (take (if b then 0 else n) xs)
+rest_written : (columns : Columns) (b : Bool) (n : ℕ) (xs : List Element) → (if b then [] else row_prints columns NoLine (take n xs)) ≡ row_prints columns NoLine (take (if b then 0 else n) xs)
 rest_written columns true n xs = refl
 rest_written columns false n xs = refl
 
-rest_loaded : (columns : Columns) (b : Bool) (n : ℕ) (xs : List Element) → (if b then 0 else row_loads columns false (take n xs)) ≡ row_loads columns false (take (if b then 0 else n) xs)
+rest_loaded : (columns : Columns) (b : Bool) (n : ℕ) (xs : List Element) → (if b then 0 else row_loads columns NoLine (take n xs)) ≡ row_loads columns NoLine (take (if b then 0 else n) xs)
 rest_loaded columns true n xs = refl
 rest_loaded columns false n xs = refl
 
 -- more than one element, or none, are not one line
-pub not_one_line : (n : ℕ) (xs : List Element) → n ≤ length xs → nat_eq n 1 ≡ false → are_line (take n xs) ≡ false
+pub not_one_line : (n : ℕ) (xs : List Element) → n ≤ length xs → nat_eq n 1 ≡ false → last_line (take n xs) ≡ NoLine
 not_one_line zero xs h other = refl
 not_one_line (suc zero) xs h other = absurd (cc other)
 not_one_line (suc (suc n)) [] h other = absurd (omega arith)
@@ -101,9 +101,10 @@ not_one_line (suc (suc n)) (x ∷ y ∷ xs) h other = refl
 
 -- Tables
 
-last_written : (columns : Columns) (line b : Bool) (x : Element) → rows_print (if b then one_row LineAbove (one_cell (column_at columns zero) none) else one_row (row_lines line false) (cells_in columns x)) ≡ (if b then row_print LineAbove (cell_print (column_at columns zero) []) else row_print (row_lines line false) (cells_print (cells_in columns x)) ++ [])
-last_written columns line true x = refl
-last_written columns line false x = sym (append-nil (row_print (row_lines line false) (cells_print (cells_in columns x))))
+last_written : (columns : Columns) (line l : Line) (b : Bool) (x : Element) → (b ≡ true → is_drawn l ≡ true) → rows_print (if b then one_row (row_lines l NoLine) (one_cell (column_at columns zero) none) else one_row (row_lines line NoLine) (cells_in columns x)) ≡ (if b then row_prints columns l [] else row_print (row_lines line NoLine) (cells_print (cells_in columns x)) ++ [])
+last_written columns line l true x drawn =
+    sym (ap (λ b. if b then row_print (row_lines l NoLine) (cell_print (column_at columns zero) []) else []) (drawn refl))
+last_written columns line l false x drawn = sym (append-nil (row_print (row_lines line NoLine) (cells_print (cells_in columns x))))
 
 more_written : (b c : Bool) (under : Rows) (lines others : RowLines) (cells : Cells) (rows : Rows) (next rest : List ℕ) (is : RowLines) → rows_print under ≡ next → rows_print rows ≡ rest → is ≡ (if c then lines else others) → rows_print (if b then under else if c then one_row lines cells else more_rows others cells rows) ≡ (if b then next else row_print is (cells_print cells) ++ (if c then [] else rest))
 more_written true c under lines others cells rows next rest is e f g = e
@@ -112,61 +113,93 @@ more_written false true under lines others cells rows next rest is e f g =
 more_written false false under lines others cells rows next rest is e f g =
     ap (λ l. row_print l (cells_print cells) ++ rows_print rows) (sym g) ∙ ap (λ l. row_print is (cells_print cells) ++ l) f
 
-lines_are : (line b : Bool) → row_lines line b ≡ (if b then row_lines line true else row_lines line false)
-lines_are line true = refl
-lines_are line false = refl
+lines_are : (line below : Line) → row_lines line below ≡ (if is_drawn below then row_lines line below else row_lines line NoLine)
+lines_are line NoLine = refl
+lines_are line OneLine = refl
+lines_are line TwoLines = refl
+lines_are line Dashes = refl
 
-rows_written : (columns : Columns) (line : Bool) (x : Element) (xs : List Element) → rows_print (rows_behind columns line x xs) ≡ row_prints columns line (x ∷ xs)
-rows_written columns line x [] = last_written columns line (not line && is_line x) x
+-- a line that comes before a row is drawn
+line_drawn : (b c : Bool) → (not b && c) ≡ true → c ≡ true
+line_drawn true c h = cc
+line_drawn false c h = h
+
+rows_written : (columns : Columns) (line : Line) (x : Element) (xs : List Element) → rows_print (rows_behind columns line x xs) ≡ row_prints columns line (x ∷ xs)
+rows_written columns line x [] = last_written columns line (line_of x) (not (is_drawn line) && is_line x) x (line_drawn (is_drawn line) (is_line x))
 rows_written columns line x (y ∷ ys) =
-    more_written (not line && is_line x) (are_line (y ∷ ys)) _ _ _ (cells_in columns x) _ _ _ _ (rows_written columns true y ys) (rows_written columns false y ys) (lines_are line (are_line (y ∷ ys)))
+    more_written (not (is_drawn line) && is_line x) (are_line (y ∷ ys)) _ _ _ (cells_in columns x) _ _ _ _ (rows_written columns (line_of x) y ys) (rows_written columns NoLine y ys) (lines_are line (last_line (y ∷ ys)))
 
-last_loaded : (columns : Columns) (line b : Bool) (x : Element) → row_weights (if b then one_row LineAbove (one_cell (column_at columns zero) none) else one_row (row_lines line false) (cells_in columns x)) ≡ (if b then 6 else 3 + (cell_weights (cells_in columns x) + 0))
-last_loaded columns line true x = refl
-last_loaded columns line false x = omega arith
+last_loaded : (columns : Columns) (line l : Line) (b : Bool) (x : Element) → (b ≡ true → is_drawn l ≡ true) → row_weights (if b then one_row (row_lines l NoLine) (one_cell (column_at columns zero) none) else one_row (row_lines line NoLine) (cells_in columns x)) ≡ (if b then row_loads columns l [] else 3 + (cell_weights (cells_in columns x) + 0))
+last_loaded columns line l true x drawn = sym (ap (λ (b : Bool). if b then 6 else 0) (drawn refl))
+last_loaded columns line l false x drawn = omega arith
 
 more_loaded : (b c : Bool) (under : Rows) (lines others : RowLines) (cells : Cells) (rows : Rows) (next rest : ℕ) → row_weights under ≡ next → row_weights rows ≡ rest → row_weights (if b then under else if c then one_row lines cells else more_rows others cells rows) ≡ (if b then next else 3 + (cell_weights cells + (if c then 0 else rest)))
 more_loaded true c under lines others cells rows next rest e f = e
 more_loaded false true under lines others cells rows next rest e f = omega arith
 more_loaded false false under lines others cells rows next rest e f = omega (arith, f)
 
-rows_loaded : (columns : Columns) (line : Bool) (x : Element) (xs : List Element) → row_weights (rows_behind columns line x xs) ≡ row_loads columns line (x ∷ xs)
-rows_loaded columns line x [] = last_loaded columns line (not line && is_line x) x
+rows_loaded : (columns : Columns) (line : Line) (x : Element) (xs : List Element) → row_weights (rows_behind columns line x xs) ≡ row_loads columns line (x ∷ xs)
+rows_loaded columns line x [] = last_loaded columns line (line_of x) (not (is_drawn line) && is_line x) x (line_drawn (is_drawn line) (is_line x))
 rows_loaded columns line x (y ∷ ys) =
-    more_loaded (not line && is_line x) (are_line (y ∷ ys)) _ _ _ (cells_in columns x) _ _ _ (rows_loaded columns true y ys) (rows_loaded columns false y ys)
+    more_loaded (not (is_drawn line) && is_line x) (are_line (y ∷ ys)) _ _ _ (cells_in columns x) _ _ _ (rows_loaded columns (line_of x) y ys) (rows_loaded columns NoLine y ys)
 
 -- a table has a line where one of its elements is a line
 
-last_lined : (columns : Columns) (line is : Bool) (x : Element) → have_line (if not line && is then one_row LineAbove (one_cell (column_at columns zero) none) else one_row (row_lines line false) (cells_in columns x)) ≡ (line || (is || false))
-last_lined columns true is x = refl
-last_lined columns false true x = refl
-last_lined columns false false x = refl
+last_lined : (columns : Columns) (line l : Line) (x : Element) → have_line (if not (is_drawn line) && is_drawn l then one_row (row_lines l NoLine) (one_cell (column_at columns zero) none) else one_row (row_lines line NoLine) (cells_in columns x)) ≡ (is_drawn line || (is_drawn l || false))
+last_lined columns NoLine NoLine x = refl
+last_lined columns NoLine OneLine x = refl
+last_lined columns NoLine TwoLines x = refl
+last_lined columns NoLine Dashes x = refl
+last_lined columns OneLine l x = refl
+last_lined columns TwoLines l x = refl
+last_lined columns Dashes l x = refl
 
-more_lined : (line is c last rest : Bool) (under rows : Rows) (cells : Cells) → (c ≡ true → last ≡ true) → have_line under ≡ true → have_line rows ≡ (last || rest) → have_line (if not line && is then under else if c then one_row (row_lines line true) cells else more_rows (row_lines line false) cells rows) ≡ (line || (is || (last || rest)))
-more_lined true is true last rest under rows cells l e f = refl
-more_lined true is false last rest under rows cells l e f = refl
-more_lined false true c last rest under rows cells l e f = e
-more_lined false false true last rest under rows cells l e f = sym (ap (λ b. b || rest) (l refl))
-more_lined false false false last rest under rows cells l e f = f
+more_lined : (line l below : Line) (last rest : Bool) (under rows : Rows) (cells : Cells) → (is_drawn below ≡ true → last ≡ true) → have_line under ≡ (is_drawn l || (last || rest)) → have_line rows ≡ (last || rest) → have_line (if not (is_drawn line) && is_drawn l then under else if is_drawn below then one_row (row_lines line below) cells else more_rows (row_lines line NoLine) cells rows) ≡ (is_drawn line || (is_drawn l || (last || rest)))
+more_lined NoLine NoLine NoLine last rest under rows cells h e f = f
+more_lined NoLine NoLine OneLine last rest under rows cells h e f = sym (ap (λ b. b || rest) (h refl))
+more_lined NoLine NoLine TwoLines last rest under rows cells h e f = sym (ap (λ b. b || rest) (h refl))
+more_lined NoLine NoLine Dashes last rest under rows cells h e f = sym (ap (λ b. b || rest) (h refl))
+more_lined NoLine OneLine below last rest under rows cells h e f = e
+more_lined NoLine TwoLines below last rest under rows cells h e f = e
+more_lined NoLine Dashes below last rest under rows cells h e f = e
+more_lined OneLine l NoLine last rest under rows cells h e f = refl
+more_lined OneLine l OneLine last rest under rows cells h e f = refl
+more_lined OneLine l TwoLines last rest under rows cells h e f = refl
+more_lined OneLine l Dashes last rest under rows cells h e f = refl
+more_lined TwoLines l NoLine last rest under rows cells h e f = refl
+more_lined TwoLines l OneLine last rest under rows cells h e f = refl
+more_lined TwoLines l TwoLines last rest under rows cells h e f = refl
+more_lined TwoLines l Dashes last rest under rows cells h e f = refl
+more_lined Dashes l NoLine last rest under rows cells h e f = refl
+more_lined Dashes l OneLine last rest under rows cells h e f = refl
+more_lined Dashes l TwoLines last rest under rows cells h e f = refl
+more_lined Dashes l Dashes last rest under rows cells h e f = refl
 
 line_first : (y : Element) (ys : List Element) → are_line (y ∷ ys) ≡ true → is_line y ≡ true
 line_first y [] h = h
 line_first y (z ∷ ys) h = absurd (cc h)
 
-rows_lined : (columns : Columns) (line : Bool) (x : Element) (xs : List Element) → have_line (rows_behind columns line x xs) ≡ (line || has_line (x ∷ xs))
-rows_lined columns line x [] = last_lined columns line (is_line x) x
+rows_lined : (columns : Columns) (line : Line) (x : Element) (xs : List Element) → have_line (rows_behind columns line x xs) ≡ (is_drawn line || has_line (x ∷ xs))
+rows_lined columns line x [] = last_lined columns line (line_of x) x
 rows_lined columns line x (y ∷ ys) =
-    more_lined line (is_line x) (are_line (y ∷ ys)) (is_line y) (has_line ys) _ _ (cells_in columns x) (line_first y ys) (rows_lined columns true y ys) (rows_lined columns false y ys)
+    more_lined line (line_of x) (last_line (y ∷ ys)) (is_line y) (has_line ys) _ _ (cells_in columns x) (line_first y ys) (rows_lined columns (line_of x) y ys) (rows_lined columns NoLine y ys)
 
-pub table_written : (a : Attributes) (columns : Columns) (xs : List Element) → 0 < length xs → print (table_with a columns xs) ≡ start_tag (codes "mtable") (table_attributes (has_line xs) a) ++ (row_prints columns false xs ++ end_tag (codes "mtable"))
+-- the attributes of a table whose columns or whose rows have lines
+joined_once : (b c : Bool) (a : Attributes) → table_attributes c (table_attributes b a) ≡ table_attributes (b || c) a
+joined_once true true a = refl
+joined_once true false a = refl
+joined_once false c a = refl
+
+pub table_written : (a : Attributes) (columns : Columns) (xs : List Element) → 0 < length xs → print (table_with a columns xs) ≡ start_tag (codes "mtable") (table_attributes (are_lined columns || has_line xs) a) ++ (row_prints columns NoLine xs ++ end_tag (codes "mtable"))
 table_written a columns [] h = absurd (omega arith)
 table_written a columns (x ∷ xs) h =
-    ap (λ b. start_tag (codes "mtable") (table_attributes b a) ++ (rows_print (rows_behind columns false x xs) ++ end_tag (codes "mtable"))) (rows_lined columns false x xs)
-    ∙ ap (λ l. start_tag (codes "mtable") (table_attributes (has_line (x ∷ xs)) a) ++ (l ++ end_tag (codes "mtable"))) (rows_written columns false x xs)
+    ap (λ b. start_tag (codes "mtable") (table_attributes b (attributes_in columns a)) ++ (rows_print (rows_behind columns NoLine x xs) ++ end_tag (codes "mtable"))) (rows_lined columns NoLine x xs)
+    ∙ ap (λ l. start_tag (codes "mtable") l ++ (rows_print (rows_behind columns NoLine x xs) ++ end_tag (codes "mtable"))) (joined_once (are_lined columns) (has_line (x ∷ xs)) a)
+    ∙ ap (λ l. start_tag (codes "mtable") (table_attributes (are_lined columns || has_line (x ∷ xs)) a) ++ (l ++ end_tag (codes "mtable"))) (rows_written columns NoLine x xs)
 
-pub table_loaded : (a : Attributes) (columns : Columns) (xs : List Element) → 0 < length xs → weight (table_with a columns xs) ≡ 4 + row_loads columns false xs
+pub table_loaded : (a : Attributes) (columns : Columns) (xs : List Element) → 0 < length xs → weight (table_with a columns xs) ≡ 4 + row_loads columns NoLine xs
 table_loaded a columns [] h = absurd (omega arith)
-table_loaded a columns (x ∷ xs) h = omega (arith, rows_loaded columns false x xs)
+table_loaded a columns (x ∷ xs) h = omega (arith, rows_loaded columns NoLine x xs)
 
 -- Some elements are the first of them and the others
 
@@ -203,43 +236,48 @@ module _ (columns : Columns) (xs : List Element) (first count : ℕ) (some : 0 <
   abbrev after : List Element
   after = take left (drop (first + 1) xs)
 
-  is_row : (line : Bool) → (not line && begins_with_line (drop first xs)) ≡ false → (not line && is_line there.0) ≡ false
-  is_row line h = sym (ap (λ l. not line && begins_with_line l) there.1) ∙ h
+  is_row : (line : Line) → (not (is_drawn line) && is_drawn (first_line (drop first xs))) ≡ false → (not (is_drawn line) && is_line there.0) ≡ false
+  is_row line h = sym (ap (λ l. not (is_drawn line) && is_drawn (first_line l)) there.1) ∙ h
 
   -- the row of the first one, and the rows after it
-  pub row_taken : (line : Bool) → (not line && begins_with_line (drop first xs)) ≡ false → row_prints columns line all ≡ row_print (row_lines line (are_line others)) (cell_prints columns zero (in_cells (drop first xs))) ++ row_prints columns false after
+  pub row_taken : (line : Line) → (not (is_drawn line) && is_drawn (first_line (drop first xs))) ≡ false → row_prints columns line all ≡ row_print (row_lines line (last_line others)) (cell_prints columns zero (in_cells (drop first xs))) ++ row_prints columns NoLine after
   row_taken line h =
       ap (row_prints columns line) all_are
       ∙ row_first columns line there.0 others (is_row line h)
-      ∙ ap (λ l. row_print (row_lines line (are_line others)) (cells_print (cells_in columns there.0)) ++ l) (rest_written columns (are_line others) (count - 1) (drop (first + 1) xs))
-      ∙ ap (λ l. row_print (row_lines line (are_line others)) l ++ row_prints columns false after) (row_written columns there.0 (drop (suc first) xs) ∙ ap (λ l. cell_prints columns zero (in_cells l)) (sym there.1))
+      ∙ ap (λ l. row_print (row_lines line (last_line others)) (cells_print (cells_in columns there.0)) ++ l) (rest_written columns (are_line others) (count - 1) (drop (first + 1) xs))
+      ∙ ap (λ l. row_print (row_lines line (last_line others)) l ++ row_prints columns NoLine after) (row_written columns there.0 (drop (suc first) xs) ∙ ap (λ l. cell_prints columns zero (in_cells l)) (sym there.1))
 
-  pub row_load_taken : (line : Bool) → (not line && begins_with_line (drop first xs)) ≡ false → row_loads columns line all ≡ 3 + (cell_loads (in_cells (drop first xs)) + row_loads columns false after)
+  pub row_load_taken : (line : Line) → (not (is_drawn line) && is_drawn (first_line (drop first xs))) ≡ false → row_loads columns line all ≡ 3 + (cell_loads (in_cells (drop first xs)) + row_loads columns NoLine after)
   row_load_taken line h =
-      let is : row_loads columns line all ≡ 3 + (cell_weights (cells_in columns there.0) + (if are_line others then 0 else row_loads columns false others)) = ap (row_loads columns line) all_are ∙ row_load_first columns line there.0 others (is_row line h) in
+      let is : row_loads columns line all ≡ 3 + (cell_weights (cells_in columns there.0) + (if are_line others then 0 else row_loads columns NoLine others)) = ap (row_loads columns line) all_are ∙ row_load_first columns line there.0 others (is_row line h) in
       let rest = rest_loaded columns (are_line others) (count - 1) (drop (first + 1) xs) in
       let cells : cell_weights (cells_in columns there.0) ≡ cell_loads (in_cells (drop first xs)) = row_loaded columns there.0 (drop (suc first) xs) ∙ ap (λ l. cell_loads (in_cells l)) (sym there.1) in
       omega (arith, is, rest, cells)
 
   -- a line before the others
 
-  is_first : begins_with_line (drop first xs) ≡ true → is_line there.0 ≡ true
-  is_first h = sym (ap begins_with_line there.1) ∙ h
+  first_is : first_line (drop first xs) ≡ line_of there.0
+  first_is = ap first_line there.1
 
-  pub line_taken : begins_with_line (drop first xs) ≡ true → row_prints columns false all ≡ row_prints columns true others
+  is_first : is_drawn (first_line (drop first xs)) ≡ true → is_line there.0 ≡ true
+  is_first h = sym (ap is_drawn first_is) ∙ h
+
+  pub line_taken : is_drawn (first_line (drop first xs)) ≡ true → row_prints columns NoLine all ≡ row_prints columns (first_line (drop first xs)) others
   line_taken h =
-      ap (row_prints columns false) all_are
-      ∙ ap (λ b. if b then row_prints columns true others else row_print (row_lines false (are_line others)) (cells_print (cells_in columns there.0)) ++ (if are_line others then [] else row_prints columns false others)) (is_first h)
+      ap (row_prints columns NoLine) all_are
+      ∙ ap (λ b. if b then row_prints columns (line_of there.0) others else row_print (row_lines NoLine (last_line others)) (cells_print (cells_in columns there.0)) ++ (if are_line others then [] else row_prints columns NoLine others)) (is_first h)
+      ∙ ap (λ l. row_prints columns l others) (sym first_is)
 
-  pub line_load_taken : begins_with_line (drop first xs) ≡ true → row_loads columns false all ≡ row_loads columns true others
+  pub line_load_taken : is_drawn (first_line (drop first xs)) ≡ true → row_loads columns NoLine all ≡ row_loads columns (first_line (drop first xs)) others
   line_load_taken h =
-      ap (row_loads columns false) all_are
-      ∙ ap (λ b. if b then row_loads columns true others else 3 + (cell_weights (cells_in columns there.0) + (if are_line others then 0 else row_loads columns false others))) (is_first h)
+      ap (row_loads columns NoLine) all_are
+      ∙ ap (λ b. if b then row_loads columns (line_of there.0) others else 3 + (cell_weights (cells_in columns there.0) + (if are_line others then 0 else row_loads columns NoLine others))) (is_first h)
+      ∙ ap (λ l. row_loads columns l others) (sym first_is)
 
   -- whether there is a line: the first element is one, or one of the others
-  pub line_among : (b : Bool) → begins_with_line (drop first xs) ≡ b → has_line all ≡ (b || has_line others)
+  pub line_among : (b : Bool) → is_drawn (first_line (drop first xs)) ≡ b → has_line all ≡ (b || has_line others)
   line_among b h =
-      ap has_line all_are ∙ ap (λ k. k || has_line others) (sym (ap begins_with_line there.1) ∙ h)
+      ap has_line all_are ∙ ap (λ k. k || has_line others) (sym (ap is_drawn first_is) ∙ h)
 
   pub cells_parted : (k : ℕ) → cell_prints columns k all ≡ cell_prints columns k one ++ cell_prints columns (suc k) others
   cells_parted k =

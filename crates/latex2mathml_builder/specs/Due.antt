@@ -4,8 +4,8 @@ use Rattle.std.specs.List.{All, flat_map}
 use Rattle.latex2mathml_elements.specs.Element.{Element, Elements, Rows, Cells, token, space, rectangle, container, pair, triple, table, none, more, one_row, more_rows, one_cell, more_cells, children, Mrow}
 use Rattle.latex2mathml_elements.specs.Columns.{Columns, column_at}
 use Rattle.latex2mathml_elements.specs.Print.{cell_print, cells_print, prints, row_print}
-use Rattle.latex2mathml_elements.specs.RowLines.{LineAbove, row_lines}
-use Rattle.latex2mathml_elements.specs.Tables.{are_line, cells_in, is_line}
+use Rattle.latex2mathml_elements.specs.Lines.{Line, NoLine, is_drawn, row_lines}
+use Rattle.latex2mathml_elements.specs.Tables.{are_line, cells_in, is_line, last_line, line_of}
 use Rattle.latex2mathml_builder.specs.Built.{Built, settled_in}
 use Rattle.latex2mathml_attributes.specs.Columns.{columns_of}
 use Rattle.latex2mathml_builder.specs.declared.works.Run.{Run}
@@ -21,10 +21,10 @@ abbrev pub cell_prints : Columns → ℕ → List Element → List ℕ
 cell_prints columns k [] = []
 cell_prints columns k (x ∷ xs) = cell_print (column_at columns k) (prints (more x none)) ++ cell_prints columns (suc k) xs
 
--- whether the first of these elements is a line
-abbrev pub begins_with_line : List Element → Bool
-begins_with_line [] = false
-begins_with_line (x ∷ xs) = is_line x
+-- the line that the first of these elements is, if it is one
+abbrev pub first_line : List Element → Line
+first_line [] = NoLine
+first_line (x ∷ xs) = line_of x
 
 -- whether one of these elements is a line
 abbrev pub has_line : List Element → Bool
@@ -32,11 +32,11 @@ has_line [] = false
 has_line (x ∷ xs) = is_line x || has_line xs
 
 -- the rows that these elements become, where a line may come before them
-abbrev pub row_prints : Columns → Bool → List Element → List ℕ
-row_prints columns line [] = if line then row_print LineAbove (cell_print (column_at columns zero) []) else []
+abbrev pub row_prints : Columns → Line → List Element → List ℕ
+row_prints columns line [] = if is_drawn line then row_print (row_lines line NoLine) (cell_print (column_at columns zero) []) else []
 row_prints columns line (x ∷ xs) =
-    if not line && is_line x then row_prints columns true xs
-    else row_print (row_lines line (are_line xs)) (cells_print (cells_in columns x)) ++ (if are_line xs then [] else row_prints columns false xs)
+    if not (is_drawn line) && is_line x then row_prints columns (line_of x) xs
+    else row_print (row_lines line (last_line xs)) (cells_print (cells_in columns x)) ++ (if are_line xs then [] else row_prints columns NoLine xs)
 
 -- the elements of a run
 abbrev pub elements_of : Built → Run → List Element
@@ -47,7 +47,7 @@ run_print b run = prints (children (elements_of b run)) ++ run.tag.now
 
 abbrev pub work_print : Built → Work → List ℕ
 work_print b (work.Elements run) = run_print b run
-work_print b (work.Rows columns first count) = row_prints (columns_of columns) false (settled_from b first count) ++ codes "</mtable>"
+work_print b (work.Rows columns first count) = row_prints (columns_of columns) NoLine (settled_from b first count) ++ codes "</mtable>"
 work_print b (work.Cells columns start first count) = cell_prints (columns_of columns) (first - start) (settled_from b first count) ++ codes "</mtr>"
 
 abbrev pub due : Built → List Work → List ℕ
@@ -105,11 +105,11 @@ abbrev pub cell_loads : List Element → ℕ
 cell_loads [] = 0
 cell_loads (x ∷ xs) = 3 + (weights (more x none) + cell_loads xs)
 
-abbrev pub row_loads : Columns → Bool → List Element → ℕ
-row_loads columns line [] = if line then 6 else 0
+abbrev pub row_loads : Columns → Line → List Element → ℕ
+row_loads columns line [] = if is_drawn line then 6 else 0
 row_loads columns line (x ∷ xs) =
-    if not line && is_line x then row_loads columns true xs
-    else 3 + (cell_weights (cells_in columns x) + (if are_line xs then 0 else row_loads columns false xs))
+    if not (is_drawn line) && is_line x then row_loads columns (line_of x) xs
+    else 3 + (cell_weights (cells_in columns x) + (if are_line xs then 0 else row_loads columns NoLine xs))
 
 -- how much there is to write of a work, and of all works
 abbrev pub run_weight : Built → Run → ℕ
@@ -117,7 +117,7 @@ run_weight b run = weights (children (elements_of b run))
 
 abbrev pub work_weight : Built → Work → ℕ
 work_weight b (work.Elements run) = 1 + run_weight b run
-work_weight b (work.Rows columns first count) = 1 + row_loads (columns_of columns) false (settled_from b first count)
+work_weight b (work.Rows columns first count) = 1 + row_loads (columns_of columns) NoLine (settled_from b first count)
 work_weight b (work.Cells columns start first count) = 1 + cell_loads (settled_from b first count)
 
 abbrev pub load : Built → List Work → ℕ

@@ -3,7 +3,7 @@ use Rattle.std.specs.Prelude.{ℕ, zero, suc, pos, Bool, true, false, List, [], 
 use Rattle.latex2mathml_elements.specs.Attributes.{Attributes, plain}
 use Rattle.latex2mathml_elements.specs.Columns.{Columns}
 use Rattle.latex2mathml_elements.specs.Element.{Token, Pair, Triple, Element, token, space, pair, triple, table}
-use Rattle.latex2mathml_elements.specs.{Groups.grouped, Tables.rows_in}
+use Rattle.latex2mathml_elements.specs.{Groups.grouped, Tables.attributes_in, Tables.rows_in}
 use Rattle.latex2mathml_attributes.specs.{Arounds.element_around, declared.around.Around.Around}
 
 -- whether the uppermost element holds a text
@@ -78,4 +78,4 @@ triple_with t a is_exchanged xs = no_element
 
 abbrev pub table_with : Attributes → Columns → List Element → Element
 table_with a columns [] = no_element
-table_with a columns (x ∷ xs) = table a (rows_in columns x xs)
+table_with a columns (x ∷ xs) = table (attributes_in columns a) (rows_in columns x xs)

@@ -1,15 +1,19 @@
 //! Writes the rows and the cells of tables, and the lines between rows.
-ghost use Rattle.std.specs.Prelude.{◌≡◌, ◌+◌, ◌-◌, ◌<◌, ◌≤◌, ◌++◌, ◌&&◌, [], IfOk, OnOk, codes, drop, false, if◌then◌else◌, length, not, string_bytes, true};
-ghost use Rattle.latex2mathml_elements.specs.Print.{cell_tag, row_tag};
-ghost use Rattle.latex2mathml_elements.specs.{RowLines.row_lines, Tables.are_line};
+ghost use Rattle.std.specs.Prelude.{◌≡◌, ◌+◌, ◌-◌, ◌<◌, ◌≤◌, ◌++◌, ◌&&◌, ◌||◌, [], IfOk, IsTrue, OnOk, codes, drop, false, if◌then◌else◌, length, not, string_bytes};
+ghost use Rattle.latex2mathml_elements.specs.Columns.{are_lined};
+ghost use Rattle.latex2mathml_elements.specs.Print.{row_tag};
+ghost use Rattle.latex2mathml_elements.specs.Lines.{NoLine, is_drawn, row_lines};
+ghost use Rattle.latex2mathml_elements.specs.Tables.{last_line};
 ghost use Rattle.latex2mathml_builder.specs.Built.{settled_in};
-ghost use Rattle.latex2mathml_attributes.specs.Columns.{column_of, columns_of};
-ghost use Rattle.latex2mathml_builder.specs.Due.{AreIn, Begins, begins_with_line, cell_loads, cell_prints, has_line, in_cells, load, row_loads, row_prints, run_print, run_weight, settled_from};
+ghost use Rattle.latex2mathml_attributes.specs.Columns.{columns_of};
+ghost use Rattle.latex2mathml_attributes.specs.Lines.{line_of};
+ghost use Rattle.latex2mathml_builder.specs.Due.{AreIn, Begins, cell_loads, cell_prints, first_line, has_line, in_cells, load, row_loads, row_prints, run_print, run_weight, settled_from};
 
 use crate::builder::Builder;
 use crate::part::Part;
 use crate::works::{Run, Work};
-use latex2mathml_attributes::columns::{Column, Columns};
+use latex2mathml_attributes::columns::Columns;
+use latex2mathml_attributes::line::Line;
 use latex2mathml_attributes::tag::Container;
 use std::alloc::AllocError;
 
@@ -31,22 +35,23 @@ impl Builder {
         ensures inside { OnOk result (AreIn self.now works.new.items) }
         ensures one { IfOk result (λ run. run.end ≤ length self.now.settled) }
         ensures print { IfOk result (λ run. Begins self.now (string_bytes out.old) works.old.items
-            (row_prints (columns_of columns) false (settled_from self.now first count)
+            (row_prints (columns_of columns) NoLine (settled_from self.now first count)
             ++ codes "</mtable>") (string_bytes out.new) run works.new.items) }
         ensures weight { IfOk result (λ run. load self.now works.new.items
             + run_weight self.now run < load self.now works.old.items
-            + (1 + row_loads (columns_of columns) false (settled_from self.now first count))) }
+            + (1 + row_loads (columns_of columns) NoLine (settled_from self.now first count))) }
     {
         // No place is greater than this length, so none overflows.
         let _ = self.settled_len();
-        if !self.is_line(first) {
-            return self.write_row_of_rows(columns, false, first, count, works, out);
+        let line = self.line_at(first);
+        if !line.is_drawn() {
+            return self.write_row_of_rows(columns, Line::Nothing, first, count, works, out);
         }
         if count == 1 {
-            write_empty_row(columns, out)?;
+            write_empty_row(columns, line, out)?;
             return Ok(self.run(0, 0, "</mtable>"));
         }
-        self.write_row_of_rows(columns, true, first + 1, count - 1, works, out)
+        self.write_row_of_rows(columns, line, first + 1, count - 1, works, out)
     }
 
     /// Writes the row that the first of some elements becomes, up to the contents of its first cell. A line may come before it.
@@ -54,7 +59,7 @@ impl Builder {
     fn write_row_of_rows(
         &self,
         columns: Columns,
-        line: bool,
+        line: Line,
         first: usize,
         count: usize,
         works: &mut Vec<Work>,
@@ -62,45 +67,60 @@ impl Builder {
     ) -> Result<Run, AllocError>
         requires some { 0 < count }
         requires all { first + count ≤ length self.now.settled }
-        requires row { (not line && begins_with_line (drop first (settled_in self.now))) ≡ false }
+        requires row { (not (is_drawn (line_of line))
+            && is_drawn (first_line (drop first (settled_in self.now)))) ≡ false }
         requires inside { AreIn self.now works.old.items }
         ensures inside { OnOk result (AreIn self.now works.new.items) }
         ensures one { IfOk result (λ run. run.end ≤ length self.now.settled) }
         ensures print { IfOk result (λ run. Begins self.now (string_bytes out.old) works.old.items
-            (row_prints (columns_of columns) line (settled_from self.now first count)
+            (row_prints (columns_of columns) (line_of line) (settled_from self.now first count)
             ++ codes "</mtable>") (string_bytes out.new) run works.new.items) }
         ensures weight { IfOk result (λ run. load self.now works.new.items
             + run_weight self.now run < load self.now works.old.items
-            + (1 + row_loads (columns_of columns) line (settled_from self.now first count))) }
+            + (1 + row_loads (columns_of columns) (line_of line)
+            (settled_from self.now first count))) }
     {
         // No place is greater than this length, so none overflows.
         let _ = self.settled_len();
-        let line_below = self.is_before_last_line(first, count);
-        let left = rows_left(count, line_below);
+        let below = self.last_line(first, count);
+        let left = rows_left(count, below);
         self.push_work(Work::Rows(columns, first + 1, left), works)?;
-        out.push_str(row_tag(line, line_below))?;
+        out.push_str(row_tag(line, below))?;
         self.write_row(columns, first, works, out)
     }
 
-    /// Whether the first of some elements is followed by one line and nothing else.
-    fn is_before_last_line(&self, first: usize, count: usize) -> bool
+    /// Returns the line that follows the first of some elements, if nothing else follows it.
+    fn last_line(&self, first: usize, count: usize) -> Line
         requires some { 0 < count }
         requires all { first + count ≤ length self.now.settled }
-        ensures { result ≡ are_line (settled_from self.now (first + 1) (count - 1)) }
+        ensures { line_of result ≡ last_line (settled_from self.now (first + 1) (count - 1)) }
     {
         let _ = self.settled_len();
-        count == 2 && self.is_line(first + 1)
+        if count == 2 {
+            self.line_at(first + 1)
+        } else {
+            Line::Nothing
+        }
+    }
+
+    /// Whether a table in these columns has a line, where some elements are its rows and the lines between them.
+    pub(crate) fn is_lined(&self, columns: &Columns, first: usize, count: usize) -> bool
+        requires { first + count ≤ length self.now.settled }
+        ensures { result ≡ (are_lined (columns_of columns.now)
+            || has_line (settled_from self.now first count)) }
+    {
+        columns.are_lined() || self.has_line(first, count)
     }
 
     /// Whether one of some elements is a line.
-    pub(crate) fn has_line(&self, first: usize, count: usize) -> bool
+    fn has_line(&self, first: usize, count: usize) -> bool
         requires { first + count ≤ length self.now.settled }
         ensures { result ≡ has_line (settled_from self.now first count) }
     {
         let _ = self.settled_len();
         let mut place = first;
         'elements: while place < first + count {
-            if self.is_line(place) {
+            if self.line_at(place).is_drawn() {
                 return true;
             }
             place += 1;
@@ -108,12 +128,15 @@ impl Builder {
         false
     }
 
-    /// Whether a settled element is a line among rows.
-    fn is_line(&self, place: usize) -> bool
+    /// Returns the line among rows that a settled element is, if it is one.
+    fn line_at(&self, place: usize) -> Line
         requires { place < length self.now.settled }
-        ensures { result ≡ begins_with_line (drop place (settled_in self.now)) }
+        ensures { line_of result ≡ first_line (drop place (settled_in self.now)) }
     {
-        matches!(self.settled_at(place), Part::Rectangle(_))
+        match self.settled_at(place) {
+            Part::Rectangle(extent) => extent.line(),
+            _ => Line::Nothing,
+        }
     }
 
     /// Writes the cells of the row that a settled element becomes, up to the contents of the first one. Returns what follows, and
@@ -205,47 +228,60 @@ impl Builder {
         ensures weight { IfOk result (λ run. run_weight self.now run
             < cell_loads (settled_from self.now place 1)) }
     {
-        start_cell(columns.column_at(place - start), out)?;
+        columns.column_at(place - start).append_tag(out)?;
         Ok(self.run(place, 1, "</mtd>"))
     }
 }
 
-/// Returns how many elements follow a row that is the first of `count`, without a line after the last row.
-fn rows_left(count: usize, line_below: bool) -> usize
+/// Returns how many elements follow a row that is the first of `count`, without the line below the last row, if that is next.
+fn rows_left(count: usize, below: Line) -> usize
     requires { 0 < count }
-    ensures { result ≡ (if line_below then 0 else count - 1) }
+    ensures { result ≡ (if is_drawn (line_of below) then 0 else count - 1) }
 {
-    if line_below { 0 } else { count - 1 }
+    if below.is_drawn() { 0 } else { count - 1 }
 }
 
-/// Returns the start tag of a row, which may have a line above it and one below it.
-fn row_tag(line_above: bool, line_below: bool) -> &'static str
-    ensures { result.now ≡ row_tag (row_lines line_above line_below) }
+/// Returns the start tag of a row with these lines above it and below it.
+fn row_tag(above: Line, below: Line) -> &'static str
+    ensures { result.now ≡ row_tag (row_lines (line_of above) (line_of below)) }
 {
-    match (line_above, line_below) {
-        (false, false) => "<mtr>",
-        (true, false) => "<mtr style=\"border-top: thin solid\">",
-        (false, true) => "<mtr style=\"border-bottom: thin solid\">",
-        (true, true) => "<mtr style=\"border-top: thin solid; border-bottom: thin solid\">",
+    match (above, below) {
+        (Line::Nothing, Line::Nothing) => "<mtr>",
+        (Line::Nothing, Line::One) => "<mtr style=\"border-bottom: thin solid\">",
+        (Line::Nothing, Line::Two) => "<mtr style=\"border-bottom: 3px double\">",
+        (Line::Nothing, Line::Dashes) => "<mtr style=\"border-bottom: thin dashed\">",
+        (Line::One, Line::Nothing) => "<mtr style=\"border-top: thin solid\">",
+        (Line::One, Line::One) =>
+            "<mtr style=\"border-top: thin solid; border-bottom: thin solid\">",
+        (Line::One, Line::Two) =>
+            "<mtr style=\"border-top: thin solid; border-bottom: 3px double\">",
+        (Line::One, Line::Dashes) =>
+            "<mtr style=\"border-top: thin solid; border-bottom: thin dashed\">",
+        (Line::Two, Line::Nothing) => "<mtr style=\"border-top: 3px double\">",
+        (Line::Two, Line::One) =>
+            "<mtr style=\"border-top: 3px double; border-bottom: thin solid\">",
+        (Line::Two, Line::Two) =>
+            "<mtr style=\"border-top: 3px double; border-bottom: 3px double\">",
+        (Line::Two, Line::Dashes) =>
+            "<mtr style=\"border-top: 3px double; border-bottom: thin dashed\">",
+        (Line::Dashes, Line::Nothing) => "<mtr style=\"border-top: thin dashed\">",
+        (Line::Dashes, Line::One) =>
+            "<mtr style=\"border-top: thin dashed; border-bottom: thin solid\">",
+        (Line::Dashes, Line::Two) =>
+            "<mtr style=\"border-top: thin dashed; border-bottom: 3px double\">",
+        (Line::Dashes, Line::Dashes) =>
+            "<mtr style=\"border-top: thin dashed; border-bottom: thin dashed\">",
     }
 }
 
-/// Appends an empty row with a line above it.
+/// Appends an empty row with this line above it.
 #[tactic(auto, using(std::proofs::lemmas::Grind::common_steps))]
-fn write_empty_row(columns: Columns, out: &mut String) -> Result<(), AllocError>
+fn write_empty_row(columns: Columns, line: Line, out: &mut String) -> Result<(), AllocError>
+    requires { IsTrue (is_drawn (line_of line)) }
     ensures { OnOk result (string_bytes out.new
-        ≡ string_bytes out.old ++ row_prints (columns_of columns) true []) }
+        ≡ string_bytes out.old ++ row_prints (columns_of columns) (line_of line) []) }
 {
-    out.push_str(row_tag(true, false))?;
-    start_cell(columns.column_at(0), out)?;
+    out.push_str(row_tag(line, Line::Nothing))?;
+    columns.column_at(0).append_tag(out)?;
     out.push_str("</mtd></mtr>")
-}
-
-/// Appends the start tag of a cell.
-#[tactic(auto, using(std::proofs::lemmas::Grind::common_steps))]
-fn start_cell(column: Column, out: &mut String) -> Result<(), AllocError>
-    ensures { OnOk result (string_bytes out.new
-        ≡ string_bytes out.old ++ cell_tag (column_of column)) }
-{
-    out.push_str(column.tag())
 }

@@ -176,7 +176,7 @@ impl Builder {
                 self.three(*first, *is_exchanged, tag.end(), works)
             }
             Part::Table(style, columns, first, count) => {
-                start_table(*style, self.has_line(*first, *count), out)?;
+                start_table(*style, self.is_lined(columns, *first, *count), out)?;
                 self.write_rows(*columns, *first, *count, works, out)
             }
         }
@@ -317,15 +317,15 @@ fn start_triple(
     }
 }
 
-/// Appends the start tag of a table, whose rows may have lines.
+/// Appends the start tag of a table, which may have lines.
 #[inline(never)]
 #[tactic(auto, using(std::proofs::lemmas::Grind::common_steps))]
-fn start_table(style: Option<MathStyle>, has_line: bool, out: &mut String) -> Result<(), AllocError>
+fn start_table(style: Option<MathStyle>, is_lined: bool, out: &mut String) -> Result<(), AllocError>
     ensures { OnOk result (string_bytes out.new ≡ string_bytes out.old
         ++ start_tag (codes "mtable")
-        (table_attributes has_line (styled (option_map math_style_of style)))) }
+        (table_attributes is_lined (styled (option_map math_style_of style)))) }
 {
-    if !has_line {
+    if !is_lined {
         return start_with_attributes("<mtable", &Attributes::styled(style), out);
     }
     out.push_str("<mtable")?;

@@ -1,5 +1,6 @@
 -- The columns of a table.
-use Rattle.std.specs.Prelude.{ℕ, zero, suc, List, [], ◌∷◌}
+use Rattle.std.specs.Prelude.{ℕ, zero, suc, Bool, false, ◌||◌, List, [], ◌∷◌}
+use Rattle.latex2mathml_elements.specs.Lines.{Line, NoLine, is_drawn}
 
 -- how the cells of a column are aligned
 pub data Alignment : Type 0 where
@@ -17,21 +18,16 @@ pub data Spacing : Type 0 where
   SpaceBefore : Spacing
   SpaceAround : Spacing
 
--- where lines are drawn next to a column
-pub data Borders : Type 0 where
-  NoLine : Borders
-  LineBefore : Borders
-  LineAfter : Borders
-  LinesAround : Borders
-
+-- a column, with the lines at its left and at its right
 pub record Column : Type 0 where
   pub alignment : Alignment
   pub spacing : Spacing
-  pub borders : Borders
+  pub before : Line
+  pub after : Line
 
 -- a column without lines, and with this space
 abbrev pub spaced : Spacing → Alignment → Column
-spaced spacing alignment = record { alignment = alignment; spacing = spacing; borders = NoLine }
+spaced spacing alignment = record { alignment = alignment; spacing = spacing; before = NoLine; after = NoLine }
 
 -- a listed column without lines
 abbrev pub unlined : Alignment → Column
@@ -43,8 +39,8 @@ pub data Columns : Type 0 where
   Alike : Alignment → Columns
   -- pairs, with space between them
   InPairs : Columns
-  -- these, followed by centered ones
-  Listed : List Column → Columns
+  -- these, with this line before the first, followed by centered ones
+  Listed : Line → List Column → Columns
 
 -- space between columns is before each but the first: so all cells of a column have the same
 abbrev pub between : ℕ → Spacing
@@ -58,6 +54,16 @@ column_at InPairs zero = spaced Unspaced RightAligned
 column_at InPairs (suc zero) = spaced Unspaced SecondOfPair
 column_at InPairs (suc (suc zero)) = spaced SpaceBefore RightAligned
 column_at InPairs (suc (suc (suc k))) = column_at InPairs (suc k)
-column_at (Listed []) k = unlined Centered
-column_at (Listed (column ∷ columns)) zero = column
-column_at (Listed (column ∷ columns)) (suc k) = column_at (Listed columns) k
+column_at (Listed line []) k = unlined Centered
+column_at (Listed line (column ∷ columns)) zero = record column { before = line }
+column_at (Listed line (column ∷ columns)) (suc k) = column_at (Listed NoLine columns) k
+
+-- whether one of these columns has a line after it
+abbrev pub any_lined : List Column → Bool
+any_lined [] = false
+any_lined (column ∷ columns) = is_drawn column.after || any_lined columns
+
+-- whether lines are drawn next to columns
+abbrev pub are_lined : Columns → Bool
+are_lined (Listed line columns) = is_drawn line || any_lined columns
+are_lined columns = false

@@ -1,6 +1,6 @@
 -- Elements of MathML. Each constructor takes as many children as MathML Core requires.
 use Rattle.std.specs.Prelude.{ℕ, ℤ, List, [], ◌∷◌}
-use Rattle.latex2mathml_elements.specs.{Attributes.Attributes, Columns.Column, Extents.Extent, RowLines.RowLines}
+use Rattle.latex2mathml_elements.specs.{Attributes.Attributes, Columns.Column, Extents.Extent, Lines.RowLines}
 
 -- the elements that hold a text
 pub data Token : Type 0 where

@@ -8,6 +8,6 @@ pub mod Element
 pub mod Extents
 pub mod Groups
 pub mod Laws
+pub mod Lines
 pub mod Print
-pub mod RowLines
 pub mod Tables

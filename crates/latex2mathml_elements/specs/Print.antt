@@ -1,9 +1,9 @@
 -- How elements are written.
 use Rattle.std.specs.Prelude.{ℕ, Bool, true, false, ◌||◌, List, [], ◌++◌, Option, Some, None, codes}
 use Rattle.latex2mathml_elements.specs.Attributes.{Attributes, Side, Above, Below, Form, Prefix, Infix, Postfix, Stretch, Stretching, Rigid, Space, NoSpace, Narrow, Thick, NoSpaceBefore, ThickAfter, Size, Big, Bigger, VeryBig, Biggest, MathStyle, DisplayStyle, TextStyle, ScriptStyle, Boxing, NoWidth, Flat, NoHeight, NoDepth, ByItsWidth, ByHalfItsWidth, Framed, StruckUp, StruckDown, StruckTwice, JoinedLines}
-use Rattle.latex2mathml_elements.specs.Columns.{Alignment, LeftAligned, RightAligned, SecondOfPair, Dense, Spacing, Unspaced, SpaceBefore, SpaceAround, Borders, NoLine, LineBefore, LineAfter, LinesAround, Column}
+use Rattle.latex2mathml_elements.specs.Columns.{Alignment, LeftAligned, RightAligned, SecondOfPair, Dense, Spacing, Unspaced, SpaceBefore, SpaceAround, Column}
 use Rattle.latex2mathml_elements.specs.Element.{Token, Mi, Mn, Mo, Mtext, Container, Mrow, Msqrt, Mstyle, Mpadded, Mphantom, Pair, Mfrac, Mroot, Msub, Msup, Munder, Mover, Triple, Msubsup, Munderover, Element, Elements, Rows, Cells, token, space, rectangle, container, pair, triple, table, none, more, one_row, more_rows, one_cell, more_cells}
-use Rattle.latex2mathml_elements.specs.RowLines.{RowLines, Unlined, LineAbove, LineBelow, LineAboveAndBelow, is_lined}
+use Rattle.latex2mathml_elements.specs.Lines.{Line, NoLine, OneLine, TwoLines, Dashes, RowLines, is_lined}
 use Rattle.latex2mathml_elements.specs.{Colors.color_text, Extents.extent_text, Extents.length_if_any}
 use Rattle.latex2mathml_tokens.specs.Escape.{content}
 use Rattle.latex2mathml_trees.specs.Width.{width_text}
@@ -155,21 +155,28 @@ spacing_style alignment Unspaced = codes "padding-inline: 0"
 spacing_style alignment SpaceBefore = codes "padding-inline: 1em 0"
 spacing_style alignment SpaceAround = codes "padding-inline: 0.5em"
 
--- the lines next to cells, in the same language
-abbrev pub border_style : Borders → List ℕ
-border_style NoLine = []
-border_style LineBefore = codes "; border-left: thin solid"
-border_style LineAfter = codes "; border-right: thin solid"
-border_style LinesAround = codes "; border-left: thin solid; border-right: thin solid"
+-- how a line is drawn, in the same language: two lines and the space between them are a pixel wide each
+abbrev pub line_style : Line → List ℕ
+line_style NoLine = codes "none"
+line_style OneLine = codes "thin solid"
+line_style TwoLines = codes "3px double"
+line_style Dashes = codes "thin dashed"
+
+-- the line at this side of cells, if there is one
+abbrev pub border_style : List ℕ → Line → List ℕ
+border_style side NoLine = []
+border_style side line = codes "; border-" ++ (side ++ (codes ": " ++ line_style line))
+
+-- how the cells of a column are drawn
+abbrev pub column_style : Column → List ℕ
+column_style column =
+    alignment_style column.alignment
+    ++ (spacing_style column.alignment column.spacing
+    ++ (border_style (codes "left") column.before ++ border_style (codes "right") column.after))
 
 -- the attributes of the cells of a column
 abbrev pub column_text : Column → List ℕ
-column_text column =
-    alignment_text column.alignment
-    ++ (codes " style=\""
-    ++ (alignment_style column.alignment
-    ++ (spacing_style column.alignment column.spacing
-    ++ (border_style column.borders ++ codes "\""))))
+column_text column = alignment_text column.alignment ++ (codes " style=\"" ++ (column_style column ++ codes "\""))
 
 -- Elements
 
@@ -181,12 +188,17 @@ start_tag name a = codes "<" ++ (name ++ (attributes_text a ++ codes ">"))
 abbrev pub end_tag : List ℕ → List ℕ
 end_tag name = codes "</" ++ (name ++ codes ">")
 
+-- the attribute for the line above a row and the one below it
+abbrev pub lines_between : Line → Line → List ℕ
+lines_between NoLine NoLine = []
+lines_between above NoLine = codes " style=\"border-top: " ++ (line_style above ++ codes "\"")
+lines_between NoLine below = codes " style=\"border-bottom: " ++ (line_style below ++ codes "\"")
+lines_between above below =
+    codes " style=\"border-top: " ++ (line_style above ++ (codes "; border-bottom: " ++ (line_style below ++ codes "\"")))
+
 -- the attribute for the lines next to a row
 abbrev pub lines_text : RowLines → List ℕ
-lines_text Unlined = []
-lines_text LineAbove = codes " style=\"border-top: thin solid\""
-lines_text LineBelow = codes " style=\"border-bottom: thin solid\""
-lines_text LineAboveAndBelow = codes " style=\"border-top: thin solid; border-bottom: thin solid\""
+lines_text lines = lines_between lines.above lines.below
 
 -- the start tag of a row
 abbrev pub row_tag : RowLines → List ℕ
@@ -201,7 +213,8 @@ abbrev pub have_line : Rows → Bool
 have_line (one_row lines cells) = is_lined lines
 have_line (more_rows lines cells rows) = is_lined lines || have_line rows
 
--- The attributes of a table, whose rows may have lines. Browsers draw the lines of rows only where all lines are joined.
+-- The attributes of a table, which may have lines. Browsers draw the lines of rows only where all lines are joined, and leave gaps
+-- in the lines of columns where they are not.
 abbrev pub table_attributes : Bool → Attributes → Attributes
 table_attributes true a = record a { boxing = Some JoinedLines }
 table_attributes false a = a

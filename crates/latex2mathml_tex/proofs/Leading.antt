@@ -130,8 +130,8 @@ module _ {ending : Ending} {c : Context} {xs : Row} {K : Outcome Row → Type 0}
 -- What follows an atom
 
 -- where the operand of a script leads
-abbrev pub ScriptLeads : Level → Atom → (Element → Scripts) → Outcome Operand → Type 0
-ScriptLeads level base with_operand (Read x n) = ScriptsLead level base (with_operand x.element) n
+abbrev pub ScriptLeads : Level → Atom → (Operand → Scripts) → Outcome Operand → Type 0
+ScriptLeads level base with_operand (Read x n) = ScriptsLead level base (with_operand x) n
 ScriptLeads level base with_operand (Refused r) = AtomMade level (Refused r)
 
 module _ (ending : Ending) (c : Context) (xs : Row) (K : Outcome Row → Type 0) {l : Units} where
@@ -144,7 +144,7 @@ module _ (ending : Ending) (c : Context) (xs : Row) (K : Outcome Row → Type 0)
   pub script_twice : {base : Atom} {scripts : Scripts} {kind : Kind} {u : Unit} {m : Units} → past_space l ≡ Next u m → step_of_mark scripts (mark_of u.piece) ≡ Some (Forbidden kind) → ScriptsLead (row ending c xs K) base scripts l → K (Refused (refusal_at kind u.place))
   script_twice p e k = k _ (mark_refused p e)
 
-  pub script_due : {base : Atom} {scripts : Scripts} {with_operand : Element → Scripts} {u : Unit} {m : Units} → past_space l ≡ Next u m → step_of_mark scripts (mark_of u.piece) ≡ Some (TakesOperand with_operand) → ScriptsLead (row ending c xs K) base scripts l → Leads (operand u.place (styled c InScript) (ScriptLeads (row ending c xs K) base with_operand)) m
+  pub script_due : {base : Atom} {scripts : Scripts} {with_operand : Operand → Scripts} {u : Unit} {m : Units} → past_space l ≡ Next u m → step_of_mark scripts (mark_of u.piece) ≡ Some (TakesOperand with_operand) → ScriptsLead (row ending c xs K) base scripts l → Leads (operand u.place (styled c InScript) (ScriptLeads (row ending c xs K) base with_operand)) m
   script_due p e k (Read x n) d = λ o ds. k o (script_read p e d ds)
   script_due p e k (Refused r) d = k _ (script_refused p e d)
 

@@ -95,7 +95,7 @@ module _ (base : Atom) (scripts : Scripts) (before m : Units) (u : Unit) (p : pa
   comes_twice (row e c xs K) h k = script_twice e c xs K p h k
   comes_twice l h k = absurd k
 
-  pub takes_operand : (l : Level) (with_operand : Element → Scripts) → step_of_mark scripts (mark_of u.piece) ≡ Some (TakesOperand with_operand) → ScriptsLead l base scripts before → (K : Outcome Operand → Type 0) → ((o : Outcome Operand) → ScriptLeads l base with_operand o → K o) → Leads (operand u.place (styled (context_at l) InScript) K) m
+  pub takes_operand : (l : Level) (with_operand : Operand → Scripts) → step_of_mark scripts (mark_of u.piece) ≡ Some (TakesOperand with_operand) → ScriptsLead l base scripts before → (K : Outcome Operand → Type 0) → ((o : Outcome Operand) → ScriptLeads l base with_operand o → K o) → Leads (operand u.place (styled (context_at l) InScript) K) m
   takes_operand (row e c xs K) w h k L on = λ o d. on o (script_due e c xs K p h k o d)
   takes_operand l w h k L on = absurd k
 
@@ -121,11 +121,11 @@ prime_step : (scripts : Scripts) (below : Option Element) → step_of scripts be
 prime_step scripts None = refl
 prime_step scripts (Some x) = refl
 
-below_step : (scripts : Scripts) (above : Option Element) → step_of scripts None above starts.Below ≡ TakesOperand (λ x. record scripts { below = Some x })
+below_step : (scripts : Scripts) (above : Option Element) → step_of scripts None above starts.Below ≡ TakesOperand (λ x. record scripts { below = Some x.element; high = x.high })
 below_step scripts None = refl
 below_step scripts (Some y) = refl
 
-above_step : (scripts : Scripts) (below : Option Element) → step_of scripts below None starts.Above ≡ TakesOperand (λ x. record scripts { above = Some (behind_primes scripts.primes x) })
+above_step : (scripts : Scripts) (below : Option Element) → step_of scripts below None starts.Above ≡ TakesOperand (λ x. record scripts { above = Some (behind_primes scripts.primes x.element) })
 above_step scripts None = refl
 above_step scripts (Some x) = refl
 
@@ -242,23 +242,23 @@ module _ (s : Start) (p : Parser) (c : CodeCore) (scripts : CodeScripts) (m : Ma
   script_refused side.Below e one g = below_refused e one g
   script_refused side.Above e one g = above_refused e one g
 
-  -- the scripts with the element of an operand
-  abbrev pub script_read : Side → Element → Scripts
-  script_read side.Below x = record read { below = Some x }
-  script_read side.Above x = record read { above = Some (behind_primes scripts.primes x) }
+  -- the scripts with an operand
+  abbrev pub script_read : Side → Operand → Scripts
+  script_read side.Below x = record read { below = Some x.element; high = x.high }
+  script_read side.Above x = record read { above = Some (behind_primes scripts.primes x.element) }
 
   -- these elements are those that were there, with a mark above them of the primes that precede a script on this side
   abbrev pub MarkPut : Side → List Element → Type 0
   MarkPut on ys =
       (drop (primes_put on scripts.primes + (script_count scripts + 1)) ys ≡ drop (script_count scripts + 1) here)
       × (drop (primes_put on scripts.primes) ys ≡ here)
-      × ((x : Element) → script_read on x ≡ with_script on read ys x)
+      × ((x : Operand) → script_read on x ≡ with_script on read ys x.element x.high)
 
   abbrev frame_level : Side → List Element → Level
   frame_level on ys = inside s p.frames.stack.items (drop (primes_put on scripts.primes + (script_count scripts + 1)) ys)
 
   read_made : (on : Side) (ys : List Element) → has_script on scripts ≡ false → MarkPut on ys → (o : Outcome Operand) → ScriptLeads at_row (base_of c scripts here).atom (script_read on) o → ScriptMade (frame_level on ys) c scripts on ys o
-  read_made on ys none put (Read x n) k = (none, rw (put.0, put.1, sym (put.2 x.element)) k)
+  read_made on ys none put (Read x n) k = (none, rw (put.0, put.1, sym (put.2 x)) k)
   read_made on ys none put (Refused r) k = rw put.0 k
 
   takes : (on : Side) → has_script on scripts ≡ false → step_of read read.below read.above (mark_model (mark.Script on)) ≡ TakesOperand (script_read on)
@@ -283,71 +283,71 @@ module _ (s : Start) (p : Parser) (c : CodeCore) (scripts : CodeScripts) (m : Ma
   pub above_put : scripts.primes ≡ 0 → MarkPut side.Above here
   above_put none =
       let zero_put = put_none scripts.primes none in
-      (ap (λ k. drop k here) (omega (arith, zero_put)), ap (λ k. drop k here) zero_put, λ x. ap (λ y. record read { above = Some y }) (none_before scripts.primes here x none))
+      (ap (λ k. drop k here) (omega (arith, zero_put)), ap (λ k. drop k here) zero_put, λ x. ap (λ y. record read { above = Some y }) (none_before scripts.primes here x.element none))
 
   pub primes_are_put : (ys : List Element) → 0 < scripts.primes → ys ≡ prime_mark scripts.primes ∷ here → MarkPut side.Above ys
   primes_are_put ys some e =
       let one_put = put_some scripts.primes some in
       let all : List Element = prime_mark scripts.primes ∷ here in
       let count : primes_put side.Above scripts.primes + (script_count scripts + 1) ≡ suc (script_count scripts + 1) = omega (arith, one_put) in
-      subst (λ ys. MarkPut side.Above ys) (sym e) (ap (λ k. drop k all) count, ap (λ k. drop k all) one_put, λ x. ap (λ y. record read { above = Some y }) (primes_before scripts.primes here x some))
+      subst (λ ys. MarkPut side.Above ys) (sym e) (ap (λ k. drop k all) count, ap (λ k. drop k all) one_put, λ x. ap (λ y. record read { above = Some y }) (primes_before scripts.primes here x.element some))
 
 -- After the operand of a script
 
 -- these scripts
-abbrev scripts_of : Bool → ℕ → Bool → Bool → Bool → CodeLimitPlace → CodeScripts
-scripts_of takes primes below above exchanged limits = record { primes = primes; below = below; above = above; is_exchanged = exchanged; limits = limits; takes_limits = takes }
+abbrev scripts_of : Bool → ℕ → Bool → Bool → Bool → CodeLimitPlace → Bool → CodeScripts
+scripts_of takes primes below above exchanged limits high = record { primes = primes; below = below; above = above; is_exchanged = exchanged; limits = limits; takes_limits = takes; high = high }
 
-module _ (s : Start) (fs : List Frame) (c : CodeCore) (takes : Bool) (limits : CodeLimitPlace) (m : Units) where
+module _ (s : Start) (fs : List Frame) (c : CodeCore) (takes : Bool) (limits : CodeLimitPlace) (before high : Bool) (m : Units) where
   -- what follows these scripts leads on; their elements are uppermost
   abbrev AllLead : CodeScripts → List Element → Type 0
   AllLead scripts xs = ScriptsLead (inside s fs (drop (script_count scripts + 1) xs)) (base_of c scripts xs).atom (scripts_with scripts xs) m
 
   -- the uppermost element is that of an operand, which is a script in addition to them
   abbrev ScriptLeadsOn : CodeScripts → Side → List Element → Type 0
-  ScriptLeadsOn scripts on xs = (class : Class) (high : Bool) → ScriptMade (inside s fs (drop (primes_put on scripts.primes + (script_count scripts + 2)) xs)) c scripts on (drop 1 xs) (Read (record { element = top xs; class = class; high = high }) m)
+  ScriptLeadsOn scripts on xs = (class : Class) → ScriptMade (inside s fs (drop (primes_put on scripts.primes + (script_count scripts + 2)) xs)) c scripts on (drop 1 xs) (Read (record { element = top xs; class = class; high = high }) m)
 
-  below_read : (primes : ℕ) (below above exchanged : Bool) (xs : List Element) → ScriptLeadsOn (scripts_of takes primes below above exchanged limits) side.Below xs → AllLead (scripts_of takes primes true above above limits) xs
-  below_read primes true above exchanged xs k = cc (k class.Ordinary false).0
-  below_read primes false true exchanged [] k = (k class.Ordinary false).1
-  below_read primes false true exchanged (x ∷ []) k = (k class.Ordinary false).1
-  below_read primes false true exchanged (x ∷ y ∷ xs) k = (k class.Ordinary false).1
-  below_read primes false false exchanged [] k = (k class.Ordinary false).1
-  below_read primes false false exchanged (x ∷ xs) k = (k class.Ordinary false).1
+  below_read : (primes : ℕ) (below above exchanged : Bool) (xs : List Element) → ScriptLeadsOn (scripts_of takes primes below above exchanged limits before) side.Below xs → AllLead (scripts_of takes primes true above above limits high) xs
+  below_read primes true above exchanged xs k = cc (k class.Ordinary).0
+  below_read primes false true exchanged [] k = (k class.Ordinary).1
+  below_read primes false true exchanged (x ∷ []) k = (k class.Ordinary).1
+  below_read primes false true exchanged (x ∷ y ∷ xs) k = (k class.Ordinary).1
+  below_read primes false false exchanged [] k = (k class.Ordinary).1
+  below_read primes false false exchanged (x ∷ xs) k = (k class.Ordinary).1
 
-  above_read : (below above exchanged : Bool) (xs : List Element) → ScriptLeadsOn (scripts_of takes 0 below above exchanged limits) side.Above xs → AllLead (scripts_of takes 0 below true false limits) xs
-  above_read below true exchanged xs k = cc (k class.Ordinary false).0
-  above_read true false exchanged [] k = (k class.Ordinary false).1
-  above_read true false exchanged (x ∷ []) k = (k class.Ordinary false).1
-  above_read true false exchanged (x ∷ y ∷ xs) k = (k class.Ordinary false).1
-  above_read false false exchanged [] k = (k class.Ordinary false).1
-  above_read false false exchanged (x ∷ xs) k = (k class.Ordinary false).1
+  above_read : (below above exchanged : Bool) (xs : List Element) → ScriptLeadsOn (scripts_of takes 0 below above exchanged limits before) side.Above xs → AllLead (scripts_of takes 0 below true false limits before) xs
+  above_read below true exchanged xs k = cc (k class.Ordinary).0
+  above_read true false exchanged [] k = (k class.Ordinary).1
+  above_read true false exchanged (x ∷ []) k = (k class.Ordinary).1
+  above_read true false exchanged (x ∷ y ∷ xs) k = (k class.Ordinary).1
+  above_read false false exchanged [] k = (k class.Ordinary).1
+  above_read false false exchanged (x ∷ xs) k = (k class.Ordinary).1
 
   -- what follows these scripts leads on, with a superscript after a mark of primes
-  behind_read : (primes : ℕ) (below above exchanged : Bool) (xs : List Element) → 2 ≤ length xs → ScriptLeadsOn (scripts_of takes (suc primes) below above exchanged limits) side.Above xs → AllLead (scripts_of takes (suc primes) below true false limits) (row_element (take 2 xs) ∷ drop 2 xs)
-  behind_read primes below true exchanged xs enough k = cc (k class.Ordinary false).0
+  behind_read : (primes : ℕ) (below above exchanged : Bool) (xs : List Element) → 2 ≤ length xs → ScriptLeadsOn (scripts_of takes (suc primes) below above exchanged limits before) side.Above xs → AllLead (scripts_of takes (suc primes) below true false limits before) (row_element (take 2 xs) ∷ drop 2 xs)
+  behind_read primes below true exchanged xs enough k = cc (k class.Ordinary).0
   behind_read primes below above exchanged [] enough k = absurd (omega arith)
   behind_read primes below above exchanged (x ∷ []) enough k = absurd (omega arith)
-  behind_read primes true false exchanged (x ∷ y ∷ xs) enough k = (k class.Ordinary false).1
-  behind_read primes false false exchanged (x ∷ y ∷ xs) enough k = (k class.Ordinary false).1
+  behind_read primes true false exchanged (x ∷ y ∷ xs) enough k = (k class.Ordinary).1
+  behind_read primes false false exchanged (x ∷ y ∷ xs) enough k = (k class.Ordinary).1
 
-  any_above_read : (primes : ℕ) (below above exchanged : Bool) (xs : List Element) → primes ≡ 0 → ScriptLeadsOn (scripts_of takes primes below above exchanged limits) side.Above xs → AllLead (scripts_of takes primes below true false limits) xs
+  any_above_read : (primes : ℕ) (below above exchanged : Bool) (xs : List Element) → primes ≡ 0 → ScriptLeadsOn (scripts_of takes primes below above exchanged limits before) side.Above xs → AllLead (scripts_of takes primes below true false limits before) xs
   any_above_read zero below above exchanged xs none k = above_read below above exchanged xs k
   any_above_read (suc primes) below above exchanged xs none k = absurd (omega (arith, none))
 
-  any_behind_read : (primes : ℕ) (below above exchanged : Bool) (xs ys : List Element) → 0 < primes → 2 ≤ length xs → ys ≡ row_element (take 2 xs) ∷ drop 2 xs → ScriptLeadsOn (scripts_of takes primes below above exchanged limits) side.Above xs → AllLead (scripts_of takes primes below true false limits) ys
+  any_behind_read : (primes : ℕ) (below above exchanged : Bool) (xs ys : List Element) → 0 < primes → 2 ≤ length xs → ys ≡ row_element (take 2 xs) ∷ drop 2 xs → ScriptLeadsOn (scripts_of takes primes below above exchanged limits before) side.Above xs → AllLead (scripts_of takes primes below true false limits before) ys
   any_behind_read zero below above exchanged xs ys some enough e k = absurd (omega (arith, some))
   any_behind_read (suc primes) below above exchanged xs ys some enough e k = rw e (behind_read primes below above exchanged xs enough k)
 
-module _ (s : Start) (p : Parser) (c : CodeCore) (scripts : CodeScripts) where
-  pub script_below : (on : Side) → on ≡ side.Below → TookScript c scripts on s p → Holds s p (state.Atom c (record scripts { below = true; is_exchanged = scripts.above }))
-  script_below side.Below e g = record { style = g.style; claims = below_read s p.frames.stack.items c scripts.takes_limits scripts.limits (left_of p) scripts.primes scripts.below scripts.above scripts.is_exchanged (elements_of p) g.leads }
+module _ (s : Start) (p : Parser) (c : CodeCore) (scripts : CodeScripts) (high : Bool) where
+  pub script_below : (on : Side) → on ≡ side.Below → TookScript c scripts on high s p → Holds s p (state.Atom c (record scripts { below = true; is_exchanged = scripts.above; high = high }))
+  script_below side.Below e g = record { style = g.style; claims = below_read s p.frames.stack.items c scripts.takes_limits scripts.limits scripts.high high (left_of p) scripts.primes scripts.below scripts.above scripts.is_exchanged (elements_of p) g.leads }
   script_below side.Above e g = cc e
 
-  pub script_above : (on : Side) → on ≡ side.Above → scripts.primes ≡ 0 → TookScript c scripts on s p → Holds s p (state.Atom c (record scripts { above = true; is_exchanged = false }))
-  script_above side.Above e none g = record { style = g.style; claims = any_above_read s p.frames.stack.items c scripts.takes_limits scripts.limits (left_of p) scripts.primes scripts.below scripts.above scripts.is_exchanged (elements_of p) none g.leads }
+  pub script_above : (on : Side) → on ≡ side.Above → scripts.primes ≡ 0 → TookScript c scripts on high s p → Holds s p (state.Atom c (record scripts { above = true; is_exchanged = false }))
+  script_above side.Above e none g = record { style = g.style; claims = any_above_read s p.frames.stack.items c scripts.takes_limits scripts.limits scripts.high high (left_of p) scripts.primes scripts.below scripts.above scripts.is_exchanged (elements_of p) none g.leads }
   script_above side.Below e none g = cc e
 
-  pub script_behind : (b : Built) (on : Side) → on ≡ side.Above → 0 < scripts.primes → 2 ≤ length (elements_of p) → elements_in b ≡ row_element (take 2 (elements_of p)) ∷ drop 2 (elements_of p) → TookScript c scripts on s p → Holds s (record p { builder = b }) (state.Atom c (record scripts { above = true; is_exchanged = false }))
-  script_behind b side.Above e some enough put g = record { style = g.style; claims = any_behind_read s p.frames.stack.items c scripts.takes_limits scripts.limits (left_of p) scripts.primes scripts.below scripts.above scripts.is_exchanged (elements_of p) (elements_in b) some enough put g.leads }
+  pub script_behind : (b : Built) (on : Side) → on ≡ side.Above → 0 < scripts.primes → 2 ≤ length (elements_of p) → elements_in b ≡ row_element (take 2 (elements_of p)) ∷ drop 2 (elements_of p) → TookScript c scripts on high s p → Holds s (record p { builder = b }) (state.Atom c (record scripts { above = true; is_exchanged = false }))
+  script_behind b side.Above e some enough put g = record { style = g.style; claims = any_behind_read s p.frames.stack.items c scripts.takes_limits scripts.limits scripts.high high (left_of p) scripts.primes scripts.below scripts.above scripts.is_exchanged (elements_of p) (elements_in b) some enough put g.leads }
   script_behind b side.Below e some enough put g = cc e

@@ -24,7 +24,7 @@ use Rattle.latex2mathml_tex.specs.declared.parse.frames.Frame.TheVariants as fra
 use Rattle.latex2mathml_tex.proofs.Opening.{into_frame, out_of_frame}
 
 -- the operand of a script, whose frame is taken off
-pub script_taken : (s : Start) (p : Parser) (fr : Frames) (c : CodeCore) (scripts : Scripts) (on : Side) (place : ℕ) (context : Context) (operand : CodeOperand) → IsInnermost p.style p.frames.stack.items (frame.Script c scripts on place context) fr.stack.items → Holds s p (state.Operand operand) → TookScript c scripts on s (record p { frames = fr })
+pub script_taken : (s : Start) (p : Parser) (fr : Frames) (c : CodeCore) (scripts : Scripts) (on : Side) (place : ℕ) (context : Context) (operand : CodeOperand) → IsInnermost p.style p.frames.stack.items (frame.Script c scripts on place context) fr.stack.items → Holds s p (state.Operand operand) → TookScript c scripts on operand.high s (record p { frames = fr })
 script_taken s p fr c scripts on place context operand i g =
     let xs = elements_of p in
     let own = primes_put on scripts.primes + (script_count scripts + 1) in
@@ -35,7 +35,7 @@ script_taken s p fr c scripts on place context operand i g =
     let others : drop own (drop 1 xs) ≡ drop all xs = drop-drop own 1 xs ∙ ap (λ n. drop n xs) count in
     record {
       style = g.style;
-      leads = λ class high. subst (λ ys. ScriptMade (inside s fr.stack.items ys) c scripts on (drop 1 xs) read) others k;
+      leads = λ class. subst (λ ys. ScriptMade (inside s fr.stack.items ys) c scripts on (drop 1 xs) read) others k;
     }
 
 -- the last operand of a command, whose frame is taken off
@@ -66,7 +66,7 @@ first_taken s p fr one place context operand i g =
 
 -- Within a row scripts may follow the atom
 
-pub core_in_row : (s : Start) (p : Parser) (c : CodeCore) (scripts : Scripts) (f : Frame) (e : Ending) (place : ℕ) (context : Context) (row : CodeRow) → InnermostIs f p → f ≡ frame.Row e place context row → scripts ≡ record { primes = 0; below = false; above = false; is_exchanged = false; limits = c.limits; takes_limits = takes_limits (kind_of c.kind) } → Holds s p (state.Core c) → Holds s p (state.Atom c scripts)
+pub core_in_row : (s : Start) (p : Parser) (c : CodeCore) (scripts : Scripts) (f : Frame) (e : Ending) (place : ℕ) (context : Context) (row : CodeRow) → InnermostIs f p → f ≡ frame.Row e place context row → scripts ≡ record { primes = 0; below = false; above = false; is_exchanged = false; limits = c.limits; takes_limits = takes_limits (kind_of c.kind); high = false } → Holds s p (state.Core c) → Holds s p (state.Atom c scripts)
 core_in_row s p c scripts f e place context row (others, i) is none g =
     let xs = drop 1 (elements_of p) in
     let fs = p.frames.stack.items in

@@ -196,7 +196,7 @@ divider_put s p i b c text e put is g = record {
 
 -- Scripts whose base is a row without atoms
 
-pub mark_begins : (s : Start) (p : Parser) (b : Built) (m : Mark) (place : ℕ) (c : CodeCore) (scripts : CodeScripts) → elements_in b ≡ row_element [] ∷ elements_of p → c ≡ record { kind = kind.Plain class.Ordinary; high = false; limits = code_place.Beside } → scripts ≡ record { primes = 0; below = false; above = false; is_exchanged = false; limits = code_place.Beside; takes_limits = false } → TookMark m place (level 0 s p) empty_base (no_scripts empty_base.kind Beside) s p → TookMark m place (inside s p.frames.stack.items (drop (script_count scripts + 1) (elements_in b))) (base_of c scripts (elements_in b)).atom (scripts_with scripts (elements_in b)) s (record p { builder = b })
+pub mark_begins : (s : Start) (p : Parser) (b : Built) (m : Mark) (place : ℕ) (c : CodeCore) (scripts : CodeScripts) → elements_in b ≡ row_element [] ∷ elements_of p → c ≡ record { kind = kind.Plain class.Ordinary; high = false; limits = code_place.Beside } → scripts ≡ record { primes = 0; below = false; above = false; is_exchanged = false; limits = code_place.Beside; takes_limits = false; high = false } → TookMark m place (level 0 s p) empty_base (no_scripts empty_base.kind Beside) s p → TookMark m place (inside s p.frames.stack.items (drop (script_count scripts + 1) (elements_in b))) (base_of c scripts (elements_in b)).atom (scripts_with scripts (elements_in b)) s (record p { builder = b })
 mark_begins s p b m place c scripts put is none g = record {
   style = g.style;
   before = g.before;

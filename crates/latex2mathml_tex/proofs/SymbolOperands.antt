@@ -147,7 +147,7 @@ operand_follows p place x k i b (f, (others, inner), is) read ready =
     }
 
 -- the operand of a script was read without a frame
-pub script_read : (s : Start) (p : Parser) (i : Input) (b : Built) (base : Core) (scripts : Scripts) (on : Side) (place : ℕ) (k : Context) (put : Operand) → s.style ≡ style_of p.style → TookOperand put k p.input i p.builder b → Leads (level_within (frame.Script base scripts on place k) 0 s p) (left_of p) → TookScript base scripts on s (record p { input = i; builder = b })
+pub script_read : (s : Start) (p : Parser) (i : Input) (b : Built) (base : Core) (scripts : Scripts) (on : Side) (place : ℕ) (k : Context) (put : Operand) → s.style ≡ style_of p.style → TookOperand put k p.input i p.builder b → Leads (level_within (frame.Script base scripts on place k) 0 s p) (left_of p) → TookScript base scripts on put.high s (record p { input = i; builder = b })
 script_read s p i b base scripts on place k put style took leads =
     let xs = elements_of p in
     let x = took.operand in
@@ -156,7 +156,8 @@ script_read s p i b base scripts on place k put style took leads =
     let count : all ≡ suc own = omega arith in
     let made : ScriptMade (inside s p.frames.stack.items (drop own xs)) base scripts on xs (Read x (units_at i)) = leads (Read x (units_at i)) (took.reads place) in
     let there : ScriptMade (inside s p.frames.stack.items (drop all (x.element ∷ xs))) base scripts on xs (Read x (units_at i)) = rw count made in
+    let high : put.high ≡ x.high = ap (λ o. o.high) took.is in
     record {
       style = style;
-      leads = λ class high. subst (λ ys. ScriptMade (inside s p.frames.stack.items (drop all ys)) base scripts on (drop 1 ys) (Read (record { element = top ys; class = class; high = high }) (units_at i))) (sym took.put) there;
+      leads = λ class. subst (λ ys. ScriptMade (inside s p.frames.stack.items (drop all ys)) base scripts on (drop 1 ys) (Read (record { element = top ys; class = class; high = put.high }) (units_at i))) (sym took.put) (rw high there);
     }

@@ -7,7 +7,7 @@ use mathlib.Core.List.{reverse_aux}
 use Rattle.latex2mathml_elements.specs.Attributes as attributes
 use Rattle.latex2mathml_elements.specs.Attributes.{Attributes}
 use Rattle.latex2mathml_elements.specs.Columns.{Columns, Alike, Dense, InPairs}
-use Rattle.latex2mathml_elements.specs.Element.{Element, table}
+use Rattle.latex2mathml_elements.specs.{Element.Element, Element.table, Tables.attributes_in}
 use Rattle.latex2mathml_builder.specs.{Built.Built, Built.elements_in, Stacks.table_with}
 use Rattle.latex2mathml_attributes.specs.Columns.{columns_of}
 use Rattle.latex2mathml_attributes.specs.declared.columns.Columns.{Columns as CodeColumns}
@@ -135,11 +135,11 @@ ended_well p q e columns rows at text took s same g =
 
 -- A table is made of its rows
 
-rows_reversed : (a : Attributes) (columns : Columns) (ys : List Element) (x : Element) (xs : List Element) → table_with a columns (reverse_aux ys (x ∷ xs)) ≡ table a (rows_onto columns ys x xs)
+rows_reversed : (a : Attributes) (columns : Columns) (ys : List Element) (x : Element) (xs : List Element) → table_with a columns (reverse_aux ys (x ∷ xs)) ≡ table (attributes_in columns a) (rows_onto columns ys x xs)
 rows_reversed a columns [] x xs = refl
 rows_reversed a columns (y ∷ ys) x xs = rows_reversed a columns ys y (x ∷ xs)
 
-table_of_lines : (a : Attributes) (columns : Columns) (lines : Lines) (xs : List Element) → xs ≡ lines.last ∷ lines.others → table_with a columns (reverse xs) ≡ table a (rows_of columns lines)
+table_of_lines : (a : Attributes) (columns : Columns) (lines : Lines) (xs : List Element) → xs ≡ lines.last ∷ lines.others → table_with a columns (reverse xs) ≡ table (attributes_in columns a) (rows_of columns lines)
 table_of_lines a columns lines xs e = ap (λ k. table_with a columns (reverse k)) e ∙ rows_reversed a columns lines.others lines.last []
 
 pub table_made : (s : Start) (p : Parser) (b : Built) (delimiters : Option (Option ℕ × Option ℕ)) (columns : CodeColumns) (own : Style) (rows : ℕ) (f : Frame) (around : Context) (said : Option MathStyle) (c : CodeCore) → around ≡ frame_context f → InnermostIs f p → option_map math_style_of said ≡ said_style (style_of own) (style_of around.style) → elements_in b ≡ between_any (option_map delimiter_texts delimiters) (table_with (attributes.styled (option_map math_style_of said)) (columns_of columns) (reverse (take rows (elements_of p)))) ∷ drop rows (elements_of p) → ((x : Element) → core_with c x ≡ core (atom (Plain (table_class (option_map delimiter_texts delimiters))) true x)) → MakesTable delimiters columns own rows s p → Holds s (record p { builder = b }) (state.Core c)
@@ -148,7 +148,7 @@ table_made s p b delimiters columns own rows f around said c is inner says put m
     let style : option_map math_style_of said ≡ said_style (style_of own) (context_at (level rows s p)).style = says ∙ ap (λ (k : RuleContext). said_style (style_of own) k.style) outer in
     let texts = option_map delimiter_texts delimiters in
     let a = attributes.styled (said_style (style_of own) (context_at (level rows s p)).style) in
-    let x = between_any texts (table a (rows_of (columns_of columns) g.lines)) in
+    let x = between_any texts (table (attributes_in (columns_of columns) a) (rows_of (columns_of columns) g.lines)) in
     let one : elements_in b ≡ x ∷ drop rows (elements_of p) =
     put
     ∙ ap (λ k. between_any texts (table_with (attributes.styled k) (columns_of columns) (reverse (take rows (elements_of p)))) ∷ drop rows (elements_of p)) style

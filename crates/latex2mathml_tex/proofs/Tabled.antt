@@ -1,15 +1,17 @@
 -- What holds of the parser within tables.
-use Rattle.std.proofs.Common.{◌≡◌, ℕ, zero, suc, ◌+◌, ◌<◌, ◌≤◌, Bool, true, false, List, [], ◌∷◌, drop, length, take, refl, sym, ap, subst, ◌∙◌, arith}
+use Rattle.std.proofs.Common.{◌≡◌, ℕ, zero, suc, ◌+◌, ◌<◌, ◌≤◌, List, [], ◌∷◌, drop, length, take, refl, sym, ap, subst, ◌∙◌, arith}
 use Rattle.std.proofs.lemmas.List.{drop-drop, length-drop, length-take-le}
 use Rattle.latex2mathml_elements.specs.Columns.{Columns, column_at}
-use Rattle.latex2mathml_elements.specs.Element.{Element}
+use Rattle.latex2mathml_elements.specs.Element.{Element, rectangle}
+use Rattle.latex2mathml_elements.specs.Lines.{Line, NoLine, OneLine, TwoLines, Dashes}
+use Rattle.latex2mathml_elements.specs.Tables.{row_line}
 use Rattle.latex2mathml_builder.specs.Built.{Built, elements_in}
 use Rattle.latex2mathml_attributes.specs.Columns.{columns_of}
-use Rattle.latex2mathml_tex_grammar.specs.{RowLines.line_next, RowLines.lined, RowLines.row_line, Rows.Row, Rows.row_element, Scanning.BeforeRow, Scanning.past, Scanning.past_break, Scanning.past_gap}
+use Rattle.latex2mathml_tex_grammar.specs.{RowLines.line_next, RowLines.lined, Atoms.Kind, Rows.Row, Rows.lone, Rows.row_element, Scanning.BeforeRow, Scanning.past, Scanning.past_break, Scanning.past_gap}
 use Rattle.latex2mathml_tex_grammar.specs.Reading.{Outcome, Read, Refused, ReadsAtoms, ReadsRows, cell_read, cell_refused, next_cell, next_row, table_ends, text_ends_table}
 use Rattle.latex2mathml_tex_grammar.specs.Rules.{Context as RuleContext, InCell, TableEnd, in_context, styled}
 use Rattle.latex2mathml_tex_grammar.specs.Starts.{PartsCells, EndsRow, EndsTable as TableEnds, cell_end}
-use Rattle.latex2mathml_tex_grammar.specs.Tables.{Lines, a_row, before_cell, begun_cell, with_last}
+use Rattle.latex2mathml_tex_grammar.specs.Tables.{Lines, a_row, before_cell, begun_cell, cell_of, with_last}
 use Rattle.latex2mathml_tex_grammar.specs.Units.{Units, End}
 use Rattle.latex2mathml_tex.specs.Frames.{Start, context_at, inside}
 use Rattle.latex2mathml_tex.specs.Innermost.{frame_context}
@@ -17,12 +19,12 @@ use Rattle.latex2mathml_tex_atoms.specs.Models.{empty_row}
 use Rattle.latex2mathml_tex.specs.Levels.{CoreMade, Leads, Level, RuleLeads}
 use Rattle.latex2mathml_tex_units.specs.{Left.units_at, Taking.piece_of, Taking.unit_of}
 use Rattle.latex2mathml_tex_commands.specs.Meanings.{style_of}
-use Rattle.latex2mathml_tex_atoms.specs.Models.{before_of, context_of, row_count, row_with}
+use Rattle.latex2mathml_tex_atoms.specs.Models.{before_of, context_of, kind_of, row_count, row_with}
 use Rattle.latex2mathml_tex.specs.Steps.{BeginsTable, CanMake, ClosesCell, EndsCells, EndsRows, GoesOnTable, InnermostIs, core_made, elements_of, left_of, level, level_within}
 use Rattle.latex2mathml_tex.specs.Tables.{CellMade, RowsLead, TableMade, behind_rows, cell_context, cells_of, line_count, rows_of, style_in, table_end}
 use Rattle.latex2mathml_tex_units.specs.declared.{input.Input.Input, unit.Unit.Unit as CodeUnit}
 use Rattle.latex2mathml_tex_commands.specs.declared.meaning.Style.{Style}
-use Rattle.latex2mathml_tex_atoms.specs.declared.{atoms.Context.Context, atoms.Row.Row as CodeRow}
+use Rattle.latex2mathml_tex_atoms.specs.declared.{atoms.Context.Context, atoms.Kind.Kind as CodeKind, atoms.Row.Row as CodeRow}
 use Rattle.latex2mathml_tex.specs.declared.parse.Parser.{Parser}
 use Rattle.latex2mathml_tex.specs.declared.parse.frames.{Frame.Frame, Table.Table, TableKind.TableKind}
 use Rattle.latex2mathml_attributes.specs.declared.columns.Columns.{Columns as CodeColumns}
@@ -83,24 +85,32 @@ goes_on s q t place rows cells ys style r c d due = record {
 
 -- A line before a row
 
-lined_taken : (line : Bool) (n : ℕ) (x : Element) (xs : List Element) → take (n + 1 + line_count line) (lined line (x ∷ xs)) ≡ lined line (x ∷ take n xs)
-lined_taken true n x xs = take_more (n + 1) row_line (x ∷ xs) ∙ ap (λ l. row_line ∷ l) (take_more n x xs)
-lined_taken false n x xs = (let more : n + 1 + 0 ≡ n + 1 = omega arith in ap (λ k. take k (x ∷ xs)) more ∙ take_more n x xs)
+lined_taken : (line : Line) (n : ℕ) (x : Element) (xs : List Element) → take (n + 1 + line_count line) (lined line (x ∷ xs)) ≡ lined line (x ∷ take n xs)
+lined_taken NoLine n x xs = (let more : n + 1 + 0 ≡ n + 1 = omega arith in ap (λ k. take k (x ∷ xs)) more ∙ take_more n x xs)
+lined_taken OneLine n x xs = take_more (n + 1) (rectangle (row_line OneLine)) (x ∷ xs) ∙ ap (λ l. rectangle (row_line OneLine) ∷ l) (take_more n x xs)
+lined_taken TwoLines n x xs = take_more (n + 1) (rectangle (row_line TwoLines)) (x ∷ xs) ∙ ap (λ l. rectangle (row_line TwoLines) ∷ l) (take_more n x xs)
+lined_taken Dashes n x xs = take_more (n + 1) (rectangle (row_line Dashes)) (x ∷ xs) ∙ ap (λ l. rectangle (row_line Dashes) ∷ l) (take_more n x xs)
 
-lined_dropped : (line : Bool) (n : ℕ) (x : Element) (xs : List Element) → drop (n + 1 + line_count line) (lined line (x ∷ xs)) ≡ drop n xs
-lined_dropped true n x xs = drop_more (n + 1) row_line (x ∷ xs) ∙ drop_more n x xs
-lined_dropped false n x xs = (let more : n + 1 + 0 ≡ n + 1 = omega arith in ap (λ k. drop k (x ∷ xs)) more ∙ drop_more n x xs)
+lined_dropped : (line : Line) (n : ℕ) (x : Element) (xs : List Element) → drop (n + 1 + line_count line) (lined line (x ∷ xs)) ≡ drop n xs
+lined_dropped NoLine n x xs = (let more : n + 1 + 0 ≡ n + 1 = omega arith in ap (λ k. drop k (x ∷ xs)) more ∙ drop_more n x xs)
+lined_dropped OneLine n x xs = drop_more (n + 1) (rectangle (row_line OneLine)) (x ∷ xs) ∙ drop_more n x xs
+lined_dropped TwoLines n x xs = drop_more (n + 1) (rectangle (row_line TwoLines)) (x ∷ xs) ∙ drop_more n x xs
+lined_dropped Dashes n x xs = drop_more (n + 1) (rectangle (row_line Dashes)) (x ∷ xs) ∙ drop_more n x xs
 
-line_taken : (line : Bool) (xs : List Element) → take (line_count line) (lined line xs) ≡ lined line []
-line_taken true xs = refl
-line_taken false xs = refl
+line_taken : (line : Line) (xs : List Element) → take (line_count line) (lined line xs) ≡ lined line []
+line_taken NoLine xs = refl
+line_taken OneLine xs = refl
+line_taken TwoLines xs = refl
+line_taken Dashes xs = refl
 
-line_dropped : (line : Bool) (xs : List Element) → drop (line_count line) (lined line xs) ≡ xs
-line_dropped true xs = refl
-line_dropped false xs = refl
+line_dropped : (line : Line) (xs : List Element) → drop (line_count line) (lined line xs) ≡ xs
+line_dropped NoLine xs = refl
+line_dropped OneLine xs = refl
+line_dropped TwoLines xs = refl
+line_dropped Dashes xs = refl
 
 -- the first cell of a table is due, after the line before its row
-pub first_begins : (s : Start) (p : Parser) (b : Built) (i : Input) (k : TableKind) (columns : CodeColumns) (place : ℕ) (v : Table) (line : Bool) → v ≡ record { kind = k; columns = columns; rows = line_count line; cells = 0 } → elements_in b ≡ lined line (elements_of p) → line ≡ line_next (left_of p) → units_at i ≡ past BeforeRow (left_of p) → BeginsTable k columns place s p → GoesOnTable v place s (record p { builder = b; input = i })
+pub first_begins : (s : Start) (p : Parser) (b : Built) (i : Input) (k : TableKind) (columns : CodeColumns) (place : ℕ) (v : Table) (line : Line) → v ≡ record { kind = k; columns = columns; rows = line_count line; cells = 0 } → elements_in b ≡ lined line (elements_of p) → line ≡ line_next (left_of p) → units_at i ≡ past BeforeRow (left_of p) → BeginsTable k columns place s p → GoesOnTable v place s (record p { builder = b; input = i })
 first_begins s p b i k columns place v line is put follows units g =
     let n = line_count line in
     let next : Table = record { kind = k; columns = columns; rows = n; cells = 0 } in
@@ -121,6 +131,12 @@ some_first zero xs some there = absurd (omega arith)
 some_first (suc n) [] some there = absurd (omega arith)
 some_first (suc n) (x ∷ xs) some there = (x, (take n xs, refl))
 
+-- no element is lost where a sign is all of a cell
+lone_length : (last : Kind) (xs : List Element) → length (lone last xs) ≡ length xs
+lone_length last [] = refl
+lone_length last (x ∷ []) = refl
+lone_length last (x ∷ y ∷ xs) = refl
+
 kept_last : (rows cells cell : List Element) → (length cell ≡ 0 → length cells ≡ 0 → length rows ≡ 0) → with_last rows cells cell ≡ record { last = a_row (row_element cell ∷ cells); others = rows }
 kept_last [] cells cell h = refl
 kept_last (row ∷ rows) (x ∷ cells) cell h = refl
@@ -138,7 +154,7 @@ module _ (s : Start) (p : Parser) (t : Table) (place : ℕ) (row : CodeRow) (u :
   below = drop row.count (elements_of p)
 
   abbrev cell : Element
-  cell = row_element (take row.count (elements_of p))
+  cell = row_element (lone (kind_of row.last) (take row.count (elements_of p)))
 
   abbrev outside : List Element
   outside = drop (row.count + (t.cells + t.rows)) (elements_of p)
@@ -156,7 +172,7 @@ module _ (s : Start) (p : Parser) (t : Table) (place : ℕ) (row : CodeRow) (u :
       subst (λ v. GoesOnTable v place s (record p { builder = b })) (sym is)
       (goes_on s (record p { builder = b }) next place (rows_of t below) (cell ∷ cells_of t below) outside g.style rows cells all (λ o d. g.leads o (next_cell g.next (sym ends) d)))
 
-  pub row_broken : (b : Built) (i : Input) (v : Table) (line : Bool) → v ≡ record t { rows = t.rows + 1 + line_count line; cells = 0 } → elements_in b ≡ lined line (a_row (cell ∷ cells_of t below) ∷ drop t.cells below) → line ≡ line_next (past_gap (left_of p)) → units_at i ≡ past_break (left_of p) → EndsRow ≡ cell_end (piece_of u.piece) → GoesOnTable v place s (record p { builder = b; input = i })
+  pub row_broken : (b : Built) (i : Input) (v : Table) (line : Line) → v ≡ record t { rows = t.rows + 1 + line_count line; cells = 0 } → elements_in b ≡ lined line (a_row (cell ∷ cells_of t below) ∷ drop t.cells below) → line ≡ line_next (past_gap (left_of p)) → units_at i ≡ past_break (left_of p) → EndsRow ≡ cell_end (piece_of u.piece) → GoesOnTable v place s (record p { builder = b; input = i })
   row_broken b i v line is put follows units ends =
       let n = t.rows + 1 + line_count line in
       let next : Table = record t { rows = n; cells = 0 } in
@@ -170,26 +186,29 @@ module _ (s : Start) (p : Parser) (t : Table) (place : ℕ) (row : CodeRow) (u :
       (goes_on s (record p { builder = b; input = i }) next place (lined line (last ∷ rows_of t below)) [] outside g.style rows refl all (subst (λ m. Due next place (lined line (last ∷ rows_of t below)) [] (inside s p.frames.stack.items outside) m) (sym units) due_with))
 
   -- the table ends after the cell
-  pub cell_ends : PickedEnd u → EndsCells t row.count u.place s p
+  pub cell_ends : PickedEnd u → EndsCells t row.count row.last u.place s p
   cell_ends ends = record { style = g.style; leads = (g.leads _ (table_ends g.next (sym ends))).at_unit (unit_of u) (left_of p) g.next }
 
 -- the table ends after the cell where the text ends
-pub text_ends_cell : (s : Start) (p : Parser) (t : Table) (place at n : ℕ) (row : Row) → s.style ≡ style_of p.style → left_of p ≡ End at → row.elements ≡ take n (elements_of p) → TableMade t place (drop n (elements_of p)) (context_at (level (n + (t.cells + t.rows)) s p)) (CoreMade (level (n + (t.cells + t.rows)) s p)) (Read row (End at)) → EndsCells t n at s p
-text_ends_cell s p t place at n row style left cell k =
+pub text_ends_cell : (s : Start) (p : Parser) (t : Table) (place at n : ℕ) (last : CodeKind) (row : Row) → s.style ≡ style_of p.style → left_of p ≡ End at → cell_of row ≡ lone (kind_of last) (take n (elements_of p)) → TableMade t place (drop n (elements_of p)) (context_at (level (n + (t.cells + t.rows)) s p)) (CoreMade (level (n + (t.cells + t.rows)) s p)) (Read row (End at)) → EndsCells t n last at s p
+text_ends_cell s p t place at n last row style left cell k =
     let l = level (n + (t.cells + t.rows)) s p in
     let due = (k _ (text_ends_table refl)).at_end at refl in
     record {
       style = style;
-      leads = subst (λ m. RuleLeads (behind_rows t (context_at l) (with_last (rows_of t (drop n (elements_of p))) (cells_of t (drop n (elements_of p))) (take n (elements_of p))) at) (CoreMade l) m) (sym left)
+      leads = subst (λ m. RuleLeads (behind_rows t (context_at l) (with_last (rows_of t (drop n (elements_of p))) (cells_of t (drop n (elements_of p))) (lone (kind_of last) (take n (elements_of p)))) at) (CoreMade l) m) (sym left)
           (subst (λ xs. RuleLeads (behind_rows t (context_at l) (with_last (rows_of t (drop n (elements_of p))) (cells_of t (drop n (elements_of p))) xs) at) (CoreMade l) (End at)) cell due);
     }
 
-module _ (s : Start) (p : Parser) (t : Table) (count at : ℕ) (g : EndsCells t count at s p) where
+module _ (s : Start) (p : Parser) (t : Table) (count : ℕ) (kind : CodeKind) (at : ℕ) (g : EndsCells t count kind at s p) where
   abbrev behind : List Element
   behind = drop count (elements_of p)
 
+  abbrev atoms : List Element
+  atoms = lone (kind_of kind) (take count (elements_of p))
+
   abbrev last_cell : Element
-  last_cell = row_element (take count (elements_of p))
+  last_cell = row_element atoms
 
   abbrev beyond : List Element
   beyond = drop (count + (t.cells + t.rows)) (elements_of p)
@@ -208,9 +227,9 @@ module _ (s : Start) (p : Parser) (t : Table) (count at : ℕ) (g : EndsCells t 
       let beside : count + (t.cells + t.rows) ≡ t.rows = omega (arith, empty, no_cells) in
       let (last, (rest, split)) = some_first t.rows (elements_of p) some there in
       let cells : cells_of t behind ≡ [] = ap (λ n. take n behind) no_cells in
-      let atoms : take count (elements_of p) ≡ [] = ap (λ n. take n (elements_of p)) empty in
-      let lines : with_last (rows_of t behind) (cells_of t behind) (take count (elements_of p)) ≡ record { last = last; others = rest } =
-      ap (λ k. with_last k (cells_of t behind) (take count (elements_of p))) (sym others ∙ split) ∙ ap (λ k. with_last (last ∷ rest) k (take count (elements_of p))) cells ∙ ap (with_last (last ∷ rest) []) atoms in
+      let no_atoms : atoms ≡ [] = ap (λ n. lone (kind_of kind) (take n (elements_of p))) empty in
+      let lines : with_last (rows_of t behind) (cells_of t behind) atoms ≡ record { last = last; others = rest } =
+      ap (λ k. with_last k (cells_of t behind) atoms) (sym others ∙ split) ∙ ap (λ k. with_last (last ∷ rest) k atoms) cells ∙ ap (with_last (last ∷ rest) []) no_atoms in
       record {
         style = g.style;
         lines = record { last = last; others = rest };
@@ -224,9 +243,9 @@ module _ (s : Start) (p : Parser) (t : Table) (count at : ℕ) (g : EndsCells t 
       let lines : Lines = record { last = last; others = rows_of t behind } in
       let rows_there : length (rows_of t behind) ≡ t.rows = length-take-le t.rows (drop t.cells behind) (count_left t.rows t.cells count (elements_of p) there) in
       let cells_there : length (cells_of t behind) ≡ t.cells = length-take-le t.cells behind (count_below t.cells count (elements_of p) (omega (arith, there))) in
-      let atoms_there : length (take count (elements_of p)) ≡ count = length-take-le count (elements_of p) (omega (arith, there)) in
-      let whole : with_last (rows_of t behind) (cells_of t behind) (take count (elements_of p)) ≡ lines =
-      kept_last (rows_of t behind) (cells_of t behind) (take count (elements_of p)) (λ e f. rows_there ∙ no_other (sym atoms_there ∙ e) (sym cells_there ∙ f)) in
+      let atoms_there : length atoms ≡ count = lone_length (kind_of kind) (take count (elements_of p)) ∙ length-take-le count (elements_of p) (omega (arith, there)) in
+      let whole : with_last (rows_of t behind) (cells_of t behind) atoms ≡ lines =
+      kept_last (rows_of t behind) (cells_of t behind) atoms (λ e f. rows_there ∙ no_other (sym atoms_there ∙ e) (sym cells_there ∙ f)) in
       let first : take (t.rows + 1) (elements_in b) ≡ last ∷ rows_of t behind = ap (take (t.rows + 1)) put ∙ take_more t.rows last (drop t.cells behind) in
       let all : drop (t.rows + 1) (elements_in b) ≡ beyond = ap (drop (t.rows + 1)) put ∙ drop_more t.rows last (drop t.cells behind) ∙ drop-drop t.rows t.cells behind ∙ beyond_is in
       record {

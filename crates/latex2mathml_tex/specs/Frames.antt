@@ -1,6 +1,6 @@
 -- What the parser's frames mean: each is a level that was entered. A frame holds no elements: those that were read for it are
 -- the first of the elements that are given next to it, the uppermost first.
-use Rattle.std.specs.Prelude.{◌≡◌, ℕ, zero, suc, ◌+◌, true, IsFalse, List, [], ◌∷◌, drop, reverse, option_map, Some}
+use Rattle.std.specs.Prelude.{◌≡◌, ℕ, zero, suc, ◌+◌, Bool, true, IsFalse, List, [], ◌∷◌, drop, reverse, option_map, Some}
 use Rattle.latex2mathml_elements.specs.{Attributes.Above, Attributes.plain, Element.Element, Element.Mover, Element.Munderover, Element.pair, Element.triple}
 use Rattle.latex2mathml_attributes.specs.Names.{side_of, stretch_of}
 use Rattle.latex2mathml_tex_grammar.specs.Makes as makes
@@ -140,10 +140,10 @@ abbrev pub behind_mark : ℕ → List Element → Element → Element
 behind_mark zero xs x = x
 behind_mark (suc n) xs x = row_element (x ∷ top xs ∷ [])
 
--- the scripts with this element on a side
-abbrev pub with_script : Side → makes.Scripts → List Element → Element → makes.Scripts
-with_script side.Below scripts xs x = record scripts { below = Some x }
-with_script side.Above scripts xs x = record scripts { above = Some (behind_mark scripts.primes xs x) }
+-- the scripts with this element on a side, which may be higher than a letter
+abbrev pub with_script : Side → makes.Scripts → List Element → Element → Bool → makes.Scripts
+with_script side.Below scripts xs x high = record scripts { below = Some x; high = high }
+with_script side.Above scripts xs x high = record scripts { above = Some (behind_mark scripts.primes xs x) }
 
 -- the elements given next to a script's frame, without the mark of primes
 abbrev pub past_primes : Side → Scripts → List Element → List Element
@@ -157,7 +157,7 @@ base_of c scripts xs = core_with c (top (drop (script_count scripts) xs))
 abbrev pub ScriptMade : Level → CodeCore → Scripts → Side → List Element → Outcome Operand → Type 0
 ScriptMade l c scripts s xs (Read x m) =
     IsFalse (has_script s scripts)
-    × ScriptsLead l (base_of c scripts (past_primes s scripts xs)).atom (with_script s (scripts_with scripts (past_primes s scripts xs)) xs x.element) m
+    × ScriptsLead l (base_of c scripts (past_primes s scripts xs)).atom (with_script s (scripts_with scripts (past_primes s scripts xs)) xs x.element x.high) m
 ScriptMade l c scripts s xs (Refused r) = AtomMade l (Refused r)
 
 -- Frames

@@ -15,7 +15,7 @@ use Rattle.latex2mathml_tex.specs.declared.parse.plain.InRow.TheVariants as in_r
 
 -- the scripts of an atom that has none yet
 abbrev pub lone_scripts : Core → Scripts
-lone_scripts core = record { primes = 0; below = false; above = false; is_exchanged = false; limits = core.limits; takes_limits = takes_limits (kind_of core.kind) }
+lone_scripts core = record { primes = 0; below = false; above = false; is_exchanged = false; limits = core.limits; takes_limits = takes_limits (kind_of core.kind); high = false }
 
 -- a unit comes next that is this piece
 abbrev pub IsNext : Piece → Parser → Type 0

@@ -9,7 +9,7 @@ use Rattle.latex2mathml_tex_grammar.specs.Makes.{Scripts, core, divider}
 use Rattle.latex2mathml_tex_grammar.specs.Meaning.{Change}
 use Rattle.latex2mathml_tex_grammar.specs.Next.{past_space}
 use Rattle.latex2mathml_tex_grammar.specs.Reading.{Read, Refused, Outcome, ReadsRows}
-use Rattle.latex2mathml_tex_grammar.specs.{Refusal.Refusal, Rests.finished, Rows.Row, Starts.unended}
+use Rattle.latex2mathml_tex_grammar.specs.{Refusal.Refusal, Rests.finished, Rows.Row, Rows.lone, Starts.unended}
 use Rattle.latex2mathml_attributes.specs.Columns.{columns_of}
 use Rattle.latex2mathml_tex_units.specs.Environments.{delimiter_texts}
 use Rattle.latex2mathml_tex.specs.Tables.{RowsLead, after_rows, behind_rows, cell_context, cells_of, ended_by, rows_of, style_in, table_end}
@@ -30,11 +30,11 @@ use Rattle.latex2mathml_tex.specs.Frames.{RowMade, ScriptMade, Start, Whole, aft
 use Rattle.latex2mathml_tex_units.specs.Left.{unit_count, units_at}
 use Rattle.latex2mathml_tex.specs.Levels.{AtomMade, CoreMade, Leads, Level, OperandMade, PartMade, RestLeads, RuleLeads, ScriptsLead, Then, WordLeads, as_atom}
 use Rattle.latex2mathml_tex_commands.specs.Meanings.{alphabet_of, limit_place_of, style_of}
-use Rattle.latex2mathml_tex_atoms.specs.Models.{context_of, core_with, operand_with, row_count, row_with, script_count, scripts_with, top, words_with}
+use Rattle.latex2mathml_tex_atoms.specs.Models.{context_of, core_with, kind_of, operand_with, row_count, row_with, script_count, scripts_with, top, words_with}
 use Rattle.latex2mathml_tex.specs.Numbers.{after_point}
 use Rattle.latex2mathml_tex_commands.specs.declared.{meaning.Alphabet.Alphabet as CodeAlphabet, meaning.Style.Style as CodeStyle}
 use Rattle.latex2mathml_tex_units.specs.declared.unit.Unit.{Unit}
-use Rattle.latex2mathml_tex_atoms.specs.declared.{atoms.Context.Context, atoms.Core.Core as CodeCore, atoms.Operand.Operand as CodeOperand, atoms.Row.Row as CodeRow, atoms.Scripts.Scripts as CodeScripts, atoms.Words.Words as CodeWords}
+use Rattle.latex2mathml_tex_atoms.specs.declared.{atoms.Context.Context, atoms.Core.Core as CodeCore, atoms.Kind.Kind as AtomKind, atoms.Operand.Operand as CodeOperand, atoms.Row.Row as CodeRow, atoms.Scripts.Scripts as CodeScripts, atoms.Words.Words as CodeWords}
 use Rattle.latex2mathml_tex.specs.declared.{parse.Form.Form, parse.Parser.Parser, parse.State.State, parse.scripts.Mark.Mark}
 use Rattle.latex2mathml_tex.specs.declared.parse.scripts.Mark.TheVariants as mark
 use Rattle.latex2mathml_attributes.specs.declared.attributes.Side.TheVariants as side
@@ -265,10 +265,10 @@ pub record TookMark (m : Mark) (place : ℕ) (l : Level) (base : Atom) (scripts 
   pub at : unit.place ≡ place
   pub leads : ScriptsLead l base scripts before
 
--- The uppermost element is the operand of a script of this atom.
-pub record TookScript (c : CodeCore) (scripts : CodeScripts) (on : Side) (s : Start) (p : Parser) : Type 0 where
+-- The uppermost element is the operand of a script of this atom, and is higher than a letter, if so.
+pub record TookScript (c : CodeCore) (scripts : CodeScripts) (on : Side) (high : Bool) (s : Start) (p : Parser) : Type 0 where
   pub style : s.style ≡ style_of p.style
-  pub leads : (class : Class) (high : Bool) → ScriptMade (level (primes_put on scripts.primes + (script_count scripts + 2)) s p) c scripts on (drop 1 (elements_of p))
+  pub leads : (class : Class) → ScriptMade (level (primes_put on scripts.primes + (script_count scripts + 2)) s p) c scripts on (drop 1 (elements_of p))
       (Read (record { element = top (elements_of p); class = class; high = high }) (left_of p))
 
 -- An operand that others follow was read; its element is uppermost, and below it are those of the operands before it.
@@ -328,10 +328,10 @@ pub record BeginsTable (k : TableKind) (columns : Columns) (place : ℕ) (s : St
       → ReadsRows (ended_by k) place (columns_of columns) (styled (context_at (level 0 s p)) (style_in k)) (lined (line_next (left_of p)) []) [] (past BeforeRow (left_of p)) o
       → RowsLead (after_rows k (columns_of columns) (context_at (level 0 s p))) (CoreMade (level 0 s p)) o
 
--- A table ends at this place, after its last cell, whose elements are the `count` uppermost ones.
-pub record EndsCells (t : Table) (count at : ℕ) (s : Start) (p : Parser) : Type 0 where
+-- A table ends at this place, after its last cell, whose elements are the `count` uppermost ones, and whose last atom is of this kind.
+pub record EndsCells (t : Table) (count : ℕ) (last : AtomKind) (at : ℕ) (s : Start) (p : Parser) : Type 0 where
   pub style : s.style ≡ style_of p.style
-  pub leads : RuleLeads (behind_rows t (context_at (level (count + (t.cells + t.rows)) s p)) (with_last (rows_of t (drop count (elements_of p))) (cells_of t (drop count (elements_of p))) (take count (elements_of p))) at)
+  pub leads : RuleLeads (behind_rows t (context_at (level (count + (t.cells + t.rows)) s p)) (with_last (rows_of t (drop count (elements_of p))) (cells_of t (drop count (elements_of p))) (lone (kind_of last) (take count (elements_of p)))) at)
       (CoreMade (level (count + (t.cells + t.rows)) s p)) (left_of p)
 
 -- The end of a table was taken at this place. Its rows are the `rows` uppermost elements.

@@ -1,12 +1,12 @@
 -- The tables that the parser reads, as the definitions have them.
-use Rattle.std.specs.Prelude.{◌≡◌, ℕ, Bool, true, false, List, drop, None, take}
+use Rattle.std.specs.Prelude.{◌≡◌, ℕ, List, drop, None, take}
 use Rattle.std.specs.Str.{bytes_eq}
 use Rattle.latex2mathml_elements.specs.Columns.{Columns as DefinedColumns}
 use Rattle.latex2mathml_attributes.specs.Columns.{columns_of}
-use Rattle.latex2mathml_tex_grammar.specs.{Next.past_space, Reading.ReadsBehindCell, Rows.Row, Tables.Lines, Tables.a_table}
+use Rattle.latex2mathml_tex_grammar.specs.{Next.past_space, Reading.ReadsBehindCell, Rows.Row, Tables.Lines, Tables.a_table, Tables.cell_of}
 use Rattle.latex2mathml_tex_grammar.specs.Makes.{Core}
 use Rattle.latex2mathml_tex_grammar.specs.Reading.{Outcome, Read, Refused}
-use Rattle.latex2mathml_elements.specs.Element.{Element}
+use Rattle.latex2mathml_elements.specs.{Element.Element, Lines.Line, Lines.NoLine}
 use Rattle.latex2mathml_tex_grammar.specs.Rules.{Context, TableEnd, ByName, ByBrace, ByText, Rule, gives, styled, takes_found, ended_table}
 use Rattle.latex2mathml_tex_grammar.specs.Scanning.{BeforeArgument, Name}
 use Rattle.latex2mathml_tex_grammar.specs.Starts as starts
@@ -65,13 +65,13 @@ RowsLead then K (Refused r) = K (Refused r)
 
 -- where the outcome of a cell leads, after these rows and these cells
 abbrev pub CellMade : TableEnd → ℕ → DefinedColumns → Context → List Element → List Element → (Outcome Lines → Type 0) → Outcome Row → Type 0
-CellMade end place columns c rows cells K (Read row m) = (o : Outcome Lines) → ReadsBehindCell end place columns c rows cells row.elements m o → K o
+CellMade end place columns c rows cells K (Read row m) = (o : Outcome Lines) → ReadsBehindCell end place columns c rows cells (cell_of row) m o → K o
 CellMade end place columns c rows cells K (Refused r) = K (Refused r)
 
 -- how many elements a line before a row is, where there may be one
-abbrev pub line_count : Bool → ℕ
-line_count true = 1
-line_count false = 0
+abbrev pub line_count : Line → ℕ
+line_count NoLine = 0
+line_count line = 1
 
 -- the rows of a table, with the lines among them, and the cells of the next row, whose elements are the first of these
 abbrev pub cells_of : Table → List Element → List Element

@@ -149,4 +149,5 @@ scripts_with s xs = record {
   above = element_above s.below s.above s.is_exchanged xs;
   limits = limit_place_of s.limits;
   takes_limits = s.takes_limits;
+  high = s.high;
 }

@@ -397,6 +397,8 @@ pub struct Scripts {
     pub limits: LimitPlace,
     /// Whether the place of the limits can be specified.
     pub takes_limits: bool,
+    /// Whether the script below is higher than a letter.
+    pub high: bool,
 }
 
 impl Scripts {
@@ -409,6 +411,7 @@ impl Scripts {
           is_exchanged = false;
           limits = limits;
           takes_limits = Makes.takes_limits (kind_of kind);
+          high = false;
         } }
     {
         Scripts {
@@ -418,6 +421,7 @@ impl Scripts {
             is_exchanged: false,
             limits,
             takes_limits: kind.takes_limits(),
+            high: false,
         }
     }
 

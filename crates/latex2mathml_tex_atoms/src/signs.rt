@@ -32,11 +32,21 @@ pub(crate) fn is_put_as_it_is(style: Style, first: bool, before: Before, kind: K
         Kind::Plain(Class::Operator) | Kind::SignOf(Class::Operator) => !before.leads_operator(),
         Kind::Plain(_) => true,
         Kind::SignOf(Class::Relation) => keeps_space(style) && !before.leads_relation(),
-        Kind::SignOf(Class::Binary) => keeps_space(style) && (first || !before.begins_operand()),
+        Kind::SignOf(Class::Binary) => {
+            keeps_space(style) && (!before.begins_operand() || begins_group(first, before))
+        }
         Kind::SignOf(_) => keeps_space(style),
         Kind::PlusOrMinus => keeps_space(style) && !first && !before.begins_operand(),
         Kind::UprightLetters | Kind::FunctionWord | Kind::Divider | Kind::Blank => false,
     }
+}
+
+/// Whether an atom begins a group, which may be an operand.
+#[inline(always)]
+fn begins_group(first: bool, before: Before) -> bool
+    ensures { result ≡ Atoms.begins_group first (before_of before) }
+{
+    first && matches!(before, Before::Nothing)
 }
 
 /// Whether signs keep the space around them.
@@ -92,7 +102,7 @@ fn adapt_sign(
 {
     match class {
         Class::Binary if before.begins_operand() => {
-            if !first {
+            if !begins_group(first, before) {
                 remove_space(builder, depth);
             }
         }

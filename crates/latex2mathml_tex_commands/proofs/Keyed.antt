@@ -3,7 +3,7 @@ use Rattle.std.proofs.Common.{◌≡◌, ◌∙◌, ℕ, ◌+◌, ◌<◌, ◌/�
 use Rattle.std.specs.{Cmp.Lexicographic.slice_cmp, Cmp.nat_cmp_is, List.AllPass, Ordering.nat_cmp}
 use Rattle.std.specs.declared.cmp.Ordering.TheVariants.{Equal}
 use Rattle.latex2mathml_tex_grammar.specs.Meaning.{Meaning}
-use Rattle.latex2mathml_tokens.specs.Keys.{is_key}
+use Rattle.latex2mathml_tokens.specs.Entries.{is_key}
 use Rattle.latex2mathml_tokens.proofs.Keys.{key_less, key_greater, key_tied}
 use Rattle.latex2mathml_tex_commands.specs.{Keys.IsCandidate, Keys.has_key, Meanings.entry_of, declared.meaning.Entry.Entry}
 use Rattle.latex2mathml_tex_commands.proofs.Lookups.{Narrowed, equal_names, its_meaning, kept_left, kept_right, meaning_is, named, nonempty}

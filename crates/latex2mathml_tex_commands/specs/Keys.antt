@@ -1,6 +1,6 @@
 -- The keys of the code's entries.
 use Rattle.std.specs.Prelude.{◌≡◌, ℕ, Bool, List, IsTrue, Some}
-use Rattle.latex2mathml_tokens.specs.Keys.{is_key}
+use Rattle.latex2mathml_tokens.specs.Entries.{is_key}
 use Rattle.latex2mathml_tex_grammar.specs.{Commands.entry_meaning, Commands.meaning_of, Meaning.Meaning}
 use Rattle.latex2mathml_tex_commands.specs.Meanings as meanings
 use Rattle.latex2mathml_tex_commands.specs.declared.meaning.Entry.{Entry}

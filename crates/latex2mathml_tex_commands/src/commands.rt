@@ -1,7 +1,7 @@
 //! The look-up of commands.
 ghost use Rattle.std.specs.Prelude.{◌≡◌, ◌<◌, IsTrue, map, get_or, length, Some, None, MatchOption};
 ghost use Rattle.std.specs.{Cmp.Lexicographic.slice_cmp, List.AllPass, List.list_all, Ordering.nat_cmp};
-ghost use Rattle.latex2mathml_tokens.specs.Keys.{is_key};
+ghost use Rattle.latex2mathml_tokens.specs.Entries.{is_key};
 ghost use Rattle.latex2mathml_tex_grammar.specs.{Commands.entry_meaning, Commands.meaning_of, Sorted.ascending};
 ghost use Rattle.latex2mathml_tex_commands.specs.Meanings;
 ghost use Rattle.latex2mathml_tex_commands.specs.{Meanings.entry_of, Keys.IsCandidate, Keys.MeansIfNamed, Keys.has_key, Parts.entries_in, Parts.part_of, Parts.part_with};

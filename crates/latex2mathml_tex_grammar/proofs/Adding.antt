@@ -1,12 +1,12 @@
 -- What expansion adds to units: nothing but what is in them and in macros.
 use Rattle.std.proofs.Common.{ℕ, zero, suc, ◌+◌, ◌≡◌, Bool, true, false, List, [], ◌∷◌, ◌++◌, length, codes, Option, Some, None, refl, subst}
-use Rattle.std.specs.Prelude.{IsTrue, ⊤, nat_lt, if◌then◌else◌}
+use Rattle.std.specs.Prelude.{◌-◌, take, drop, IsTrue, ⊤, nat_lt, if◌then◌else◌}
 use Rattle.std.specs.Str.{byte, bytes_eq}
-use Rattle.latex2mathml_tex_grammar.specs.Arguments.{Brace, Opening, Closing, NoBrace, brace_of, and_then, with_first, in_group, group, argument_of, argument_here, argument, arguments}
-use Rattle.latex2mathml_tex_grammar.specs.Definitions.{Word, NewCommand, ProvideCommand, Def, DeclareOperator, Definition, is_character, sign_here, sign, digit_of, digit_found, digit_here, digit, name_in, name_read, name_of, without_default, number_closed, number_in, number_opened, number_of, numbered, parameter, parameters, argument_part, parameter_part, part_before, parts_behind, parts_of, body_read, body, is_delimited, body_in_braces, command_definition, plain_definition, operator_definition, definition_of, operator_parts, provided, behind_definition}
+use Rattle.latex2mathml_tex_grammar.specs.Arguments.{Brace, Opening, Closing, NoBrace, brace_of, and_then, with_first, in_group, group, argument_of, argument_here, argument, arguments, ends_brackets, in_brackets, between_brackets, is_group, without_braces, bracket_here, bracket, behind_bracket, optional, or_default, arguments_with, macro_arguments}
+use Rattle.latex2mathml_tex_grammar.specs.Definitions.{Word, NewCommand, ProvideCommand, Def, DeclareOperator, Definition, is_character, sign_here, sign, digit_of, digit_found, digit_here, digit, name_in, name_read, name_of, number_closed, number_in, number_opened, number_of, numbered, parameter, parameters, argument_part, parameter_part, part_before, parts_behind, parts_of, body_read, body, default_read, default_given, default_of, is_delimited, body_in_braces, command_definition, plain_definition, operator_definition, definition_of, operator_parts, provided, behind_definition}
 use Rattle.latex2mathml_tex_grammar.specs.Expansion.{name_role, role_of, word_role, Turn, Stays, Turns, Fails, with_arguments, used, defined, turn_of, Expands, at_end, at_stop, stays, turns, fails}
-use Rattle.latex2mathml_tex_grammar.specs.ExpansionLaws.{EachPiece, EachFixed, EachInTable, AddsNothing}
-use Rattle.latex2mathml_tex_grammar.specs.Macros.{Part, Fixed, Argument, Macro, Table, with_macro, argument_at, put, before}
+use Rattle.latex2mathml_tex_grammar.specs.ExpansionLaws.{EachPiece, EachFixed, EachOfDefault, EachInMacro, EachInTable, AddsNothing}
+use Rattle.latex2mathml_tex_grammar.specs.Macros.{Part, Fixed, Argument, Macro, macro_with_default, Table, with_macro, argument_at, put, before}
 use Rattle.latex2mathml_tex_grammar.specs.{Next.is_space_piece, Next.past_space, Reading.Outcome, Reading.Read, Reading.Refused, Refusal.Refusal}
 use Rattle.latex2mathml_tex_grammar.specs.Units.{Piece, Space, Open, Close, Command, Character, Unit, Units, Next, End, Stop}
 use Rattle.latex2mathml_tex_grammar.proofs.Choices.{of_either}
@@ -74,6 +74,48 @@ module _ (P : Piece → Type 0) where
   of_arguments place (suc n) l h = after EachOf EachList (argument place l) (λ arg rest. with_first arg (arguments place n rest)) (of_argument place l h)
       (λ arg rest p q. first_list arg (arguments place n rest) p (of_arguments place n rest q))
 
+  -- What can be left out
+
+  of_in_brackets : (b : Brace) (place : ℕ) (u : Unit) (l : Units) (depth : ℕ) (more : ℕ → Outcome (List Unit)) → P u.piece → EachPiece P l → ((d : ℕ) → Passes EachOf (more d)) → Passes EachOf (in_brackets b place u l depth more)
+  of_in_brackets Opening place u l depth more p k h = first u (more (suc depth)) p (h (suc depth))
+  of_in_brackets Closing place u l zero more p k h = tt
+  of_in_brackets Closing place u l (suc depth) more p k h = first u (more depth) p (h depth)
+  of_in_brackets NoBrace place u l depth more p k h = of_either (Passes EachOf) (ends_brackets depth u.piece) (tt, k) (first u (more depth) p (h depth))
+
+  of_brackets : (place : ℕ) (l : Units) (depth : ℕ) → EachPiece P l → Passes EachOf (between_brackets place l depth)
+  of_brackets place (Next u l) depth h = of_in_brackets (brace_of u.piece) place u l depth (between_brackets place l) h.0 h.1 (λ d. of_brackets place l d h.1)
+  of_brackets place (End at) depth h = tt
+  of_brackets place (Stop r) depth h = tt
+
+  of_taken : (n : ℕ) (us : List Unit) → EachOf us → EachOf (take n us)
+  of_taken zero us h = tt
+  of_taken (suc n) [] h = tt
+  of_taken (suc n) (u ∷ us) h = (h.0, of_taken n us h.1)
+
+  of_dropped : (us : List Unit) → EachOf us → EachOf (drop 1 us)
+  of_dropped [] h = tt
+  of_dropped (u ∷ us) h = h.1
+
+  of_unbraced : (us : List Unit) → EachOf us → EachOf (without_braces us)
+  of_unbraced us h = of_either EachOf (is_group us) (of_taken (length us - 2) (drop 1 us) (of_dropped us h)) h
+
+  -- units, where there are some
+  abbrev IfUnits : Option (List Unit) → Type 0
+  IfUnits (Some us) = EachOf us
+  IfUnits None = ⊤
+
+  of_bracket_here : (l : Units) → EachPiece P l → EachPiece P (bracket_here l).1
+  of_bracket_here (Next u l) h = of_either (λ (p : Option ℕ × Units). EachPiece P p.1) (is_character (byte "[") u.piece) h.1 h
+  of_bracket_here (End place) h = h
+  of_bracket_here (Stop r) h = h
+
+  of_behind_bracket : (p : Option ℕ × Units) → EachPiece P p.1 → Passes IfUnits (behind_bracket p)
+  of_behind_bracket (Some place, l) h = after EachOf IfUnits (between_brackets place l 0) (λ us m. Read (Some (without_braces us)) m) (of_brackets place l 0 h) (λ us m p q. (of_unbraced us p, q))
+  of_behind_bracket (None, l) h = (tt, h)
+
+  of_optional : (l : Units) → EachPiece P l → Passes IfUnits (optional l)
+  of_optional l h = of_behind_bracket (bracket l) (of_bracket_here (past_space l) (past l h))
+
   -- Definitions
 
   of_sign_here : (c : ℕ) (l : Units) → EachPiece P l → EachPiece P (sign_here c l).1
@@ -103,12 +145,8 @@ module _ (P : Piece → Type 0) where
   of_name : (place : ℕ) (l : Units) → EachPiece P l → Passes Anything (name_of place l)
   of_name place l h = after EachOf Anything (argument place l) (λ us m. name_read place (name_in us) m) (of_argument place l h) (λ us m p q. of_name_read place (name_in us) m q)
 
-  of_default : (place n : ℕ) (p : Bool × Units) → EachPiece P p.1 → Passes Anything (without_default place n p)
-  of_default place n (true, l) h = tt
-  of_default place n (false, l) h = (tt, h)
-
   of_closed : (place n : ℕ) (p : Bool × Units) → EachPiece P p.1 → Passes Anything (number_closed place n p)
-  of_closed place n (true, l) h = of_default place n (sign (byte "[") l) (of_sign (byte "[") l h)
+  of_closed place n (true, l) h = (tt, h)
   of_closed place n (false, l) h = tt
 
   of_number_in : (place : ℕ) (p : Option ℕ × Units) → EachPiece P p.1 → Passes Anything (number_in place p)
@@ -172,25 +210,42 @@ module _ (P : Piece → Type 0) where
   of_braces : (place n : ℕ) (l : Units) → EachPiece P l → Passes (EachFixed P) (body_in_braces place n l)
   of_braces place n l h = of_either (Passes (EachFixed P)) (is_delimited (past_space l)) tt (of_body place n l h)
 
-  -- a definition whose body passes
+  of_default_read : (place : ℕ) (parts : Option (List Part)) (l : Units) → IfParts parts → EachPiece P l → Passes (EachOfDefault P) (default_read place parts l)
+  of_default_read place (Some parts) l h k = (h, k)
+  of_default_read place None l h k = tt
+
+  of_default_given : (place n : ℕ) (given : Option (List Unit)) (l : Units) → IfUnits given → EachPiece P l → Passes (EachOfDefault P) (default_given place n given l)
+  of_default_given place n None l h k = (tt, k)
+  of_default_given place zero (Some us) l h k = tt
+  of_default_given place (suc n) (Some us) l h k = of_default_read place (parts_of 0 us) l (of_parts false 0 us h) k
+
+  of_default : (place n : ℕ) (l : Units) → EachPiece P l → Passes (EachOfDefault P) (default_of place n l)
+  of_default place n l h = after IfUnits (EachOfDefault P) (optional l) (default_given place n) (of_optional l h) (λ given m p q. of_default_given place n given m p q)
+
+  of_macro : (default : Option (List Part)) (n : ℕ) (parts : List Part) → EachOfDefault P default → EachFixed P parts → EachInMacro P (macro_with_default default n parts)
+  of_macro None n parts h k = (k, tt)
+  of_macro (Some default) n parts h k = (k, h)
+
+  -- a definition whose macro passes
   abbrev pub IsPassed : Definition → Type 0
-  IsPassed d = EachFixed P d.stands_for.body
+  IsPassed d = EachInMacro P d.stands_for
 
   of_command : (place : ℕ) (l : Units) → EachPiece P l → Passes IsPassed (command_definition place l)
   of_command place l h =
       after Anything IsPassed (name_of place (sign (byte "*") l).1) _ (of_name place (sign (byte "*") l).1 (of_sign (byte "*") l h)) (λ name m t k.
       after Anything IsPassed (number_of place m) _ (of_number place m k) (λ n j s i.
-      after (EachFixed P) IsPassed (body place n j) _ (of_body place n j i) (λ parts rest p q. (p, q))))
+      after (EachOfDefault P) IsPassed (default_of place n j) _ (of_default place n j i) (λ default g d e.
+      after (EachFixed P) IsPassed (body place n g) _ (of_body place n g e) (λ parts rest p q. (of_macro default n parts d p, q)))))
 
   of_plain : (place : ℕ) (l : Units) → EachPiece P l → Passes IsPassed (plain_definition place l)
   of_plain place l h =
       after Anything IsPassed (name_of place l) _ (of_name place l h) (λ name m t k.
       after Anything IsPassed (parameters place 9 0 m) _ (of_parameters place 9 0 m k) (λ n j s i.
-      after (EachFixed P) IsPassed (body_in_braces place n j) _ (of_braces place n j i) (λ parts rest p q. (p, q))))
+      after (EachFixed P) IsPassed (body_in_braces place n j) _ (of_braces place n j i) (λ parts rest p q. ((p, tt), q))))
 
   -- of the macro that is found, whichever it is
-  pub of_found : (b : Bool) (m found : Macro) (x : Option Macro) → EachFixed P m.body → ((y : Macro) → x ≡ Some y → EachFixed P y.body) → (if b then Some m else x) ≡ Some found → EachFixed P found.body
-  of_found true m found x h t e = (let same : m ≡ found = cc in subst (λ y. EachFixed P y.body) same h)
+  pub of_found : (b : Bool) (m found : Macro) (x : Option Macro) → EachInMacro P m → ((y : Macro) → x ≡ Some y → EachInMacro P y) → (if b then Some m else x) ≡ Some found → EachInMacro P found
+  of_found true m found x h t e = (let same : m ≡ found = cc in subst (EachInMacro P) same h)
   of_found false m found x h t e = t found e
 
   fixed_both : (xs ys : List Part) → EachFixed P xs → EachFixed P ys → EachFixed P (xs ++ ys)
@@ -206,7 +261,7 @@ module _ (P : Piece → Type 0) where
     of_operator : (place : ℕ) (l : Units) → EachPiece P l → Passes IsPassed (operator_definition place l)
     of_operator place l h =
         after Anything IsPassed (name_of place (sign (byte "*") l).1) _ (of_name place (sign (byte "*") l).1 (of_sign (byte "*") l h)) (λ name m t k.
-        after (EachFixed P) IsPassed (body place 0 m) _ (of_body place 0 m k) (λ parts rest p q. (of_operator_parts (sign (byte "*") l).0 parts p, q)))
+        after (EachFixed P) IsPassed (body place 0 m) _ (of_body place 0 m k) (λ parts rest p q. ((of_operator_parts (sign (byte "*") l).0 parts p, tt), q)))
 
     pub of_definition : (word : Word) (place : ℕ) (l : Units) → EachPiece P l → Passes IsPassed (definition_of word place l)
     of_definition NewCommand place l h = of_command place l h
@@ -214,7 +269,7 @@ module _ (P : Piece → Type 0) where
     of_definition Def place l h = of_plain place l h
     of_definition DeclareOperator place l h = of_operator place l h
 
-    in_table : (name : List ℕ) (m : Macro) (table : Table) → EachFixed P m.body → EachInTable P table → EachInTable P (with_macro name m table)
+    in_table : (name : List ℕ) (m : Macro) (table : Table) → EachInMacro P m → EachInTable P table → EachInTable P (with_macro name m table)
     in_table name m table h t other found e = of_found (bytes_eq name other) m found (table other) h (t other) e
 
     of_provided : (d : Definition) (found : Option Macro) (table : Table) → IsPassed d → EachInTable P table → EachInTable P (provided d found table)
@@ -252,6 +307,16 @@ module _ (P : Piece → Type 0) where
     TurnPasses (Turns table uses room l) = EachInTable P table × EachPiece P l
     TurnPasses (Fails r) = ⊤
 
+    of_or_default : (place : ℕ) (default : List Part) (given : Option (List Unit)) → EachFixed P default → IfUnits given → EachOf (or_default place default given)
+    of_or_default place default (Some us) h k = k
+    of_or_default place default None h k = of_put [] place default tt h
+
+    of_arguments_with : (default : Option (List Part)) (place n : ℕ) (l : Units) → EachOfDefault P default → EachPiece P l → Passes EachList (arguments_with default place n l)
+    of_arguments_with None place n l d h = of_arguments place n l h
+    of_arguments_with (Some default) place n l d h =
+        after IfUnits EachList (optional l) (λ given m. with_first (or_default place default given) (arguments place n m)) (of_optional l h)
+        (λ given m p q. first_list (or_default place default given) (arguments place n m) (of_or_default place default given d p) (of_arguments place n m q))
+
     of_arguments_read : (table : Table) (uses room : ℕ) (u : Unit) (m : Macro) (x : Outcome (List (List Unit))) → EachInTable P table → EachFixed P m.body → Passes EachList x → TurnPasses (with_arguments table uses room u m x)
     of_arguments_read table uses room u m (Read args l) t b h = either (nat_lt room (length (put args u.place m.body))) _ _ _ table (before (put args u.place m.body) l) (t, of_units_before (put args u.place m.body) l (of_put args u.place m.body h.0 b) h.1)
       where
@@ -260,9 +325,9 @@ module _ (P : Piece → Type 0) where
         either false r uses room table l h = h
     of_arguments_read table uses room u m (Refused r) t b h = tt
 
-    of_used : (table : Table) (uses room : ℕ) (u : Unit) (m : Macro) (l : Units) → EachInTable P table → EachFixed P m.body → EachPiece P l → TurnPasses (used table uses room u m l)
+    of_used : (table : Table) (uses room : ℕ) (u : Unit) (m : Macro) (l : Units) → EachInTable P table → EachInMacro P m → EachPiece P l → TurnPasses (used table uses room u m l)
     of_used table zero room u m l t b h = tt
-    of_used table (suc uses) room u m l t b h = of_arguments_read table uses room u m (arguments u.place m.arity l) t b (of_arguments u.place m.arity l h)
+    of_used table (suc uses) room u m l t b h = of_arguments_read table uses room u m (macro_arguments m u.place l) t b.0 (of_arguments_with m.default u.place m.arity l b.1 h)
 
     of_defined : (table : Table) (uses room : ℕ) (word : Word) (x : Outcome Definition) → EachInTable P table → Passes IsPassed x → TurnPasses (defined table uses room word x)
     of_defined table uses room word (Read d l) t h = (behind word d table h.0 t, h.1)

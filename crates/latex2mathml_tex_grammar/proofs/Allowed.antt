@@ -87,7 +87,7 @@ IsAllowedOutcome P (Refused r) = ⊤
 abbrev pub IsAllowedStep : Option Step → Type 0
 IsAllowedStep None = ⊤
 IsAllowedStep (Some (GoesOn scripts)) = AreAllowedScripts scripts
-IsAllowedStep (Some (TakesOperand then)) = (x : Element) → HasAllowedTexts x → AreAllowedScripts (then x)
+IsAllowedStep (Some (TakesOperand then)) = (x : Operand) → IsAllowedOperand x → AreAllowedScripts (then x)
 IsAllowedStep (Some (Forbidden kind)) = ⊤
 
 abbrev pub IsAllowedWordRule : WordRule → Type 0

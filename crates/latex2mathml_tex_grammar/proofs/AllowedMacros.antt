@@ -1,17 +1,17 @@
 -- No macro that a text defines puts a character that XML forbids, and none of the usual ones does.
-use Rattle.std.proofs.Common.{ℕ, false, List, [], ◌∷◌, codes, Option, Some, None, refl, subst}
+use Rattle.std.proofs.Common.{◌≡◌, ℕ, ◌||◌, false, List, [], ◌∷◌, codes, Option, Some, None, refl, subst}
 use Rattle.std.specs.Prelude.{⊤}
 use Rattle.std.specs.{Option.unwrap_or, Str.bytes_eq, Str.chars}
 use Rattle.latex2mathml_elements.proofs.Characters.{allowed_plain}
-use Rattle.latex2mathml_tex_grammar.specs.DefinitionTexts.{ReadsDefinitions, no_more, stopped, defines, no_definition, definition_refused, Defines}
+use Rattle.latex2mathml_tex_grammar.specs.DefinitionTexts.{is_prefix, past_prefixes, ReadsDefinitions, no_more, stopped, defines, no_definition, definition_refused, Defines}
 use Rattle.latex2mathml_tex_grammar.specs.Definitions.{Word, definition_of, parts_of}
-use Rattle.latex2mathml_tex_grammar.specs.ExpansionLaws.{EachFixed, EachInTable}
-use Rattle.latex2mathml_tex_grammar.specs.{Cutting.units_of, Expansion.Expands, Macros.Part, Macros.Table}
+use Rattle.latex2mathml_tex_grammar.specs.ExpansionLaws.{EachFixed, EachInMacro, EachInTable}
+use Rattle.latex2mathml_tex_grammar.specs.{Cutting.units_of, Next.is_space_piece, Expansion.Expands, Macros.Part, Macros.Table}
 use Rattle.latex2mathml_tex_grammar.specs.{Reading.Outcome, Reading.Read, Reading.Refused}
-use Rattle.latex2mathml_tex_grammar.specs.Units.{Command, Units, Next, End, Stop}
+use Rattle.latex2mathml_tex_grammar.specs.Units.{Command, Unit, Units, Next, End, Stop}
 use Rattle.latex2mathml_tex_grammar.specs.UsualMacros.{entry_macro, listed, macro_with, usual_entries, usual_macros}
 use Rattle.latex2mathml_tex_grammar.proofs.Adding.{EachOf, IfParts, IsPassed, Passes, behind, of_definition, of_found, of_parts, pieces_of}
-use Rattle.latex2mathml_tex_grammar.proofs.{Allowed.AreAllowedUnits, Allowed.IsAllowedPiece, AllowedUnits.next_allowed, AllowedUnits.units_allowed, OneList.has_units}
+use Rattle.latex2mathml_tex_grammar.proofs.{Allowed.AreAllowedUnits, Allowed.IsAllowedPiece, AllowedUnits.units_allowed, Choices.of_either, OneList.has_units}
 
 -- The usual macros
 
@@ -24,11 +24,11 @@ parts_allowed : (parts : Option (List Part)) → IfParts IsAllowedPiece parts �
 parts_allowed (Some parts) h = h
 parts_allowed None h = tt
 
-body_allowed : (arity : ℕ) (text : List ℕ) → EachFixed IsAllowedPiece (macro_with arity text).body
+body_allowed : (arity : ℕ) (text : List ℕ) → EachInMacro IsAllowedPiece (macro_with arity text)
 body_allowed arity text =
     let units = units_of 0 (chars text) in
     let each = listed_allowed units (units_allowed (has_units 0 (chars text))) in
-    parts_allowed (parts_of arity (listed units)) (of_parts IsAllowedPiece false arity (listed units) each)
+    (parts_allowed (parts_of arity (listed units)) (of_parts IsAllowedPiece false arity (listed units) each), tt)
 
 entries_allowed : (entries : List (List ℕ × ℕ × List ℕ)) → EachInTable IsAllowedPiece (entry_macro entries)
 entries_allowed [] name m e = cc
@@ -45,6 +45,15 @@ usual_allowed = entries_allowed usual_entries
 operator_name : IsAllowedPiece (Command (codes "operatorname"))
 operator_name = allowed_plain (codes "operatorname") refl
 
+prefixes_allowed : (l : Units) → AreAllowedUnits l → AreAllowedUnits (past_prefixes l)
+prefixes_allowed (Next u l) h = of_either AreAllowedUnits (is_space_piece u.piece || is_prefix u.piece) (prefixes_allowed l h.1) h
+prefixes_allowed (End place) h = h
+prefixes_allowed (Stop r) h = h
+
+-- what a definition begins with
+begun_allowed : (l : Units) {m : Units} {u : Unit} → past_prefixes l ≡ Next u m → AreAllowedUnits l → IsAllowedPiece u.piece × AreAllowedUnits m
+begun_allowed l e h = subst AreAllowedUnits e (prefixes_allowed l h)
+
 abbrev IfMacros : Outcome Table → Type 0
 IfMacros (Read table l) = EachInTable IsAllowedPiece table
 IfMacros (Refused r) = ⊤
@@ -56,7 +65,7 @@ read_allowed : {table : Table} {l : Units} {o : Outcome Table} → ReadsDefiniti
 read_allowed (no_more e) t h = t
 read_allowed (stopped e) t h = tt
 read_allowed (defines {table = table} {l = l} {m = m} {u = u} {word = word} {d = d} e w g ds) t h =
-    let read = subst (Passes IsAllowedPiece (IsPassed IsAllowedPiece)) g (definition_allowed word u.place m (next_allowed l e h).1) in
+    let read = subst (Passes IsAllowedPiece (IsPassed IsAllowedPiece)) g (definition_allowed word u.place m (begun_allowed l e h).1) in
     read_allowed ds (behind IsAllowedPiece tt tt operator_name refl word d table read.0 t) read.1
 read_allowed (no_definition e w) t h = tt
 read_allowed (definition_refused e w g) t h = tt

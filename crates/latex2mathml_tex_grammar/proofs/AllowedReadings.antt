@@ -89,7 +89,7 @@ mutual
       marks d h (subst IsAllowedStep s (step_allowed scripts (mark_of u.piece) i)) (next_allowed l p k).1
   marks (script_read {scripts = scripts} {l = l} {u = u} {x = x} p s d ds) h i k =
       let read = operands d (next_allowed l p k).1 in
-      marks ds h (subst IsAllowedStep s (step_allowed scripts (mark_of u.piece) i) x.element read.0) read.1
+      marks ds h (subst IsAllowedStep s (step_allowed scripts (mark_of u.piece) i) x read.0) read.1
   marks (script_refused p s d) h i k = tt
   marks (mark_refused p s) h i k = tt
 
@@ -116,7 +116,7 @@ mutual
   rows (change_refused p s t e) h k = tt
 
   tables : {end : TableEnd} {place : ℕ} {columns : Columns} {c : Context} {before cells : List Element} {l : Units} {o : Outcome Lines} → ReadsRows end place columns c before cells l o → AreAllowedElements before → AreAllowedElements cells → AreAllowedUnits l → IsAllowedOutcome AreAllowedLines o
-  tables (cell_read d ds) h i k = (let read = rows d (record { elements = tt; before = tt; upper = tt }) k in behind_cells ds h i read.0 read.1)
+  tables (cell_read {row = row} d ds) h i k = (let read = rows d (record { elements = tt; before = tt; upper = tt }) k in behind_cells ds h i (lone_allowed row.last row.elements read.0) read.1)
   tables (cell_refused d) h i k = tt
 
   behind_cells : {end : TableEnd} {place : ℕ} {columns : Columns} {c : Context} {before cells cell : List Element} {l : Units} {o : Outcome Lines} → ReadsBehindCell end place columns c before cells cell l o → AreAllowedElements before → AreAllowedElements cells → AreAllowedElements cell → AreAllowedUnits l → IsAllowedOutcome AreAllowedLines o

@@ -3,9 +3,9 @@ use Rattle.std.proofs.Common.{◌≡◌, ℕ, zero, suc, Bool, true, false, not,
 use Rattle.std.proofs.lemmas.Bool.{and_parts}
 use Rattle.std.specs.{Bool.⊤, Char.encode_utf8, List.list_all, Str.bytes_eq, Str.chars}
 use Rattle.latex2mathml_elements.specs.Characters.{IsAllowed, HasAllowedTexts, EachTextOf, EachTextOfCells, EachTextOfRows}
-use Rattle.latex2mathml_elements.specs.{Columns.Columns, Columns.Centered, Columns.LeftAligned, Columns.RightAligned, Columns.Alike, Columns.Listed, Tables.are_line, Tables.cells_behind, Tables.cells_in, Tables.is_line as is_row_line, Tables.rows_behind}
+use Rattle.latex2mathml_elements.specs.{Columns.Columns, Columns.Centered, Columns.LeftAligned, Columns.RightAligned, Columns.Alike, Columns.Listed, Tables.are_line, Tables.cells_behind, Tables.cells_in, Lines.Line, Lines.NoLine, Lines.OneLine, Lines.TwoLines, Lines.Dashes, Lines.is_drawn, Tables.is_line as is_row_line, Tables.line_of, Tables.rows_behind}
 use Rattle.latex2mathml_elements.specs.Element.{Mrow, Msqrt, Mstyle, Mpadded, Mphantom, Element, Elements, Rows, token, space, rectangle, container, pair, triple, table, more, none}
-use Rattle.latex2mathml_tex_grammar.specs.Environments.{columns_of, Environment, Bracket, NoBracket, Position, Alignment, environments, entry_environment, environment_of}
+use Rattle.latex2mathml_tex_grammar.specs.Environments.{columns_of, line_at, Environment, Bracket, NoBracket, Position, Alignment, environments, entry_environment, environment_of}
 use Rattle.latex2mathml_tex_grammar.specs.{Rows.row_element, Symbols.Style}
 use Rattle.latex2mathml_tex_grammar.specs.Rules.{Context, ended_table, rows_rule, most_columns, listed_rule, argument_rule, bracket_rule, environment_rule}
 use Rattle.latex2mathml_tex_grammar.specs.Scanning.{Argument, Name, ColumnList, Number, ColorName, Deed, Passes, Adds, Ends, Leaves, Misses, Refuses, Spot, deed, done, may_end, found_at_end, with_character, Found, Given, Missing, scan, behind_found, past, past_break, BeforeStar, BeforeLength, BeforeRow}
@@ -51,14 +51,14 @@ either_allowed : (b : Bool) (xs ys : Rows) → EachTextOfRows IsAllowed xs → E
 either_allowed true xs ys h k = h
 either_allowed false xs ys h k = k
 
-rows_in_allowed : (columns : Columns) (line : Bool) (x : Element) (xs : List Element) → HasAllowedTexts x → AreAllowedElements xs → EachTextOfRows IsAllowed (rows_behind columns line x xs)
-rows_in_allowed columns line x [] h k = either_allowed (not line && is_row_line x) _ _ tt (cells_in_allowed columns x h)
+rows_in_allowed : (columns : Columns) (line : Line) (x : Element) (xs : List Element) → HasAllowedTexts x → AreAllowedElements xs → EachTextOfRows IsAllowed (rows_behind columns line x xs)
+rows_in_allowed columns line x [] h k = either_allowed (not (is_drawn line) && is_row_line x) _ _ tt (cells_in_allowed columns x h)
 rows_in_allowed columns line x (y ∷ ys) h k =
     let cells = cells_in_allowed columns x h in
-    either_allowed (not line && is_row_line x) _ _ (rows_in_allowed columns true y ys k.0 k.1) (either_allowed (are_line (y ∷ ys)) _ _ cells (cells, rows_in_allowed columns false y ys k.0 k.1))
+    either_allowed (not (is_drawn line) && is_row_line x) _ _ (rows_in_allowed columns (line_of x) y ys k.0 k.1) (either_allowed (are_line (y ∷ ys)) _ _ cells (cells, rows_in_allowed columns NoLine y ys k.0 k.1))
 
 rows_onto_allowed : (columns : Columns) (ys : List Element) (x : Element) (xs : List Element) → AreAllowedElements ys → HasAllowedTexts x → AreAllowedElements xs → EachTextOfRows IsAllowed (rows_onto columns ys x xs)
-rows_onto_allowed columns [] x xs h k i = rows_in_allowed columns false x xs k i
+rows_onto_allowed columns [] x xs h k i = rows_in_allowed columns NoLine x xs k i
 rows_onto_allowed columns (y ∷ ys) x xs h k i = rows_onto_allowed columns ys y (x ∷ xs) h.1 h.0 (k, i)
 
 -- Tables
@@ -110,7 +110,7 @@ rows_rule_allowed : (place : ℕ) (c : Context) (name : List ℕ) (e : Environme
 rows_rule_allowed place c name e columns h = λ lines at k other. ended_allowed at c e columns lines (bytes_eq other name) h k
 
 listed_allowed : (place : ℕ) (c : Context) (name : List ℕ) (e : Environment) (signs : List ℕ) → are_allowed_delimiters e.delimiters ≡ true → IsAllowedRule (listed_rule place c name e signs)
-listed_allowed place c name e signs h = of_either IsAllowedRule (nat_le (length (columns_of signs)) most_columns) (rows_rule_allowed place c name e (Listed (columns_of signs)) h) tt
+listed_allowed place c name e signs h = of_either IsAllowedRule (nat_le (length (columns_of signs)) most_columns) (rows_rule_allowed place c name e (Listed (line_at signs) (columns_of signs)) h) tt
 
 argument_allowed : (place : ℕ) (c : Context) (name : List ℕ) (e : Environment) (argument : Option Argument) → are_allowed_delimiters e.delimiters ≡ true → IsAllowedRule (argument_rule place c name e argument)
 argument_allowed place c name e None h = rows_rule_allowed place c name e e.columns h
@@ -167,9 +167,11 @@ behind_found_allowed l (Missing r) h k = h
 pub past_spot_allowed : (spot : Spot) (l : Units) → AreAllowedUnits l → AreAllowedUnits (past spot l)
 past_spot_allowed spot l h = behind_found_allowed l (scan 0 l spot) h (scan_allowed 0 l spot h)
 
-pub lined_allowed : (line : Bool) (rows : List Element) → AreAllowedElements rows → AreAllowedElements (lined line rows)
-lined_allowed true rows h = (tt, h)
-lined_allowed false rows h = h
+pub lined_allowed : (line : Line) (rows : List Element) → AreAllowedElements rows → AreAllowedElements (lined line rows)
+lined_allowed NoLine rows h = h
+lined_allowed OneLine rows h = (tt, h)
+lined_allowed TwoLines rows h = (tt, h)
+lined_allowed Dashes rows h = (tt, h)
 
 pub past_break_allowed : (l : Units) → AreAllowedUnits l → AreAllowedUnits (past_break l)
 past_break_allowed l h =

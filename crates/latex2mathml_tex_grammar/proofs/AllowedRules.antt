@@ -324,7 +324,7 @@ step_of_allowed scripts below None Prime h = h
 step_of_allowed scripts below (Some x) Prime h = tt
 step_of_allowed scripts None above Below h = λ x k. (k, h.1)
 step_of_allowed scripts (Some x) above Below h = tt
-step_of_allowed scripts below None AboveMark h = λ x k. (h.0, behind_primes_allowed scripts.primes x k)
+step_of_allowed scripts below None AboveMark h = λ x k. (h.0, behind_primes_allowed scripts.primes x.element k)
 step_of_allowed scripts below (Some x) AboveMark h = tt
 step_of_allowed scripts below above (LimitsAt place) h = of_either (λ step. IsAllowedStep (Some step)) scripts.takes_limits h tt
 

@@ -3,7 +3,7 @@ use Rattle.std.proofs.Common.{ℕ, zero, suc, ◌+◌, ◌-◌, ◌≤◌, ◌�
 use Rattle.std.specs.Prelude.{⊤, nat_lt, if◌then◌else◌}
 use Rattle.std.specs.Str.{bytes_eq}
 use Rattle.latex2mathml_tex_grammar.specs.Definitions.{Word, NewCommand, ProvideCommand, Def, DeclareOperator, Definition, definition_of, provided, behind_definition}
-use Rattle.latex2mathml_tex_grammar.specs.Arguments.{arguments}
+use Rattle.latex2mathml_tex_grammar.specs.Arguments.{macro_arguments}
 use Rattle.latex2mathml_tex_grammar.specs.Expansion.{Role, Uses, Defines, Stands, name_role, role_of, Turn, Stays, Turns, Fails, replaced, with_arguments, used, defined, turn_of, turn, Expands, at_end, at_stop, stays, turns, fails}
 use Rattle.latex2mathml_tex_grammar.specs.Expanding.{expansion}
 use Rattle.latex2mathml_tex_grammar.specs.ExpansionLaws.{AllStand, HaveOneExpansion, AreExpanded, IsSpacePassed}
@@ -35,7 +35,7 @@ no_stay_arguments table uses room u m (Refused r) e = cc
 
 no_stay_used : (table : Table) (uses room : ℕ) (u : Unit) (m : Macro) (l : Units) → used table uses room u m l ≡ Stays → ⊥
 no_stay_used table zero room u m l e = cc
-no_stay_used table (suc uses) room u m l e = no_stay_arguments table uses room u m (arguments u.place m.arity l) e
+no_stay_used table (suc uses) room u m l e = no_stay_arguments table uses room u m (macro_arguments m u.place l) e
 
 no_stay_defined : (table : Table) (uses room : ℕ) (word : Word) (o : Outcome Definition) → defined table uses room word o ≡ Stays → ⊥
 no_stay_defined table uses room word (Read d l) e = cc
@@ -105,7 +105,7 @@ arguments_grow table uses room u m (Refused r) = tt
 
 used_grows : (table : Table) (uses room : ℕ) (u : Unit) (m : Macro) (l : Units) → GrowsBy table (used table uses room u m l)
 used_grows table zero room u m l = tt
-used_grows table (suc uses) room u m l = arguments_grow table uses room u m (arguments u.place m.arity l)
+used_grows table (suc uses) room u m l = arguments_grow table uses room u m (macro_arguments m u.place l)
 
 defined_grows : (table : Table) (uses room : ℕ) (word : Word) (o : Outcome Definition) → GrowsBy table (defined table uses room word o)
 defined_grows table uses room word (Read d l) = grows word d table

@@ -2,7 +2,7 @@
 use Rattle.std.proofs.Common.{ℕ, zero, suc, ◌+◌, ◌<◌, ◌≤◌, ◌≡◌, List, length, refl, ap, subst, arith}
 use Rattle.std.proofs.{lemmas.Bool.Decides.nat_tests}
 use Rattle.std.specs.Prelude.{⊤, nat_lt}
-use Rattle.latex2mathml_tex_grammar.specs.Arguments.{arguments}
+use Rattle.latex2mathml_tex_grammar.specs.Arguments.{macro_arguments}
 use Rattle.latex2mathml_tex_grammar.specs.Definitions.{Word, Definition, definition_of}
 use Rattle.latex2mathml_tex_grammar.specs.Expanding.{turned, expansion_within, expansion}
 use Rattle.latex2mathml_tex_grammar.specs.Expansion.{Role, Uses, Defines, Stands, role_of, Turn, Stays, Turns, Fails, replaced, with_arguments, used, defined, turn_of, turn, Expands, at_end, at_stop, stays, turns, fails}
@@ -10,7 +10,7 @@ use Rattle.latex2mathml_tex_grammar.specs.Macros.{Macro, Table, put, count}
 use Rattle.latex2mathml_tex_grammar.specs.{Reading.Outcome, Reading.Read, Reading.Refused, Refusal.Refusal}
 use Rattle.latex2mathml_tex_grammar.specs.Units.{Unit, Units, Next, End, Stop}
 use Rattle.latex2mathml_tex_grammar.proofs.Choices.{of_chosen}
-use Rattle.latex2mathml_tex_grammar.proofs.Shrinking.{Leaves, arguments_leave, definition_leaves, count-before}
+use Rattle.latex2mathml_tex_grammar.proofs.Shrinking.{Leaves, macro_arguments_leave, definition_leaves, count-before}
 
 -- what is expanded instead, with what can still be put, is at most n units
 abbrev pub Shrinks : ℕ → Turn → Type 0
@@ -29,7 +29,7 @@ with_arguments_shrinks n k table uses room u m (Refused r) left h = tt
 
 used_shrinks : (table : Table) (uses room : ℕ) (u : Unit) (m : Macro) (l : Units) → Shrinks (count l + room) (used table uses room u m l)
 used_shrinks table zero room u m l = tt
-used_shrinks table (suc uses) room u m l = with_arguments_shrinks (count l + room) (count l) table uses room u m (arguments u.place m.arity l) (arguments_leave u.place m.arity l) (omega arith)
+used_shrinks table (suc uses) room u m l = with_arguments_shrinks (count l + room) (count l) table uses room u m (macro_arguments m u.place l) (macro_arguments_leave m u.place l) (omega arith)
 
 defined_shrinks : (n k : ℕ) (table : Table) (uses room : ℕ) (word : Word) (o : Outcome Definition) → Leaves k o → k + room ≤ n → Shrinks n (defined table uses room word o)
 defined_shrinks n k table uses room word (Read d l) left h = omega (arith, left, h)

@@ -6,7 +6,7 @@ use Rattle.latex2mathml_tex_grammar.specs.{Atoms.Atom, Atoms.Before, Makes.Core,
 use Rattle.latex2mathml_tex_grammar.specs.Reading.{Outcome, Read, ReadsRule, ReadsOperand, ReadsScripts, ReadsAtom, divider_read, divider_refused, on_empty_row, base_read, base_refused, ReadsAtoms, ReadsWord, ReadsWords, ReadsRows, ReadsBehindCell}
 use Rattle.latex2mathml_tex_grammar.specs.Rests.{Rest, GoesOnIn, NoRest, rest_of}
 use Rattle.latex2mathml_tex_grammar.specs.Rules.{Context, Ending, InBraces, Rule, rule, TableEnd}
-use Rattle.latex2mathml_tex_grammar.specs.{Meaning.Change, Starts.atom_start, Starts.ChangeStart, Starts.step_next, Starts.step_of_mark, Starts.mark_of, Starts.Step, Starts.GoesOn, Starts.TakesOperand, Starts.Forbidden, Refusal.Kind, Refusal.Refusal, Refusal.refusal_at, Symbols.Alphabet, Words.Words, Words.WordRule, Words.TakesWords, Scanning.Found, Scanning.Given, Starts.CellEnd, Next.past_space, RowLines.line_next, RowLines.lined, Scanning.past_break, Scanning.past_gap, Tables.Lines}
+use Rattle.latex2mathml_tex_grammar.specs.{Meaning.Change, Starts.atom_start, Starts.ChangeStart, Starts.step_next, Starts.step_of_mark, Starts.mark_of, Starts.Step, Starts.GoesOn, Starts.TakesOperand, Starts.Forbidden, Refusal.Kind, Refusal.Refusal, Refusal.refusal_at, Symbols.Alphabet, Words.Words, Words.WordRule, Words.TakesWords, Scanning.Found, Scanning.Given, Starts.CellEnd, Next.past_space, RowLines.line_next, RowLines.lined, Scanning.past_break, Scanning.past_gap, Tables.Lines, Tables.cell_of}
 use Rattle.latex2mathml_tex_grammar.specs.Units.{Unit, Units, Next, End}
 
 -- what holds of the unit that comes next, and of the units after it, holds whichever way it was found
@@ -114,8 +114,8 @@ rows_next {end} {place} {columns} {c} {rows} {cells} behind {o = o} p q d = next
 pub one_end : (end : Unit → CellEnd) {w m n : Units} {u v : Unit} {a b : CellEnd} → w ≡ Next u m → w ≡ Next v n → end u ≡ a → end v ≡ b → a ≡ b
 one_end end {u = u} {v = v} p q s t = (let same : u ≡ v = cc in cc)
 
-pub cell_moved : {end : TableEnd} {place : ℕ} {columns : Columns} {c : Context} {rows cells : List Element} {x y : Row} {m n : Units} {o : Outcome Lines} → Read x m ≡ Read y n → ReadsBehindCell end place columns c rows cells y.elements n o → ReadsBehindCell end place columns c rows cells x.elements m o
-cell_moved {end} {place} {columns} {c} {rows} {cells} {o = o} e d = moved (λ x m. ReadsBehindCell end place columns c rows cells x.elements m o) e d
+pub cell_moved : {end : TableEnd} {place : ℕ} {columns : Columns} {c : Context} {rows cells : List Element} {x y : Row} {m n : Units} {o : Outcome Lines} → Read x m ≡ Read y n → ReadsBehindCell end place columns c rows cells (cell_of y) n o → ReadsBehindCell end place columns c rows cells (cell_of x) m o
+cell_moved {end} {place} {columns} {c} {rows} {cells} {o = o} e d = moved (λ x m. ReadsBehindCell end place columns c rows cells (cell_of x) m o) e d
 
 pub base_moved : {c : Context} {before : Before} {x y : Core} {m n : Units} {o : Outcome Atom} → Read x m ≡ Read y n → ReadsScripts c before y.atom (no_scripts y.atom.kind y.limits) n o → ReadsScripts c before x.atom (no_scripts x.atom.kind x.limits) m o
 base_moved {c} {before} {o = o} e d = moved (λ x m. ReadsScripts c before x.atom (no_scripts x.atom.kind x.limits) m o) e d
@@ -137,7 +137,7 @@ goes_on step P {m = m} {n = n} {a = a} {b = b} p q s t e =
     let rest : n ≡ m = cc in
     subst (λ x. P x m) same (subst (λ k. P b k) rest e)
 
-pub same_operand_step : (step : Unit → Option Step) (P : (Element → Scripts) → Type 0) {w m n : Units} {u v : Unit} {f g : Element → Scripts} → w ≡ Next u m → w ≡ Next v n → step u ≡ Some (TakesOperand f) → step v ≡ Some (TakesOperand g) → P g → P f
+pub same_operand_step : (step : Unit → Option Step) (P : (Operand → Scripts) → Type 0) {w m n : Units} {u v : Unit} {f g : Operand → Scripts} → w ≡ Next u m → w ≡ Next v n → step u ≡ Some (TakesOperand f) → step v ≡ Some (TakesOperand g) → P g → P f
 same_operand_step step P {f = f} {g = g} p q s t e = (let same : g ≡ f = cc (one_step step p q s t) in subst P same e)
 
 pub same_second : (step : Unit → Option Step) {w m n : Units} {u v : Unit} {a b : Kind} → w ≡ Next u m → w ≡ Next v n → step u ≡ Some (Forbidden a) → step v ≡ Some (Forbidden b) → refusal_at a u.place ≡ refusal_at b v.place
@@ -159,6 +159,6 @@ word_is {place} {ws = ws} {l = l} {o = o} s t e = same_alphabet (λ a. ReadsWord
 pub scripts_go_on : (step : Unit → Option Step) {c : Context} {before : Before} {base : Atom} {w m n : Units} {u v : Unit} {a b : Scripts} {o : Outcome Atom} → w ≡ Next u m → w ≡ Next v n → step u ≡ Some (GoesOn a) → step v ≡ Some (GoesOn b) → ReadsScripts c before base b n o → ReadsScripts c before base a m o
 scripts_go_on step {c} {before} {base} {o = o} p q s t e = goes_on step (λ x n. ReadsScripts c before base x n o) p q s t e
 
-pub script_moved : (step : Unit → Option Step) {c : Context} {before : Before} {base : Atom} {w m n k j : Units} {u v : Unit} {f g : Element → Scripts} {x y : Operand} {o : Outcome Atom} → w ≡ Next u m → w ≡ Next v n → step u ≡ Some (TakesOperand f) → step v ≡ Some (TakesOperand g) → Read x k ≡ Read y j → ReadsScripts c before base (g y.element) j o → ReadsScripts c before base (f x.element) k o
+pub script_moved : (step : Unit → Option Step) {c : Context} {before : Before} {base : Atom} {w m n k j : Units} {u v : Unit} {f g : Operand → Scripts} {x y : Operand} {o : Outcome Atom} → w ≡ Next u m → w ≡ Next v n → step u ≡ Some (TakesOperand f) → step v ≡ Some (TakesOperand g) → Read x k ≡ Read y j → ReadsScripts c before base (g y) j o → ReadsScripts c before base (f x) k o
 script_moved step {c} {before} {base} {j = j} {f = f} {y = y} {o = o} p q s t e d =
-    moved (λ x k. ReadsScripts c before base (f x.element) k o) e (same_operand_step step (λ h. ReadsScripts c before base (h y.element) j o) p q s t d)
+    moved (λ x k. ReadsScripts c before base (f x) k o) e (same_operand_step step (λ h. ReadsScripts c before base (h y) j o) p q s t d)

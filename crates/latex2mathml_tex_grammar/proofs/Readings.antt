@@ -1,6 +1,6 @@
 -- A text has exactly one reading or exactly one refusal.
 use Rattle.std.proofs.Common.{◌≡◌, ◌⊎◌, inl, inr, ℕ, List, ap, subst, refl, sym, ◌∙◌, Bool, true, false, ◌||◌, IsTrue, IsFalse, if◌then◌else◌}
-use Rattle.latex2mathml_tex_grammar.specs.{Expanding.expansion, Expansion.most_units, Expansion.most_uses, Formulas.IsExpansion, Formulas.IsReading, Formulas.IsRefusal, Formulas.formula_context, Laws.AreMacrosTheirNames, Laws.HasOneReading, Macros.SameMacros, Macros.Table, Refusal.Refusal, Rows.Row, Rows.empty_row, Rules.Context, Rules.WholeText, Rules.begun, Symbols.Style, Cutting.units_of, Units.Units, Units.End}
+use Rattle.latex2mathml_tex_grammar.specs.{Expanding.expansion, Expansion.most_units, Expansion.most_uses, Formulas.IsExpansion, Formulas.IsReading, Formulas.IsRefusal, Formulas.formula_context, Laws.AreMacrosTheirNames, Laws.HasOneReading, Macros.SameMacros, Macros.Table, Refusal.Refusal, Rows.Row, Rules.Context, Rules.WholeText, Rules.begun, Symbols.Style, Cutting.units_of, Units.Units, Units.End}
 use Rattle.latex2mathml_tex_grammar.specs.Reading.{Outcome, Read, Refused, ReadsAtoms, text_ends, atoms_end, atom_read, rest_read, ReadsRule, rule_gives, rows_read, rows_to_end, ReadsRows, cell_read, ReadsBehindCell, next_cell, next_row, table_ends, text_ends_table}
 use Rattle.latex2mathml_tex_grammar.proofs.{Expanding.expansion_is, Expanding.is_expanded, OneList.has_units, OneList.units_are, SameTables.expansion_same, Total.has_one_outcome, Unique.one_atoms, Spaces.next_stays, Total.rule_outcome, Unique.one_rule}
 use Rattle.latex2mathml_tex_grammar.specs.Formulas.{ReadsFormula, as_atoms, as_rows, alone, asks_for_rows}

@@ -2,7 +2,7 @@
 use Rattle.std.proofs.Common.{ℕ, zero, suc, ◌+◌, ◌-◌, ◌≡◌, Bool, true, false, List, length, Option, Some, None, refl, ap, ◌∙◌}
 use Rattle.std.specs.Prelude.{nat_lt, if◌then◌else◌}
 use Rattle.std.specs.Str.{bytes_eq}
-use Rattle.latex2mathml_tex_grammar.specs.Arguments.{arguments}
+use Rattle.latex2mathml_tex_grammar.specs.Arguments.{macro_arguments}
 use Rattle.latex2mathml_tex_grammar.specs.Definitions.{Word, NewCommand, ProvideCommand, Def, DeclareOperator, Definition, definition_of, provided, behind_definition}
 use Rattle.latex2mathml_tex_grammar.specs.Expanding.{turned, expansion_within, expansion}
 use Rattle.latex2mathml_tex_grammar.specs.Expansion.{Role, Uses, Defines, Stands, name_role, role_of, Turn, Turns, Fails, with_arguments, used, defined, turn_of}
@@ -53,7 +53,7 @@ arguments_same n t v uses room uses_left u l m (Refused r) more h = refl
 
 used_same : (n : ℕ) (t v : Table) (uses room : ℕ) (u : Unit) (l : Units) (m : Macro) → SameFrom n → SameMacros t v → SameTurns n t v uses room u l (used t uses room u m l) (used v uses room u m l)
 used_same n t v zero room u l m more h = refl
-used_same n t v (suc uses) room u l m more h = arguments_same n t v (suc uses) room uses u l m (arguments u.place m.arity l) more h
+used_same n t v (suc uses) room u l m more h = arguments_same n t v (suc uses) room uses u l m (macro_arguments m u.place l) more h
 
 defined_same : (n : ℕ) (t v : Table) (uses room : ℕ) (u : Unit) (l : Units) (word : Word) (o : Outcome Definition) → SameFrom n → SameMacros t v → SameTurns n t v uses room u l (defined t uses room word o) (defined v uses room word o)
 defined_same n t v uses room u l word (Read d rest) more h = more (behind_definition word d t) (behind_definition word d v) uses room rest (behind_same word d t v h)

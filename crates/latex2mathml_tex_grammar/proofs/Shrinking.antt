@@ -2,9 +2,9 @@
 use Rattle.std.proofs.Common.{ℕ, zero, suc, ◌+◌, ◌≤◌, ◌≡◌, Bool, true, false, List, [], ◌∷◌, length, Option, Some, None, arith}
 use Rattle.std.specs.Prelude.{⊤}
 use Rattle.std.specs.Str.{byte}
-use Rattle.latex2mathml_tex_grammar.specs.Arguments.{Brace, Opening, Closing, NoBrace, brace_of, and_then, with_first, in_group, group, argument_of, argument_here, argument, arguments}
-use Rattle.latex2mathml_tex_grammar.specs.Definitions.{Word, NewCommand, ProvideCommand, Def, DeclareOperator, is_character, sign_here, sign, digit_of, digit_found, digit_here, digit, name_in, name_read, name_of, without_default, number_closed, number_in, number_opened, number_of, numbered, parameter, parameters, parts_of, body_read, body, is_delimited, body_in_braces, command_definition, plain_definition, operator_definition, definition_of}
-use Rattle.latex2mathml_tex_grammar.specs.Macros.{Part, count, before}
+use Rattle.latex2mathml_tex_grammar.specs.Arguments.{Brace, Opening, Closing, NoBrace, brace_of, and_then, with_first, in_group, group, argument_of, argument_here, argument, arguments, is_character, ends_brackets, in_brackets, between_brackets, without_braces, bracket_here, bracket, behind_bracket, optional, or_default, arguments_with, macro_arguments}
+use Rattle.latex2mathml_tex_grammar.specs.Definitions.{Word, NewCommand, ProvideCommand, Def, DeclareOperator, sign_here, sign, digit_of, digit_found, digit_here, digit, name_in, name_read, name_of, number_closed, number_in, number_opened, number_of, numbered, parameter, parameters, parts_of, body_read, body, default_read, default_given, default_of, is_delimited, body_in_braces, command_definition, plain_definition, operator_definition, definition_of}
+use Rattle.latex2mathml_tex_grammar.specs.Macros.{Part, Macro, count, before}
 use Rattle.latex2mathml_tex_grammar.specs.{Next.is_space_piece, Next.past_space, Reading.Outcome, Reading.Read, Reading.Refused}
 use Rattle.latex2mathml_tex_grammar.specs.Units.{Unit, Units, Next, End, Stop}
 use Rattle.latex2mathml_tex_grammar.proofs.Choices.{of_either}
@@ -60,6 +60,42 @@ arguments_leave place zero l = omega arith
 arguments_leave place (suc n) l = leaves_after (count l) (argument place l) (λ arg rest. with_first arg (arguments place n rest)) (argument_leaves place l)
     (λ arg rest h. leaves_first _ arg (arguments place n rest) (leaves_more (count rest) _ (arguments place n rest) h (arguments_leave place n rest)))
 
+-- What can be left out
+
+in_brackets_leaves : (b : Brace) (place : ℕ) (u : Unit) (l : Units) (depth : ℕ) (more : ℕ → Outcome (List Unit)) → ((d : ℕ) → Leaves (count l) (more d)) → Leaves (suc (count l)) (in_brackets b place u l depth more)
+in_brackets_leaves Opening place u l depth more h = leaves_first _ u (more (suc depth)) (leaves_more (count l) _ (more (suc depth)) (omega arith) (h (suc depth)))
+in_brackets_leaves Closing place u l zero more h = tt
+in_brackets_leaves Closing place u l (suc depth) more h = leaves_first _ u (more depth) (leaves_more (count l) _ (more depth) (omega arith) (h depth))
+in_brackets_leaves NoBrace place u l depth more h =
+    of_either (λ (o : Outcome (List Unit)). Leaves (suc (count l)) o) (ends_brackets depth u.piece) (omega arith) (leaves_first _ u (more depth) (leaves_more (count l) _ (more depth) (omega arith) (h depth)))
+
+brackets_leave : (place : ℕ) (l : Units) (depth : ℕ) → Leaves (count l) (between_brackets place l depth)
+brackets_leave place (Next u l) depth = in_brackets_leaves (brace_of u.piece) place u l depth (between_brackets place l) (brackets_leave place l)
+brackets_leave place (End at) depth = tt
+brackets_leave place (Stop r) depth = tt
+
+bracket_here_leaves : (l : Units) → count (bracket_here l).1 ≤ count l
+bracket_here_leaves (Next u l) = of_either (λ (p : Option ℕ × Units). count p.1 ≤ suc (count l)) (is_character (byte "[") u.piece) (omega arith) (omega arith)
+bracket_here_leaves (End place) = omega arith
+bracket_here_leaves (Stop r) = omega arith
+
+behind_bracket_leaves : (k : ℕ) (p : Option ℕ × Units) → count p.1 ≤ k → Leaves k (behind_bracket p)
+behind_bracket_leaves k (Some place, l) h =
+    leaves_after k (between_brackets place l 0) (λ us m. Read (Some (without_braces us)) m) (leaves_more (count l) k (between_brackets place l 0) h (brackets_leave place l 0)) (λ us m i. i)
+behind_bracket_leaves k (None, l) h = h
+
+optional_leaves : (l : Units) → Leaves (count l) (optional l)
+optional_leaves l = behind_bracket_leaves (count l) (bracket l) (omega (arith, bracket_here_leaves (past_space l), count-past_space l))
+
+arguments_with_leave : (default : Option (List Part)) (place n : ℕ) (l : Units) → Leaves (count l) (arguments_with default place n l)
+arguments_with_leave None place n l = arguments_leave place n l
+arguments_with_leave (Some default) place n l =
+    leaves_after (count l) (optional l) (λ given m. with_first (or_default place default given) (arguments place n m)) (optional_leaves l)
+    (λ given m h. leaves_first _ (or_default place default given) (arguments place n m) (leaves_more (count m) _ (arguments place n m) h (arguments_leave place n m)))
+
+pub macro_arguments_leave : (m : Macro) (place : ℕ) (l : Units) → Leaves (count l) (macro_arguments m place l)
+macro_arguments_leave m place l = arguments_with_leave m.default place m.arity l
+
 -- Definitions
 
 sign_here_leaves : (c : ℕ) (l : Units) → count (sign_here c l).1 ≤ count l
@@ -89,12 +125,8 @@ name_read_leaves n place None l h = tt
 name_leaves : (place : ℕ) (l : Units) → Leaves (count l) (name_of place l)
 name_leaves place l = leaves_after (count l) (argument place l) (λ us m. name_read place (name_in us) m) (argument_leaves place l) (λ us m h. name_read_leaves (count l) place (name_in us) m h)
 
-without_default_leaves : (k place n : ℕ) (p : Bool × Units) → count p.1 ≤ k → Leaves k (without_default place n p)
-without_default_leaves k place n (true, l) h = tt
-without_default_leaves k place n (false, l) h = h
-
 number_closed_leaves : (k place n : ℕ) (p : Bool × Units) → count p.1 ≤ k → Leaves k (number_closed place n p)
-number_closed_leaves k place n (true, l) h = without_default_leaves k place n (sign (byte "[") l) (omega (arith, h, sign_leaves (byte "[") l))
+number_closed_leaves k place n (true, l) h = h
 number_closed_leaves k place n (false, l) h = tt
 
 number_in_leaves : (k place : ℕ) (p : Option ℕ × Units) → count p.1 ≤ k → Leaves k (number_in place p)
@@ -128,6 +160,18 @@ body_read_leaves k place None l h = tt
 body_leaves : (place n : ℕ) (l : Units) → Leaves (count l) (body place n l)
 body_leaves place n l = leaves_after (count l) (argument place l) (λ us m. body_read place (parts_of n us) m) (argument_leaves place l) (λ us m h. body_read_leaves (count l) place (parts_of n us) m h)
 
+default_read_leaves : (k place : ℕ) (parts : Option (List Part)) (l : Units) → count l ≤ k → Leaves k (default_read place parts l)
+default_read_leaves k place (Some parts) l h = h
+default_read_leaves k place None l h = tt
+
+default_given_leaves : (k place n : ℕ) (given : Option (List Unit)) (l : Units) → count l ≤ k → Leaves k (default_given place n given l)
+default_given_leaves k place n None l h = h
+default_given_leaves k place zero (Some us) l h = tt
+default_given_leaves k place (suc n) (Some us) l h = default_read_leaves k place (parts_of 0 us) l h
+
+default_leaves : (place n : ℕ) (l : Units) → Leaves (count l) (default_of place n l)
+default_leaves place n l = leaves_after (count l) (optional l) (default_given place n) (optional_leaves l) (λ given m h. default_given_leaves (count l) place n given m h)
+
 body_in_braces_leaves : (place n : ℕ) (l : Units) → Leaves (count l) (body_in_braces place n l)
 body_in_braces_leaves place n l = of_either (λ (o : Outcome (List Part)). Leaves (count l) o) (is_delimited (past_space l)) tt (body_leaves place n l)
 
@@ -136,7 +180,8 @@ command_leaves place l =
     let starred = sign_leaves (byte "*") l in
     leaves_after (count l) (name_of place (sign (byte "*") l).1) _ (leaves_more _ _ (name_of place (sign (byte "*") l).1) starred (name_leaves place (sign (byte "*") l).1)) (λ name m h.
     leaves_after (count l) (number_of place m) _ (leaves_more (count m) _ (number_of place m) h (number_leaves place m)) (λ n k i.
-    leaves_after (count l) (body place n k) _ (leaves_more (count k) _ (body place n k) i (body_leaves place n k)) (λ parts rest j. j)))
+    leaves_after (count l) (default_of place n k) _ (leaves_more (count k) _ (default_of place n k) i (default_leaves place n k)) (λ default q g.
+    leaves_after (count l) (body place n q) _ (leaves_more (count q) _ (body place n q) g (body_leaves place n q)) (λ parts rest j. j))))
 
 plain_leaves : (place : ℕ) (l : Units) → Leaves (count l) (plain_definition place l)
 plain_leaves place l =

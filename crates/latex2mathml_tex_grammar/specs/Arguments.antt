@@ -1,8 +1,10 @@
 -- Arguments: what a macro or a definition takes from the units that come next.
-use Rattle.std.specs.Prelude.{ℕ, zero, suc, List, [], ◌∷◌}
+use Rattle.std.specs.Prelude.{ℕ, zero, suc, ◌-◌, Bool, true, false, ◌&&◌, ◌==◌, List, [], ◌∷◌, length, take, drop, Option, Some, None, if◌then◌else◌}
+use Rattle.std.specs.Str.{byte}
+use Rattle.latex2mathml_tex_grammar.specs.Macros.{Part, Macro, put}
 use Rattle.latex2mathml_tex_grammar.specs.{Next.past_space, Reading.Outcome, Reading.Read, Reading.Refused}
-use Rattle.latex2mathml_tex_grammar.specs.Refusal.{MissingArgument, UnclosedBrace, refusal_at}
-use Rattle.latex2mathml_tex_grammar.specs.Units.{Piece, Open, Close, Unit, Units, Next, End, Stop}
+use Rattle.latex2mathml_tex_grammar.specs.Refusal.{MissingArgument, UnclosedBrace, UnclosedBracket, refusal_at}
+use Rattle.latex2mathml_tex_grammar.specs.Units.{Piece, Open, Close, Character, Unit, Units, Next, End, Stop}
 
 -- the brace that a piece is
 pub data Brace : Type 0 where
@@ -60,3 +62,87 @@ argument place l = argument_here place (past_space l)
 abbrev pub arguments : ℕ → ℕ → Units → Outcome (List (List Unit))
 arguments place zero l = Read [] l
 arguments place (suc n) l = and_then (argument place l) (λ arg rest. with_first arg (arguments place n rest))
+
+-- An argument in brackets, which can be left out
+
+-- whether a unit is this character
+abbrev pub is_character : ℕ → Piece → Bool
+is_character c (Character d) = d == c
+is_character c piece = false
+
+-- whether a piece ends what is between brackets, where this many groups are open within it
+abbrev pub ends_brackets : ℕ → Piece → Bool
+ends_brackets zero piece = is_character (byte "]") piece
+ends_brackets (suc depth) piece = false
+
+-- a brace or another piece between brackets
+abbrev pub in_brackets : Brace → ℕ → Unit → Units → ℕ → (ℕ → Outcome (List Unit)) → Outcome (List Unit)
+in_brackets Opening place u l depth more = with_first u (more (suc depth))
+in_brackets Closing place u l zero more = Refused (refusal_at UnclosedBracket place)
+in_brackets Closing place u l (suc depth) more = with_first u (more depth)
+in_brackets NoBrace place u l depth more = if ends_brackets depth u.piece then Read [] l else with_first u (more depth)
+
+-- the units up to the `]` that closes the bracket at this place, where this many groups are open between them
+abbrev pub between_brackets : ℕ → Units → ℕ → Outcome (List Unit)
+between_brackets place (Next u l) depth = in_brackets (brace_of u.piece) place u l depth (between_brackets place l)
+between_brackets place (End at) depth = Refused (refusal_at UnclosedBracket place)
+between_brackets place (Stop r) depth = Refused r
+
+-- whether the units after a brace are the rest of a group, where this many groups are open within it: only the last one
+-- closes the group
+abbrev pub closes_last : List Unit → ℕ → Bool
+closes_last [] depth = false
+closes_last (u ∷ us) depth = closed_by (brace_of u.piece) us depth (closes_last us)
+  where
+    closed_by : Brace → List Unit → ℕ → (ℕ → Bool) → Bool
+    closed_by Opening us depth more = more (suc depth)
+    closed_by Closing [] zero more = true
+    closed_by Closing (u ∷ us) zero more = false
+    closed_by Closing us (suc depth) more = more depth
+    closed_by NoBrace us depth more = more depth
+
+-- whether the units are one group in braces
+abbrev pub is_group : List Unit → Bool
+is_group [] = false
+is_group (u ∷ us) = is_opening (brace_of u.piece) && closes_last us 0
+  where
+    is_opening : Brace → Bool
+    is_opening Opening = true
+    is_opening brace = false
+
+-- the units without the braces of the group that they are, if they are one: all but the first and the last
+abbrev pub without_braces : List Unit → List Unit
+without_braces us = if is_group us then take (length us - 2) (drop 1 us) else us
+
+-- the place of the bracket that is the very next unit, if it is one, and the units after it
+abbrev pub bracket_here : Units → Option ℕ × Units
+bracket_here (Next u l) = if is_character (byte "[") u.piece then (Some u.place, l) else (None, Next u l)
+bracket_here (End place) = (None, End place)
+bracket_here (Stop r) = (None, Stop r)
+
+-- the same of the unit that comes next; white space before it is ignored
+abbrev pub bracket : Units → Option ℕ × Units
+bracket l = bracket_here (past_space l)
+
+-- the argument after the bracket, if there was one
+abbrev pub behind_bracket : Option ℕ × Units → Outcome (Option (List Unit))
+behind_bracket (Some place, l) = and_then (between_brackets place l 0) (λ us m. Read (Some (without_braces us)) m)
+behind_bracket (None, l) = Read None l
+
+-- the argument in brackets, if one comes next
+abbrev pub optional : Units → Outcome (Option (List Unit))
+optional l = behind_bracket (bracket l)
+
+-- what is given for an argument, or else its default at the place of the macro
+abbrev pub or_default : ℕ → List Part → Option (List Unit) → List Unit
+or_default place default (Some us) = us
+or_default place default None = put [] place default
+
+-- the argument that has a default, if one has, and this many others
+abbrev pub arguments_with : Option (List Part) → ℕ → ℕ → Units → Outcome (List (List Unit))
+arguments_with None place n l = arguments place n l
+arguments_with (Some default) place n l = and_then (optional l) (λ given m. with_first (or_default place default given) (arguments place n m))
+
+-- the arguments of a macro at this place
+abbrev pub macro_arguments : Macro → ℕ → Units → Outcome (List (List Unit))
+macro_arguments m place l = arguments_with m.default place m.arity l

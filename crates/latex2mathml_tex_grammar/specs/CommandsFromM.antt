@@ -4,7 +4,7 @@ use Rattle.std.specs.Prelude.{ℕ, pos, negsuc, List, [], ◌∷◌, Some, None,
 use Rattle.latex2mathml_tex_grammar.specs.Meaning.{Meaning, Shows, FunctionName, Spacing, Skip, SkipInBraces, Boxed, Smash, Styled, Words, Fraction, Root, Accent, Brace, Stack, StackedRelation, OperatorName, Negation, Slash, Middle, Right, NoLimits, Classed, Changes, ToAlphabet, ToStyle, Divides, words_apart, LineBreak, Substack, Raise, InColor, Highlight, Rectangle, Arrow, Choice}
 use Rattle.latex2mathml_tex_grammar.specs.Symbols.{Letter, UprightLetter, Sign, BigOperator, Integral, Ordinary, Operator, Binary, Relation, Opening, Closing, Punctuation, Inner, Upright, Italic, Bold, BoldItalic, DoubleStruck, Fraktur, Calligraphic, SansSerif, Monospace, InText, InScript}
 use Rattle.latex2mathml_elements.specs.Attributes.{Above, Below, Stretching, Rigid}
-use Rattle.latex2mathml_tex_grammar.specs.Meaning.{Phantom, PhantomHeight, OverRight, OverLeft, OverBoth, StrikeTwice, Beside, ByStyle, Bar, NoBar}
+use Rattle.latex2mathml_tex_grammar.specs.Meaning.{Phantom, PhantomHeight, OverRight, OverLeft, OverBoth, StrikeTwice, Beside, ByStyle, Stacked, Bar, NoBar}
 
 -- the table of commands, from those that begin with `m` on
 unfoldable pub commands_from_m : List (List ℕ × Meaning)
@@ -15,11 +15,14 @@ commands_from_m =
     (codes "mathbb", Styled DoubleStruck) ∷
     (codes "mathbbm", Styled DoubleStruck) ∷
     (codes "mathbf", Styled Bold) ∷
+    (codes "mathbfit", Styled BoldItalic) ∷
+    (codes "mathbfup", Styled Bold) ∷
     (codes "mathbin", Classed Binary) ∷
     (codes "mathcal", Styled Calligraphic) ∷
     (codes "mathchoice", Choice) ∷
     (codes "mathclap", Boxed OverBoth) ∷
     (codes "mathclose", Classed Closing) ∷
+    (codes "mathcolor", InColor) ∷
     (codes "mathcolorbox", Highlight) ∷
     (codes "mathds", Styled DoubleStruck) ∷
     (codes "mathellipsis", Shows (Sign Inner 0x2026)) ∷  -- …
@@ -50,6 +53,7 @@ commands_from_m =
     (codes "mid", Shows (Sign Relation 0x2223)) ∷  -- ∣
     (codes "middle", Middle) ∷
     (codes "min", FunctionName ByStyle (codes "min")) ∷
+    (codes "minuscolon", Shows (Sign Relation 0x2239)) ∷  -- ∹
     (codes "mit", Changes (ToAlphabet Italic)) ∷
     (codes "mkern", Skip) ∷
     (codes "models", Shows (Sign Relation 0x22A8)) ∷  -- ⊨
@@ -64,6 +68,7 @@ commands_from_m =
     (codes "nVDash", Shows (Sign Relation 0x22AF)) ∷  -- ⊯
     (codes "nVdash", Shows (Sign Relation 0x22AE)) ∷  -- ⊮
     (codes "nabla", Shows (Sign Ordinary 0x2207)) ∷  -- ∇
+    (codes "natnums", Shows (Letter 0x2115)) ∷  -- ℕ
     (codes "natural", Shows (Sign Ordinary 0x266E)) ∷  -- ♮
     (codes "ncong", Shows (Sign Relation 0x2246)) ∷  -- ≆
     (codes "ne", Shows (Sign Relation 0x2260)) ∷  -- ≠
@@ -127,6 +132,7 @@ commands_from_m =
     (codes "ominus", Shows (Sign Binary 0x2296)) ∷  -- ⊖
     (codes "operatorname", OperatorName) ∷
     (codes "oplus", Shows (Sign Binary 0x2295)) ∷  -- ⊕
+    (codes "ordinarycolon", Shows (Sign Relation 0x3A)) ∷  -- :
     (codes "origof", Shows (Sign Relation 0x22B6)) ∷  -- ⊶
     (codes "oslash", Shows (Sign Binary 0x2298)) ∷  -- ⊘
     (codes "otimes", Shows (Sign Binary 0x2297)) ∷  -- ⊗
@@ -150,6 +156,8 @@ commands_from_m =
     (codes "phi", Shows (Letter 0x03D5)) ∷  -- ϕ
     (codes "pi", Shows (Letter 0x03C0)) ∷  -- π
     (codes "pitchfork", Shows (Sign Relation 0x22D4)) ∷  -- ⋔
+    (codes "plim", FunctionName Stacked (codes "plim")) ∷
+    (codes "plusmn", Shows (Sign Binary 0xB1)) ∷  -- ±
     (codes "pm", Shows (Sign Binary 0xB1)) ∷  -- ±
     (codes "pmb", Styled BoldItalic) ∷
     (codes "pounds", Shows (Sign Ordinary 0xA3)) ∷  -- £
@@ -168,12 +176,20 @@ commands_from_m =
     (codes "psi", Shows (Letter 0x03C8)) ∷  -- ψ
     (codes "qquad", Spacing (pos 36)) ∷
     (codes "quad", Spacing (pos 18)) ∷
+    (codes "rArr", Shows (Sign Relation 0x21D2)) ∷  -- ⇒
+    (codes "rBrace", Shows (Sign Closing 0x2984)) ∷  -- ⦄
     (codes "rVert", Shows (Sign Closing 0x2225)) ∷  -- ∥
     (codes "raisemath", Raise) ∷
+    (codes "rang", Shows (Sign Closing 0x27E9)) ∷  -- ⟩
     (codes "rangle", Shows (Sign Closing 0x27E9)) ∷  -- ⟩
+    (codes "rarr", Shows (Sign Relation 0x2192)) ∷  -- →
+    (codes "ratio", Shows (Sign Relation 0x3A)) ∷  -- :
     (codes "rbrace", Shows (Sign Closing 0x7D)) ∷  -- }
     (codes "rbrack", Shows (Sign Closing 0x5D)) ∷  -- ]
     (codes "rceil", Shows (Sign Closing 0x2309)) ∷  -- ⌉
+    (codes "real", Shows (UprightLetter 0x211C)) ∷  -- ℜ
+    (codes "reals", Shows (Letter 0x211D)) ∷  -- ℝ
+    (codes "relbar", Shows (Sign Relation 0x2212)) ∷  -- −
     (codes "restriction", Shows (Sign Relation 0x21BE)) ∷  -- ↾
     (codes "rfloor", Shows (Sign Closing 0x230B)) ∷  -- ⌋
     (codes "rgroup", Shows (Sign Closing 0x27EF)) ∷  -- ⟯
@@ -201,9 +217,11 @@ commands_from_m =
     (codes "saturn", Shows (Sign Ordinary 0x2644)) ∷  -- ♄
     (codes "scriptscriptstyle", Changes (ToStyle InScript)) ∷
     (codes "scriptstyle", Changes (ToStyle InScript)) ∷
+    (codes "sdot", Shows (Sign Binary 0x22C5)) ∷  -- ⋅
     (codes "searrow", Shows (Sign Relation 0x2198)) ∷  -- ↘
     (codes "sec", FunctionName Beside (codes "sec")) ∷
     (codes "sech", FunctionName Beside (codes "sech")) ∷
+    (codes "sect", Shows (Sign Ordinary 0xA7)) ∷  -- §
     (codes "setminus", Shows (Sign Binary 0x2216)) ∷  -- ∖
     (codes "sf", Changes (ToAlphabet SansSerif)) ∷
     (codes "sh", FunctionName Beside (codes "sh")) ∷
@@ -223,6 +241,7 @@ commands_from_m =
     (codes "smash", Smash) ∷
     (codes "smile", Shows (Sign Relation 0x2323)) ∷  -- ⌣
     (codes "space", Spacing (pos 6)) ∷
+    (codes "spades", Shows (Sign Ordinary 0x2660)) ∷  -- ♠
     (codes "spadesuit", Shows (Sign Ordinary 0x2660)) ∷  -- ♠
     (codes "sphericalangle", Shows (Sign Ordinary 0x2222)) ∷  -- ∢
     (codes "sqcap", Shows (Sign Binary 0x2293)) ∷  -- ⊓
@@ -236,6 +255,8 @@ commands_from_m =
     (codes "ss", Shows (UprightLetter 0xDF)) ∷  -- ß
     (codes "stackrel", StackedRelation) ∷
     (codes "star", Shows (Sign Binary 0x22C6)) ∷  -- ⋆
+    (codes "sub", Shows (Sign Relation 0x2282)) ∷  -- ⊂
+    (codes "sube", Shows (Sign Relation 0x2286)) ∷  -- ⊆
     (codes "subset", Shows (Sign Relation 0x2282)) ∷  -- ⊂
     (codes "subseteq", Shows (Sign Relation 0x2286)) ∷  -- ⊆
     (codes "subseteqq", Shows (Sign Relation 0x2AC5)) ∷  -- ⫅
@@ -253,6 +274,7 @@ commands_from_m =
     (codes "sum", Shows (BigOperator 0x2211)) ∷  -- ∑
     (codes "sun", Shows (Sign Ordinary 0x263C)) ∷  -- ☼
     (codes "sup", FunctionName ByStyle (codes "sup")) ∷
+    (codes "supe", Shows (Sign Relation 0x2287)) ∷  -- ⊇
     (codes "supset", Shows (Sign Relation 0x2283)) ∷  -- ⊃
     (codes "supseteq", Shows (Sign Relation 0x2287)) ∷  -- ⊇
     (codes "supseteqq", Shows (Sign Relation 0x2AC6)) ∷  -- ⫆
@@ -260,7 +282,18 @@ commands_from_m =
     (codes "supsetneqq", Shows (Sign Relation 0x2ACC)) ∷  -- ⫌
     (codes "surd", Shows (Sign Ordinary 0x221A)) ∷  -- √
     (codes "swarrow", Shows (Sign Relation 0x2199)) ∷  -- ↙
+    (codes "symbb", Styled DoubleStruck) ∷
     (codes "symbf", Styled BoldItalic) ∷
+    (codes "symbfit", Styled BoldItalic) ∷
+    (codes "symbfup", Styled Bold) ∷
+    (codes "symcal", Styled Calligraphic) ∷
+    (codes "symfrak", Styled Fraktur) ∷
+    (codes "symit", Styled Italic) ∷
+    (codes "symrm", Styled Upright) ∷
+    (codes "symscr", Styled Calligraphic) ∷
+    (codes "symsf", Styled SansSerif) ∷
+    (codes "symtt", Styled Monospace) ∷
+    (codes "symup", Styled Upright) ∷
     (codes "tan", FunctionName Beside (codes "tan")) ∷
     (codes "tanh", FunctionName Beside (codes "tanh")) ∷
     (codes "tau", Shows (Letter 0x03C4)) ∷  -- τ
@@ -283,6 +316,7 @@ commands_from_m =
     (codes "th", FunctionName Beside (codes "th")) ∷
     (codes "therefore", Shows (Sign Relation 0x2234)) ∷  -- ∴
     (codes "theta", Shows (Letter 0x03B8)) ∷  -- θ
+    (codes "thetasym", Shows (Letter 0x03D1)) ∷  -- ϑ
     (codes "thickapprox", Shows (Sign Relation 0x2248)) ∷  -- ≈
     (codes "thicksim", Shows (Sign Relation 0x223C)) ∷  -- ∼
     (codes "thickspace", Spacing (pos 5)) ∷
@@ -301,6 +335,8 @@ commands_from_m =
     (codes "tt", Changes (ToAlphabet Monospace)) ∷
     (codes "twoheadleftarrow", Shows (Sign Relation 0x219E)) ∷  -- ↞
     (codes "twoheadrightarrow", Shows (Sign Relation 0x21A0)) ∷  -- ↠
+    (codes "uArr", Shows (Sign Relation 0x21D1)) ∷  -- ⇑
+    (codes "uarr", Shows (Sign Relation 0x2191)) ∷  -- ↑
     (codes "ulcorner", Shows (Sign Opening 0x231C)) ∷  -- ⌜
     (codes "underbar", Accent Below 0x0332 Stretching) ∷
     (codes "underbrace", Brace Below 0x23DF) ∷  -- ⏟
@@ -314,13 +350,42 @@ commands_from_m =
     (codes "underset", Stack Below) ∷
     (codes "unlhd", Shows (Sign Binary 0x22B4)) ∷  -- ⊴
     (codes "unrhd", Shows (Sign Binary 0x22B5)) ∷  -- ⊵
+    (codes "upalpha", Shows (UprightLetter 0x03B1)) ∷  -- α
     (codes "uparrow", Shows (Sign Relation 0x2191)) ∷  -- ↑
+    (codes "upbeta", Shows (UprightLetter 0x03B2)) ∷  -- β
+    (codes "upchi", Shows (UprightLetter 0x03C7)) ∷  -- χ
+    (codes "updelta", Shows (UprightLetter 0x03B4)) ∷  -- δ
     (codes "updownarrow", Shows (Sign Relation 0x2195)) ∷  -- ↕
+    (codes "upepsilon", Shows (UprightLetter 0x03F5)) ∷  -- ϵ
+    (codes "upeta", Shows (UprightLetter 0x03B7)) ∷  -- η
+    (codes "upgamma", Shows (UprightLetter 0x03B3)) ∷  -- γ
     (codes "upharpoonleft", Shows (Sign Relation 0x21BF)) ∷  -- ↿
     (codes "upharpoonright", Shows (Sign Relation 0x21BE)) ∷  -- ↾
+    (codes "upiota", Shows (UprightLetter 0x03B9)) ∷  -- ι
+    (codes "upkappa", Shows (UprightLetter 0x03BA)) ∷  -- κ
+    (codes "uplambda", Shows (UprightLetter 0x03BB)) ∷  -- λ
     (codes "uplus", Shows (Sign Binary 0x228E)) ∷  -- ⊎
+    (codes "upmu", Shows (UprightLetter 0x03BC)) ∷  -- μ
+    (codes "upnu", Shows (UprightLetter 0x03BD)) ∷  -- ν
+    (codes "upomega", Shows (UprightLetter 0x03C9)) ∷  -- ω
+    (codes "upphi", Shows (UprightLetter 0x03D5)) ∷  -- ϕ
+    (codes "uppi", Shows (UprightLetter 0x03C0)) ∷  -- π
+    (codes "uppsi", Shows (UprightLetter 0x03C8)) ∷  -- ψ
+    (codes "uprho", Shows (UprightLetter 0x03C1)) ∷  -- ρ
+    (codes "upsigma", Shows (UprightLetter 0x03C3)) ∷  -- σ
     (codes "upsilon", Shows (Letter 0x03C5)) ∷  -- υ
+    (codes "uptau", Shows (UprightLetter 0x03C4)) ∷  -- τ
+    (codes "uptheta", Shows (UprightLetter 0x03B8)) ∷  -- θ
     (codes "upuparrows", Shows (Sign Relation 0x21C8)) ∷  -- ⇈
+    (codes "upupsilon", Shows (UprightLetter 0x03C5)) ∷  -- υ
+    (codes "upvarepsilon", Shows (UprightLetter 0x03B5)) ∷  -- ε
+    (codes "upvarphi", Shows (UprightLetter 0x03C6)) ∷  -- φ
+    (codes "upvarpi", Shows (UprightLetter 0x03D6)) ∷  -- ϖ
+    (codes "upvarrho", Shows (UprightLetter 0x03F1)) ∷  -- ϱ
+    (codes "upvarsigma", Shows (UprightLetter 0x03C2)) ∷  -- ς
+    (codes "upvartheta", Shows (UprightLetter 0x03D1)) ∷  -- ϑ
+    (codes "upxi", Shows (UprightLetter 0x03BE)) ∷  -- ξ
+    (codes "upzeta", Shows (UprightLetter 0x03B6)) ∷  -- ζ
     (codes "uranus", Shows (Sign Ordinary 0x2645)) ∷  -- ♅
     (codes "urcorner", Shows (Sign Closing 0x231D)) ∷  -- ⌝
     (codes "utilde", Accent Below 0x7E Stretching) ∷  -- ~
@@ -352,6 +417,7 @@ commands_from_m =
     (codes "vert", Shows (Sign Ordinary 0x2223)) ∷  -- ∣
     (codes "vphantom", Boxed PhantomHeight) ∷
     (codes "wedge", Shows (Sign Binary 0x2227)) ∷  -- ∧
+    (codes "weierp", Shows (Letter 0x2118)) ∷  -- ℘
     (codes "widecheck", Accent Above 0x02C7 Stretching) ∷  -- ˇ
     (codes "widehat", Accent Above 0x0302 Stretching) ∷
     (codes "widetilde", Accent Above 0x7E Stretching) ∷  -- ~
@@ -365,6 +431,7 @@ commands_from_m =
     (codes "xhookrightarrow", Arrow 0x21AA) ∷  -- ↪
     (codes "xi", Shows (Letter 0x03BE)) ∷  -- ξ
     (codes "xleftarrow", Arrow 0x2190) ∷  -- ←
+    (codes "xleftequilibrium", Arrow 0x21CB) ∷  -- ⇋
     (codes "xleftharpoondown", Arrow 0x21BD) ∷  -- ↽
     (codes "xleftharpoonup", Arrow 0x21BC) ∷  -- ↼
     (codes "xleftrightarrow", Arrow 0x2194) ∷  -- ↔
@@ -372,8 +439,10 @@ commands_from_m =
     (codes "xlongequal", Arrow 0x3D) ∷  -- =
     (codes "xmapsto", Arrow 0x21A6) ∷  -- ↦
     (codes "xrightarrow", Arrow 0x2192) ∷  -- →
+    (codes "xrightequilibrium", Arrow 0x21CC) ∷  -- ⇌
     (codes "xrightharpoondown", Arrow 0x21C1) ∷  -- ⇁
     (codes "xrightharpoonup", Arrow 0x21C0) ∷  -- ⇀
+    (codes "xrightleftarrows", Arrow 0x21C4) ∷  -- ⇄
     (codes "xrightleftharpoons", Arrow 0x21CC) ∷  -- ⇌
     (codes "xtofrom", Arrow 0x21C4) ∷  -- ⇄
     (codes "xtwoheadleftarrow", Arrow 0x219E) ∷  -- ↞

@@ -36,9 +36,11 @@ commands_up_to_l =
     (codes "Bumpeq", Shows (Sign Relation 0x224E)) ∷  -- ≎
     (codes "Cap", Shows (Sign Binary 0x22D2)) ∷  -- ⋒
     (codes "Chi", Shows (UprightLetter 0x03A7)) ∷  -- Χ
+    (codes "Complex", Shows (Letter 0x2102)) ∷  -- ℂ
     (codes "Cup", Shows (Sign Binary 0x22D3)) ∷  -- ⋓
     (codes "DH", Shows (UprightLetter 0xD0)) ∷  -- Ð
     (codes "Dagger", Shows (Sign Ordinary 0x2021)) ∷  -- ‡
+    (codes "Darr", Shows (Sign Relation 0x21D3)) ∷  -- ⇓
     (codes "Delta", Shows (UprightLetter 0x0394)) ∷  -- Δ
     (codes "Diamond", Shows (Sign Ordinary 0x25CA)) ∷  -- ◊
     (codes "Doteq", Shows (Sign Relation 0x2251)) ∷  -- ≑
@@ -48,20 +50,24 @@ commands_up_to_l =
     (codes "Finv", Shows (UprightLetter 0x2132)) ∷  -- Ⅎ
     (codes "Game", Shows (Sign Ordinary 0x2141)) ∷  -- ⅁
     (codes "Gamma", Shows (UprightLetter 0x0393)) ∷  -- Γ
+    (codes "Harr", Shows (Sign Relation 0x21D4)) ∷  -- ⇔
     (codes "Im", Shows (UprightLetter 0x2111)) ∷  -- ℑ
     (codes "Iota", Shows (UprightLetter 0x0399)) ∷  -- Ι
     (codes "Join", Shows (Sign Relation 0x22C8)) ∷  -- ⋈
     (codes "Kappa", Shows (UprightLetter 0x039A)) ∷  -- Κ
     (codes "L", Shows (UprightLetter 0x0141)) ∷  -- Ł
     (codes "Lambda", Shows (UprightLetter 0x039B)) ∷  -- Λ
+    (codes "Larr", Shows (Sign Relation 0x21D0)) ∷  -- ⇐
     (codes "Leftarrow", Shows (Sign Relation 0x21D0)) ∷  -- ⇐
     (codes "Leftrightarrow", Shows (Sign Relation 0x21D4)) ∷  -- ⇔
     (codes "Lleftarrow", Shows (Sign Relation 0x21DA)) ∷  -- ⇚
     (codes "Longleftarrow", Shows (Sign Relation 0x27F8)) ∷  -- ⟸
     (codes "Longleftrightarrow", Shows (Sign Relation 0x27FA)) ∷  -- ⟺
     (codes "Longrightarrow", Shows (Sign Relation 0x27F9)) ∷  -- ⟹
+    (codes "Lrarr", Shows (Sign Relation 0x21D4)) ∷  -- ⇔
     (codes "Lsh", Shows (Sign Relation 0x21B0)) ∷  -- ↰
     (codes "Mu", Shows (UprightLetter 0x039C)) ∷  -- Μ
+    (codes "N", Shows (Letter 0x2115)) ∷  -- ℕ
     (codes "NG", Shows (UprightLetter 0x014A)) ∷  -- Ŋ
     (codes "Nu", Shows (UprightLetter 0x039D)) ∷  -- Ν
     (codes "O", Shows (UprightLetter 0xD8)) ∷  -- Ø
@@ -74,7 +80,11 @@ commands_up_to_l =
     (codes "Pi", Shows (UprightLetter 0x03A0)) ∷  -- Π
     (codes "Pr", FunctionName ByStyle (codes "Pr")) ∷
     (codes "Psi", Shows (UprightLetter 0x03A8)) ∷  -- Ψ
+    (codes "R", Shows (Letter 0x211D)) ∷  -- ℝ
+    (codes "Rarr", Shows (Sign Relation 0x21D2)) ∷  -- ⇒
     (codes "Re", Shows (UprightLetter 0x211C)) ∷  -- ℜ
+    (codes "Reals", Shows (Letter 0x211D)) ∷  -- ℝ
+    (codes "Relbar", Shows (Sign Relation 0x3D)) ∷  -- =
     (codes "Rho", Shows (UprightLetter 0x03A1)) ∷  -- Ρ
     (codes "Rightarrow", Shows (Sign Relation 0x21D2)) ∷  -- ⇒
     (codes "Rrightarrow", Shows (Sign Relation 0x21DB)) ∷  -- ⇛
@@ -86,21 +96,36 @@ commands_up_to_l =
     (codes "TH", Shows (UprightLetter 0xDE)) ∷  -- Þ
     (codes "Tau", Shows (UprightLetter 0x03A4)) ∷  -- Τ
     (codes "Theta", Shows (UprightLetter 0x0398)) ∷  -- Θ
+    (codes "Uarr", Shows (Sign Relation 0x21D1)) ∷  -- ⇑
     (codes "Uparrow", Shows (Sign Relation 0x21D1)) ∷  -- ⇑
+    (codes "Updelta", Shows (UprightLetter 0x0394)) ∷  -- Δ
     (codes "Updownarrow", Shows (Sign Relation 0x21D5)) ∷  -- ⇕
+    (codes "Upgamma", Shows (UprightLetter 0x0393)) ∷  -- Γ
+    (codes "Uplambda", Shows (UprightLetter 0x039B)) ∷  -- Λ
+    (codes "Upomega", Shows (UprightLetter 0x03A9)) ∷  -- Ω
+    (codes "Upphi", Shows (UprightLetter 0x03A6)) ∷  -- Φ
+    (codes "Uppi", Shows (UprightLetter 0x03A0)) ∷  -- Π
+    (codes "Uppsi", Shows (UprightLetter 0x03A8)) ∷  -- Ψ
+    (codes "Upsigma", Shows (UprightLetter 0x03A3)) ∷  -- Σ
     (codes "Upsilon", Shows (UprightLetter 0x03A5)) ∷  -- Υ
+    (codes "Uptheta", Shows (UprightLetter 0x0398)) ∷  -- Θ
+    (codes "Upupsilon", Shows (UprightLetter 0x03A5)) ∷  -- Υ
+    (codes "Upxi", Shows (UprightLetter 0x039E)) ∷  -- Ξ
     (codes "Vdash", Shows (Sign Relation 0x22A9)) ∷  -- ⊩
     (codes "Vert", Shows (Sign Ordinary 0x2225)) ∷  -- ∥
     (codes "Vvdash", Shows (Sign Relation 0x22AA)) ∷  -- ⊪
     (codes "Xi", Shows (UprightLetter 0x039E)) ∷  -- Ξ
     (codes "Yleft", Shows (Sign Relation 0x2919)) ∷  -- ⤙
     (codes "Yright", Shows (Sign Relation 0x291A)) ∷  -- ⤚
+    (codes "Z", Shows (Letter 0x2124)) ∷  -- ℤ
     (codes "Zeta", Shows (UprightLetter 0x0396)) ∷  -- Ζ
     (codes "\\", LineBreak) ∷
     (codes "_", Shows (Sign Ordinary 0x5F)) ∷  -- _
     (codes "a", Shows (UprightLetter 0xE5)) ∷  -- å
     (codes "acute", Accent Above 0xB4 Rigid) ∷  -- ´
     (codes "ae", Shows (UprightLetter 0xE6)) ∷  -- æ
+    (codes "alef", Shows (UprightLetter 0x2135)) ∷  -- ℵ
+    (codes "alefsym", Shows (UprightLetter 0x2135)) ∷  -- ℵ
     (codes "aleph", Shows (UprightLetter 0x2135)) ∷  -- ℵ
     (codes "alpha", Shows (Letter 0x03B1)) ∷  -- α
     (codes "amalg", Shows (Sign Binary 0x2A3F)) ∷  -- ⨿
@@ -179,6 +204,7 @@ commands_up_to_l =
     (codes "brace", Changes (Divides Braced)) ∷
     (codes "brack", Changes (Divides Bracketed)) ∷
     (codes "breve", Accent Above 0x02D8 Rigid) ∷  -- ˘
+    (codes "bull", Shows (Sign Binary 0x2219)) ∷  -- ∙
     (codes "bullet", Shows (Sign Binary 0x2219)) ∷  -- ∙
     (codes "bumpeq", Shows (Sign Relation 0x224F)) ∷  -- ≏
     (codes "cal", Changes (ToAlphabet Calligraphic)) ∷
@@ -203,7 +229,9 @@ commands_up_to_l =
     (codes "circledast", Shows (Sign Binary 0x229B)) ∷  -- ⊛
     (codes "circledcirc", Shows (Sign Binary 0x229A)) ∷  -- ⊚
     (codes "circleddash", Shows (Sign Binary 0x229D)) ∷  -- ⊝
+    (codes "clubs", Shows (Sign Ordinary 0x2663)) ∷  -- ♣
     (codes "clubsuit", Shows (Sign Ordinary 0x2663)) ∷  -- ♣
+    (codes "cnums", Shows (Letter 0x2102)) ∷  -- ℂ
     (codes "coloncolon", Shows (Sign Relation 0x2237)) ∷  -- ∷
     (codes "colonequals", Shows (Sign Relation 0x2254)) ∷  -- ≔
     (codes "color", Changes ToColor) ∷
@@ -229,9 +257,11 @@ commands_up_to_l =
     (codes "curlywedge", Shows (Sign Binary 0x22CF)) ∷  -- ⋏
     (codes "curvearrowleft", Shows (Sign Relation 0x21B6)) ∷  -- ↶
     (codes "curvearrowright", Shows (Sign Relation 0x21B7)) ∷  -- ↷
+    (codes "dArr", Shows (Sign Relation 0x21D3)) ∷  -- ⇓
     (codes "dag", Shows (Sign Ordinary 0x2020)) ∷  -- †
     (codes "dagger", Shows (Sign Binary 0x2020)) ∷  -- †
     (codes "daleth", Shows (UprightLetter 0x2138)) ∷  -- ℸ
+    (codes "darr", Shows (Sign Relation 0x2193)) ∷  -- ↓
     (codes "dashleftarrow", Shows (Sign Relation 0x21E0)) ∷  -- ⇠
     (codes "dashrightarrow", Shows (Sign Relation 0x21E2)) ∷  -- ⇢
     (codes "dashv", Shows (Sign Relation 0x22A3)) ∷  -- ⊣
@@ -239,6 +269,7 @@ commands_up_to_l =
     (codes "dblcolon", Shows (Sign Relation 0x2237)) ∷  -- ∷
     (codes "ddag", Shows (Sign Ordinary 0x2021)) ∷  -- ‡
     (codes "ddagger", Shows (Sign Binary 0x2021)) ∷  -- ‡
+    (codes "ddddot", Accent Above 0x20DC Rigid) ∷
     (codes "dddot", Accent Above 0x20DB Rigid) ∷
     (codes "ddot", Accent Above 0xA8 Rigid) ∷  -- ¨
     (codes "ddots", Shows (Sign Inner 0x22F1)) ∷  -- ⋱
@@ -251,6 +282,7 @@ commands_up_to_l =
     (codes "diagdown", Shows (Sign Ordinary 0x2572)) ∷  -- ╲
     (codes "diagup", Shows (Sign Ordinary 0x2571)) ∷  -- ╱
     (codes "diamond", Shows (Sign Binary 0x22C4)) ∷  -- ⋄
+    (codes "diamonds", Shows (Sign Ordinary 0x2662)) ∷  -- ♢
     (codes "diamondsuit", Shows (Sign Ordinary 0x2662)) ∷  -- ♢
     (codes "digamma", Shows (Letter 0x03DD)) ∷  -- ϝ
     (codes "dim", FunctionName Beside (codes "dim")) ∷
@@ -274,12 +306,14 @@ commands_up_to_l =
     (codes "earth", Shows (Sign Ordinary 0x2641)) ∷  -- ♁
     (codes "ell", Shows (Letter 0x2113)) ∷  -- ℓ
     (codes "emph", Words (Some Italic)) ∷
+    (codes "empty", Shows (Sign Ordinary 0x2205)) ∷  -- ∅
     (codes "emptyset", Shows (Sign Ordinary 0x2205)) ∷  -- ∅
     (codes "end", EndTable) ∷
     (codes "enskip", Spacing (pos 9)) ∷
     (codes "enspace", Spacing (pos 9)) ∷
     (codes "epsilon", Shows (Letter 0x03F5)) ∷  -- ϵ
     (codes "eqcirc", Shows (Sign Relation 0x2256)) ∷  -- ≖
+    (codes "eqcolon", Shows (Sign Relation 0x2255)) ∷  -- ≕
     (codes "eqqcolon", Shows (Sign Relation 0x2255)) ∷  -- ≕
     (codes "eqsim", Shows (Sign Relation 0x2242)) ∷  -- ≂
     (codes "eqslantgtr", Shows (Sign Relation 0x2A96)) ∷  -- ⪖
@@ -291,6 +325,7 @@ commands_up_to_l =
     (codes "eta", Shows (Letter 0x03B7)) ∷  -- η
     (codes "eth", Shows (UprightLetter 0xF0)) ∷  -- ð
     (codes "euro", Shows (Sign Ordinary 0x20AC)) ∷  -- €
+    (codes "exist", Shows (Sign Ordinary 0x2203)) ∷  -- ∃
     (codes "exists", Shows (Sign Ordinary 0x2203)) ∷  -- ∃
     (codes "exp", FunctionName Beside (codes "exp")) ∷
     (codes "fallingdotseq", Shows (Sign Relation 0x2252)) ∷  -- ≒
@@ -325,9 +360,12 @@ commands_up_to_l =
     (codes "gtrless", Shows (Sign Relation 0x2277)) ∷  -- ≷
     (codes "gtrsim", Shows (Sign Relation 0x2273)) ∷  -- ≳
     (codes "gvertneqq", Shows (Sign Relation 0x2269)) ∷  -- ≩
+    (codes "hArr", Shows (Sign Relation 0x21D4)) ∷  -- ⇔
+    (codes "harr", Shows (Sign Relation 0x2194)) ∷  -- ↔
     (codes "hat", Accent Above 0x02C6 Rigid) ∷  -- ˆ
     (codes "hbar", Shows (Letter 0x210F)) ∷  -- ℏ
     (codes "hbox", Words None) ∷
+    (codes "hearts", Shows (Sign Ordinary 0x2661)) ∷  -- ♡
     (codes "heartsuit", Shows (Sign Ordinary 0x2661)) ∷  -- ♡
     (codes "hom", FunctionName Beside (codes "hom")) ∷
     (codes "hookleftarrow", Shows (Sign Relation 0x21A9)) ∷  -- ↩
@@ -340,18 +378,21 @@ commands_up_to_l =
     (codes "iiiint", Shows (Integral 0x2A0C)) ∷  -- ⨌
     (codes "iiint", Shows (Integral 0x222D)) ∷  -- ∭
     (codes "iint", Shows (Integral 0x222C)) ∷  -- ∬
+    (codes "image", Shows (UprightLetter 0x2111)) ∷  -- ℑ
     (codes "imageof", Shows (Sign Relation 0x22B7)) ∷  -- ⊷
     (codes "imath", Shows (Letter 0x0131)) ∷  -- ı
     (codes "impliedby", Shows (Sign Relation 0x27F8)) ∷  -- ⟸
     (codes "implies", Shows (Sign Relation 0x27F9)) ∷  -- ⟹
     (codes "in", Shows (Sign Relation 0x2208)) ∷  -- ∈
     (codes "inf", FunctionName ByStyle (codes "inf")) ∷
+    (codes "infin", Shows (Sign Ordinary 0x221E)) ∷  -- ∞
     (codes "infty", Shows (Sign Ordinary 0x221E)) ∷  -- ∞
     (codes "injlim", FunctionName ByStyle (words_apart (codes "inj") (codes "lim"))) ∷
     (codes "int", Shows (Integral 0x222B)) ∷  -- ∫
     (codes "intercal", Shows (Sign Binary 0x22BA)) ∷  -- ⊺
     (codes "intop", Shows (BigOperator 0x222B)) ∷  -- ∫
     (codes "iota", Shows (Letter 0x03B9)) ∷  -- ι
+    (codes "isin", Shows (Sign Relation 0x2208)) ∷  -- ∈
     (codes "it", Changes (ToAlphabet Italic)) ∷
     (codes "jmath", Shows (Letter 0x0237)) ∷  -- ȷ
     (codes "jupiter", Shows (Sign Ordinary 0x2643)) ∷  -- ♃
@@ -359,10 +400,14 @@ commands_up_to_l =
     (codes "ker", FunctionName Beside (codes "ker")) ∷
     (codes "kern", Skip) ∷
     (codes "l", Shows (UprightLetter 0x0142)) ∷  -- ł
+    (codes "lArr", Shows (Sign Relation 0x21D0)) ∷  -- ⇐
+    (codes "lBrace", Shows (Sign Opening 0x2983)) ∷  -- ⦃
     (codes "lVert", Shows (Sign Opening 0x2225)) ∷  -- ∥
     (codes "lambda", Shows (Letter 0x03BB)) ∷  -- λ
     (codes "land", Shows (Sign Binary 0x2227)) ∷  -- ∧
+    (codes "lang", Shows (Sign Opening 0x27E8)) ∷  -- ⟨
     (codes "langle", Shows (Sign Opening 0x27E8)) ∷  -- ⟨
+    (codes "larr", Shows (Sign Relation 0x2190)) ∷  -- ←
     (codes "lbrace", Shows (Sign Opening 0x7B)) ∷  -- {
     (codes "lbrack", Shows (Sign Opening 0x5B)) ∷  -- [
     (codes "lceil", Shows (Sign Opening 0x2308)) ∷  -- ⌈
@@ -421,6 +466,8 @@ commands_up_to_l =
     (codes "lor", Shows (Sign Binary 0x2228)) ∷  -- ∨
     (codes "lozenge", Shows (Sign Ordinary 0x25CA)) ∷  -- ◊
     (codes "lparen", Shows (Sign Opening 0x28)) ∷  -- (
+    (codes "lrArr", Shows (Sign Relation 0x21D4)) ∷  -- ⇔
+    (codes "lrarr", Shows (Sign Relation 0x2194)) ∷  -- ↔
     (codes "lrcorner", Shows (Sign Closing 0x231F)) ∷  -- ⌟
     (codes "lt", Shows (Sign Relation 0x3C)) ∷  -- <
     (codes "ltimes", Shows (Sign Binary 0x22C9)) ∷  -- ⋉

@@ -1,12 +1,13 @@
 -- Definitions, which are part of the text. Each is a word, a name, how many arguments the macro takes, and its body. What
 -- is not one is refused: at the word, at a brace that is not closed, or where there is no unit. White space between the
 -- parts is ignored.
-use Rattle.std.specs.Prelude.{ℕ, zero, suc, ◌+◌, ◌-◌, Bool, true, false, ◌&&◌, nat_lt, List, [], ◌∷◌, ◌++◌, ◌==◌, codes, Option, Some, None, if◌then◌else◌}
+use Rattle.std.specs.Prelude.{ℕ, zero, suc, ◌+◌, ◌-◌, Bool, true, false, ◌&&◌, nat_lt, List, [], ◌∷◌, ◌++◌, codes, Option, Some, None, if◌then◌else◌}
 use Rattle.std.specs.{Char.is_ascii_digit, Str.byte, Str.bytes_eq}
-use Rattle.latex2mathml_tex_grammar.specs.Arguments.{NoBrace, Brace, brace_of, argument, and_then}
-use Rattle.latex2mathml_tex_grammar.specs.Macros.{Part, Fixed, Argument, Macro, macro, Table, with_macro}
+pub use Rattle.latex2mathml_tex_grammar.specs.Arguments.{is_character}
+use Rattle.latex2mathml_tex_grammar.specs.Arguments.{NoBrace, Brace, brace_of, argument, optional, and_then}
+use Rattle.latex2mathml_tex_grammar.specs.Macros.{Part, Fixed, Argument, Macro, macro, macro_with_default, Table, with_macro}
 use Rattle.latex2mathml_tex_grammar.specs.{Next.is_space_piece, Next.past_space, Reading.Outcome, Reading.Read, Reading.Refused}
-use Rattle.latex2mathml_tex_grammar.specs.Refusal.{MissingMacroName, WrongParameters, OptionalArgument, DelimitedArgument, UnknownParameter, refusal_at}
+use Rattle.latex2mathml_tex_grammar.specs.Refusal.{MissingMacroName, WrongParameters, DelimitedArgument, UnknownParameter, refusal_at}
 use Rattle.latex2mathml_tex_grammar.specs.Units.{Piece, Open, Close, Command, Character, Unit, Units, Next, End, Stop}
 
 -- the words that define
@@ -15,7 +16,7 @@ pub data Word : Type 0 where
   NewCommand : Word
   -- `\providecommand`, which leaves such a name as it is
   ProvideCommand : Word
-  -- `\def`
+  -- `\def`, and `\gdef`, which is the same here, since each definition holds to the end of its text
   Def : Word
   -- `\DeclareMathOperator`
   DeclareOperator : Word
@@ -27,6 +28,7 @@ word_named name =
     else if bytes_eq name (codes "renewcommand") then Some NewCommand
     else if bytes_eq name (codes "providecommand") then Some ProvideCommand
     else if bytes_eq name (codes "def") then Some Def
+    else if bytes_eq name (codes "gdef") then Some Def
     else if bytes_eq name (codes "DeclareMathOperator") then Some DeclareOperator
     else None
 
@@ -40,11 +42,6 @@ abbrev pub definition : List ℕ → Macro → Definition
 definition name m = record { name = name; stands_for = m }
 
 -- Signs between the parts
-
--- whether a unit is this character
-abbrev pub is_character : ℕ → Piece → Bool
-is_character c (Character d) = d == c
-is_character c piece = false
 
 -- whether the very next unit is this character, and the units after it, where it is
 abbrev pub sign_here : ℕ → Units → Bool × Units
@@ -104,14 +101,9 @@ name_of place l = and_then (argument place l) (λ us m. name_read place (name_in
 
 -- How many arguments: a digit between brackets
 
--- a second bracket begins the default of an argument that is left out
-abbrev pub without_default : ℕ → ℕ → Bool × Units → Outcome ℕ
-without_default place n (true, l) = Refused (refusal_at OptionalArgument place)
-without_default place n (false, l) = Read n l
-
--- this number of arguments, where its bracket is closed. What may follow is a default, which is refused.
+-- this number of arguments, where its bracket is closed
 abbrev pub number_closed : ℕ → ℕ → Bool × Units → Outcome ℕ
-number_closed place n (true, l) = without_default place n (sign (byte "[") l)
+number_closed place n (true, l) = Read n l
 number_closed place n (false, l) = Refused (refusal_at WrongParameters place)
 
 -- the number of arguments from its digit on, if one was found
@@ -186,6 +178,23 @@ body_read place None l = Refused (refusal_at UnknownParameter place)
 abbrev pub body : ℕ → ℕ → Units → Outcome (List Part)
 body place n l = and_then (argument place l) (λ us m. body_read place (parts_of n us) m)
 
+-- The default of the first argument, which is in brackets. It has no arguments itself.
+
+-- this default, or the refusal of what is none
+abbrev pub default_read : ℕ → Option (List Part) → Units → Outcome (Option (List Part))
+default_read place (Some parts) l = Read (Some parts) l
+default_read place None l = Refused (refusal_at UnknownParameter place)
+
+-- the default that these units are, of the first of n arguments, if it is given
+abbrev pub default_given : ℕ → ℕ → Option (List Unit) → Units → Outcome (Option (List Part))
+default_given place n None l = Read None l
+default_given place zero (Some us) l = Refused (refusal_at WrongParameters place)
+default_given place (suc n) (Some us) l = default_read place (parts_of 0 us) l
+
+-- the default of the first of n arguments, if one comes next
+abbrev pub default_of : ℕ → ℕ → Units → Outcome (Option (List Part))
+default_of place n l = and_then (optional l) (default_given place n)
+
 -- the first unit is something other than a brace
 abbrev pub is_delimited : Units → Bool
 is_delimited (Next u l) = is_no_brace (brace_of u.piece)
@@ -216,12 +225,13 @@ word_of piece = None
 
 -- The definitions that follow their words
 
--- what follows `\newcommand` and the like: a star, which is ignored, a name, a number of arguments, and a body
+-- what follows `\newcommand` and the like: a star, which is ignored, a name, a number of arguments, a default, and a body
 abbrev pub command_definition : ℕ → Units → Outcome Definition
 command_definition place l =
     and_then (name_of place (sign (byte "*") l).1) (λ name m.
     and_then (number_of place m) (λ n k.
-    and_then (body place n k) (λ parts rest. Read (definition name (macro n parts)) rest)))
+    and_then (default_of place n k) (λ default j.
+    and_then (body place n j) (λ parts rest. Read (definition name (macro_with_default default n parts)) rest))))
 
 -- what follows `\def`: a name, its parameters, and a body in braces
 abbrev pub plain_definition : ℕ → Units → Outcome Definition

@@ -7,14 +7,20 @@ use Rattle.latex2mathml_tex_grammar.specs.Units.{Piece, Command, Character}
 -- the commands that are delimiters
 unfoldable pub delimiter_commands : List (List ℕ × ℕ)
 delimiter_commands =
+    (codes "Darr", 0x21D3) ∷  -- ⇓
     (codes "Downarrow", 0x21D3) ∷  -- ⇓
+    (codes "Uarr", 0x21D1) ∷  -- ⇑
     (codes "Uparrow", 0x21D1) ∷  -- ⇑
     (codes "Updownarrow", 0x21D5) ∷  -- ⇕
     (codes "Vert", 0x2016) ∷  -- ‖
     (codes "backslash", 0x5C) ∷  -- \
+    (codes "dArr", 0x21D3) ∷  -- ⇓
+    (codes "darr", 0x2193) ∷  -- ↓
     (codes "downarrow", 0x2193) ∷  -- ↓
     (codes "gt", 0x27E9) ∷  -- ⟩
+    (codes "lBrace", 0x2983) ∷  -- ⦃
     (codes "lVert", 0x2016) ∷  -- ‖
+    (codes "lang", 0x27E8) ∷  -- ⟨
     (codes "langle", 0x27E8) ∷  -- ⟨
     (codes "lbrace", 0x7B) ∷  -- {
     (codes "lbrack", 0x5B) ∷  -- [
@@ -26,7 +32,9 @@ delimiter_commands =
     (codes "lparen", 0x28) ∷  -- (
     (codes "lt", 0x27E8) ∷  -- ⟨
     (codes "lvert", 0x7C) ∷  -- |
+    (codes "rBrace", 0x2984) ∷  -- ⦄
     (codes "rVert", 0x2016) ∷  -- ‖
+    (codes "rang", 0x27E9) ∷  -- ⟩
     (codes "rangle", 0x27E9) ∷  -- ⟩
     (codes "rbrace", 0x7D) ∷  -- }
     (codes "rbrack", 0x5D) ∷  -- ]
@@ -37,6 +45,8 @@ delimiter_commands =
     (codes "rparen", 0x29) ∷  -- )
     (codes "rrbracket", 0x27E7) ∷  -- ⟧
     (codes "rvert", 0x7C) ∷  -- |
+    (codes "uArr", 0x21D1) ∷  -- ⇑
+    (codes "uarr", 0x2191) ∷  -- ↑
     (codes "ulcorner", 0x231C) ∷  -- ⌜
     (codes "uparrow", 0x2191) ∷  -- ↑
     (codes "updownarrow", 0x2195) ∷  -- ↕
@@ -76,10 +86,12 @@ negated_commands =
     (codes "approx", 0x2249) ∷  -- ≉
     (codes "cong", 0x2247) ∷  -- ≇
     (codes "equiv", 0x2262) ∷  -- ≢
+    (codes "exist", 0x2204) ∷  -- ∄
     (codes "exists", 0x2204) ∷  -- ∄
     (codes "ge", 0x2271) ∷  -- ≱
     (codes "geq", 0x2271) ∷  -- ≱
     (codes "in", 0x2209) ∷  -- ∉
+    (codes "isin", 0x2209) ∷  -- ∉
     (codes "le", 0x2270) ∷  -- ≰
     (codes "leq", 0x2270) ∷  -- ≰
     (codes "mid", 0x2224) ∷  -- ∤
@@ -88,9 +100,12 @@ negated_commands =
     (codes "parallel", 0x2226) ∷  -- ∦
     (codes "prec", 0x2280) ∷  -- ⊀
     (codes "sim", 0x2241) ∷  -- ≁
+    (codes "sub", 0x2284) ∷  -- ⊄
+    (codes "sube", 0x2288) ∷  -- ⊈
     (codes "subset", 0x2284) ∷  -- ⊄
     (codes "subseteq", 0x2288) ∷  -- ⊈
     (codes "succ", 0x2281) ∷  -- ⊁
+    (codes "supe", 0x2289) ∷  -- ⊉
     (codes "supset", 0x2285) ∷  -- ⊅
     (codes "supseteq", 0x2289) ∷  -- ⊉
     (codes "vdash", 0x22AC) ∷  -- ⊬

@@ -1,41 +1,43 @@
 -- The environments: each is a table. A name is its bytes.
-use Rattle.std.specs.Prelude.{ℕ, ◌==◌, Bool, true, false, List, [], ◌∷◌, Option, Some, None, codes, if◌then◌else◌}
+use Rattle.std.specs.Prelude.{ℕ, ◌==◌, ◌||◌, Bool, true, false, List, [], ◌∷◌, Option, Some, None, codes, if◌then◌else◌}
 use Rattle.std.specs.{Str.byte, Str.bytes_eq}
-use Rattle.latex2mathml_elements.specs.Columns.{Centered, LeftAligned, RightAligned, Dense, SpaceAround, Borders, NoLine, LineBefore, LineAfter, LinesAround, Column, unlined, Columns, Alike, InPairs, Listed}
+use Rattle.latex2mathml_elements.specs.Columns.{Centered, LeftAligned, RightAligned, Dense, SpaceAround, Column, unlined, Columns, Alike, InPairs, Listed}
+use Rattle.latex2mathml_elements.specs.Lines.{Line, NoLine, OneLine, TwoLines, Dashes}
 use Rattle.latex2mathml_tex_grammar.specs.Scanning.{Argument, ColumnList, Number}
 use Rattle.latex2mathml_tex_grammar.specs.Symbols.{Style, InDisplay, InText, InScript}
+
+-- whether a sign among columns is a line
+abbrev pub is_line_sign : ℕ → Bool
+is_line_sign c = c == byte "|" || c == byte ":"
 
 -- whether signs of columns begin with a line
 abbrev pub begins_with_line : List ℕ → Bool
 begins_with_line [] = false
-begins_with_line (c ∷ cs) = c == byte "|"
+begins_with_line (c ∷ cs) = is_line_sign c
 
--- the lines next to a column: whether there is one before it, and whether there is one after it
-abbrev pub borders : Bool → Bool → Borders
-borders false false = NoLine
-borders true false = LineBefore
-borders false true = LineAfter
-borders true true = LinesAround
+-- the line of a sign; several are drawn as two
+abbrev pub line_of : ℕ → Bool → Line
+line_of c true = TwoLines
+line_of c false = if c == byte ":" then Dashes else OneLine
 
--- the column of a letter, with these lines
-abbrev pub column_of : ℕ → Borders → Column
-column_of c lines = record {
+-- the line that signs of columns begin with, if they begin with one
+abbrev pub line_at : List ℕ → Line
+line_at [] = NoLine
+line_at (c ∷ cs) = if is_line_sign c then line_of c (begins_with_line cs) else NoLine
+
+-- the column of a letter, with this line after it
+abbrev pub column_of : ℕ → Line → Column
+column_of c line = record {
   alignment = if c == byte "l" then LeftAligned else if c == byte "r" then RightAligned else Centered;
   spacing = SpaceAround;
-  borders = lines;
+  before = NoLine;
+  after = line;
 }
 
--- the columns of these signs, where a line may come before the first: a letter is a column, and has a line after it if a line
--- comes next
-abbrev pub columns_behind : Bool → List ℕ → List Column
-columns_behind line [] = []
-columns_behind line (c ∷ cs) =
-    if c == byte "|" then columns_behind line cs
-    else column_of c (borders line (begins_with_line cs)) ∷ columns_behind false cs
-
--- the columns that these signs say
+-- the columns that these signs say: a letter is a column, and has the line after it that comes next
 abbrev pub columns_of : List ℕ → List Column
-columns_of signs = columns_behind (begins_with_line signs) signs
+columns_of [] = []
+columns_of (c ∷ cs) = if is_line_sign c then columns_of cs else column_of c (line_at cs) ∷ columns_of cs
 
 -- what may be in brackets after the name of an environment
 pub data Bracket : Type 0 where
@@ -90,7 +92,7 @@ with_argument argument e = record e { argument = Some argument }
 
 -- the two sides of a relation, and the relation between them
 abbrev pub around_relation : Environment
-around_relation = cells_in (Listed (unlined RightAligned ∷ unlined Centered ∷ unlined LeftAligned ∷ [])) InDisplay
+around_relation = cells_in (Listed NoLine (unlined RightAligned ∷ unlined Centered ∷ unlined LeftAligned ∷ [])) InDisplay
 
 -- the table of environments, in the order of bytes
 unfoldable pub environments : List (List ℕ × Environment)

@@ -1,7 +1,7 @@
 -- Expansion: what units become when the macros that they use are replaced and the definitions among them are taken. What is
 -- refused ends the units, as does what is not a unit.
 use Rattle.std.specs.Prelude.{◌≡◌, ℕ, zero, suc, ◌-◌, nat_lt, List, length, Option, Some, None, if◌then◌else◌}
-use Rattle.latex2mathml_tex_grammar.specs.Arguments.{arguments}
+use Rattle.latex2mathml_tex_grammar.specs.Arguments.{macro_arguments}
 use Rattle.latex2mathml_tex_grammar.specs.Definitions.{Word, word_named, Definition, definition_of, behind_definition}
 use Rattle.latex2mathml_tex_grammar.specs.Macros.{Macro, Table, put, before}
 use Rattle.latex2mathml_tex_grammar.specs.Reading.{Outcome, Read, Refused}
@@ -64,7 +64,7 @@ with_arguments table uses room u m (Refused r) = Fails r
 -- what becomes of the use of a macro, which is refused if no more can be used
 abbrev pub used : Table → ℕ → ℕ → Unit → Macro → Units → Turn
 used table zero room u m l = Fails (refusal_at TooManyExpansions u.place)
-used table (suc uses) room u m l = with_arguments table uses room u m (arguments u.place m.arity l)
+used table (suc uses) room u m l = with_arguments table uses room u m (macro_arguments m u.place l)
 
 -- what becomes of the word of a definition, by the outcome of the definition that follows it
 abbrev pub defined : Table → ℕ → ℕ → Word → Outcome Definition → Turn

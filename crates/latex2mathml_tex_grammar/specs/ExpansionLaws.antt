@@ -1,6 +1,6 @@
 -- Laws of expansion.
 use Rattle.std.specs.{List.AllByRecursion, Str.byte}
-use Rattle.std.specs.Prelude.{Bool, IsTrue, Some, codes, ◌≡◌, ℕ, suc, ◌+◌, ◌≤◌, List, [], ◌∷◌, ◌++◌, ⊤}
+use Rattle.std.specs.Prelude.{Bool, IsTrue, Option, Some, None, codes, ◌≡◌, ℕ, suc, ◌+◌, ◌≤◌, List, [], ◌∷◌, ◌++◌, ⊤}
 use Rattle.latex2mathml_tex_grammar.specs.Arguments.{Opening, Closing, NoBrace, brace_of, group, arguments}
 use Rattle.latex2mathml_tex_grammar.specs.Definitions.{Word, definition_of}
 use Rattle.latex2mathml_tex_grammar.specs.{DefinitionTexts.ReadsDefinitions, Reading.Outcome, Reading.Read}
@@ -57,9 +57,18 @@ EachFixed P [] = ⊤
 EachFixed P (Fixed p ∷ parts) = P p × EachFixed P parts
 EachFixed P (Argument k ∷ parts) = EachFixed P parts
 
--- each fixed piece of the bodies of macros passes
+-- each fixed piece of a default passes, if there is one
+abbrev pub EachOfDefault : (Piece → Type 0) → Option (List Part) → Type 0
+EachOfDefault P (Some parts) = EachFixed P parts
+EachOfDefault P None = ⊤
+
+-- each fixed piece of a macro passes
+abbrev pub EachInMacro : (Piece → Type 0) → Macro → Type 0
+EachInMacro P m = EachFixed P m.body × EachOfDefault P m.default
+
+-- each fixed piece of the macros passes
 abbrev pub EachInTable : (Piece → Type 0) → Table → Type 0
-EachInTable P table = (name : List ℕ) (m : Macro) → table name ≡ Some m → EachFixed P m.body
+EachInTable P table = (name : List ℕ) (m : Macro) → table name ≡ Some m → EachInMacro P m
 
 -- What holds of each piece of the units and of the macros holds of each piece of the expansion, if it holds of the pieces
 -- that a definition of an operator adds.

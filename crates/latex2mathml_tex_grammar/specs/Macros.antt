@@ -1,5 +1,5 @@
 -- Macros: what a name means, and what takes the place of its use.
-use Rattle.std.specs.Prelude.{◌≡◌, ℕ, zero, suc, List, [], ◌∷◌, ◌++◌, Option, Some, None, if◌then◌else◌}
+use Rattle.std.specs.Prelude.{◌≡◌, ℕ, zero, suc, ◌-◌, List, [], ◌∷◌, ◌++◌, Option, Some, None, if◌then◌else◌}
 use Rattle.std.specs.Str.{bytes_eq}
 use Rattle.latex2mathml_tex_grammar.specs.Units.{Piece, Command, Unit, unit, Units, Next}
 
@@ -10,14 +10,26 @@ pub data Part : Type 0 where
   -- an argument, by its number, counted from 0
   Argument : ℕ → Part
 
--- how many arguments a macro takes, and what replaces it
+-- what arguments a macro takes, and what replaces it
 pub record Macro : Type 0 where
+  -- the default of its first argument, if that one can be left out
+  pub default : Option (List Part)
+  -- how many other arguments it takes
   pub arity : ℕ
   pub body : List Part
 
--- a macro of its two parts
+-- a macro of its three parts
+abbrev pub macro_of_parts : Option (List Part) → ℕ → List Part → Macro
+macro_of_parts default arity body = record { default = default; arity = arity; body = body }
+
+-- a macro of which no argument can be left out
 abbrev pub macro : ℕ → List Part → Macro
-macro arity body = record { arity = arity; body = body }
+macro arity body = macro_of_parts None arity body
+
+-- a macro of this many arguments, the first of which can be left out if it has a default
+abbrev pub macro_with_default : Option (List Part) → ℕ → List Part → Macro
+macro_with_default None n body = macro n body
+macro_with_default (Some default) n body = macro_of_parts (Some default) (n - 1) body
 
 -- the macros that hold: what each name means, where it is the name of one. A name is its bytes, without the backslash.
 abbrev pub Table : Type 0

@@ -1,6 +1,6 @@
 -- The atoms of each construct.
 use Rattle.std.specs.Prelude.{ℕ, zero, suc, ◌==◌, ◌||◌, ℤ, pos, Bool, true, false, List, [], ◌∷◌, ◌++◌, map, Option, Some, None, codes, if◌then◌else◌}
-use Rattle.std.specs.{Char.encode_utf8, Str.encode_utf8_all}
+use Rattle.std.specs.{Char.encode_utf8, Option.is_some, Str.encode_utf8_all}
 use Rattle.latex2mathml_elements.specs.Attributes.{Attributes, Side, Above, Below, Form, Prefix, Postfix, Stretch, Stretching, Rigid, Space, NoSpace, Narrow, Thick, Size, Boxing, NoWidth, Flat, NoHeight, NoDepth, ByItsWidth, ByHalfItsWidth, Framed, StruckUp, StruckDown, StruckTwice, boxed, MathStyle, DisplayStyle, TextStyle, ScriptStyle, plain}
 use Rattle.latex2mathml_elements.specs.Element.{Mi, Mn, Mo, Mrow, Msqrt, Mstyle, Mpadded, Mphantom, Mfrac, Mroot, Msub, Msup, Munder, Mover, Msubsup, Munderover, Element, token, space, rectangle, container, pair, triple, children}
 use Rattle.latex2mathml_elements.specs.Extents.{wide}
@@ -395,6 +395,8 @@ pub record Scripts : Type 0 where
   pub limits : LimitPlace
   -- whether a command may say where they are to be
   pub takes_limits : Bool
+  -- whether the subscript is higher than a letter
+  pub high : Bool
 
 -- an operator has limits
 abbrev pub takes_limits : Kind → Bool
@@ -405,7 +407,7 @@ takes_limits kind = false
 
 -- no scripts after an atom of this kind
 abbrev pub no_scripts : Kind → LimitPlace → Scripts
-no_scripts kind limits = record { primes = 0; below = None; above = None; limits = limits; takes_limits = takes_limits kind }
+no_scripts kind limits = record { primes = 0; below = None; above = None; limits = limits; takes_limits = takes_limits kind; high = false }
 
 -- this many primes as one text
 abbrev pub primes_text : ℕ → List ℕ
@@ -466,11 +468,17 @@ scripted_kind kind = no_letters kind
 abbrev pub base_there : Style → Before → Atom → Element
 base_there style before base = element_there style true before base.kind base.element
 
+-- Whether an atom with scripts is higher than a letter, by whether a part of it is, or is above or below it. In scripts it always is.
+abbrev pub is_high : Style → Bool → Bool
+is_high InScript part = true
+is_high style part = part
+
 -- an atom with these elements below and above it; without any, it stays as it is
 abbrev pub scripted_atom : Style → Before → Atom → Scripts → Option Element → Option Element → Atom
 scripted_atom style before base scripts None None = base
 scripted_atom style before base scripts below above =
-    atom (scripted_kind base.kind) true (with_scripts (are_stacked style scripts.limits) (fixed_base scripts.limits (base_there style before base)) below above)
+    let stacked = are_stacked style scripts.limits in
+    atom (scripted_kind base.kind) (is_high style (stacked || base.high || scripts.high || is_some above)) (with_scripts stacked (fixed_base scripts.limits (base_there style before base)) below above)
 
 -- an atom with what follows it, after what precedes it
 abbrev pub scripted : Style → Before → Atom → Scripts → Atom

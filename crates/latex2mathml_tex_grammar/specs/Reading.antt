@@ -12,7 +12,7 @@ use Rattle.latex2mathml_tex_grammar.specs.Rules.{Context, in_context, styled, En
 use Rattle.latex2mathml_tex_grammar.specs.Starts.{DividerStart, ScriptStart, RuleStart, ChangeStart, NoStart, GroupStart, DigitStart, OtherStart, atom_start, operand_start, mark_of, GoesOn, TakesOperand, Forbidden, step_of_mark, step_next, empty_base, ends, unended, is_close, left_behind, PartsCells, EndsRow, EndsTable, cell_end}
 use Rattle.latex2mathml_tex_grammar.specs.Scanning.{Spot, BeforeRow, Given, Missing, scan, past, past_break, past_gap}
 use Rattle.latex2mathml_tex_grammar.specs.Symbols.{InText, InScript, Alphabet}
-use Rattle.latex2mathml_tex_grammar.specs.{Tables.Lines, Tables.begun_cell, Tables.a_row, Tables.with_last}
+use Rattle.latex2mathml_tex_grammar.specs.{Tables.Lines, Tables.begun_cell, Tables.cell_of, Tables.a_row, Tables.with_last}
 use Rattle.latex2mathml_tex_grammar.specs.Units.{Piece, Unit, Units, Next, End, Stop}
 use Rattle.latex2mathml_tex_grammar.specs.Words.{Word, Formula, Words, no_words, with_word, IsWord, BeginsGroup, EndsGroup, BeginsFormula, TakesWords, NoWord, word_rule}
 
@@ -180,13 +180,13 @@ mutual
         → ReadsScripts c before base more m o
         → ReadsScripts c before base scripts l o
     -- a mark with its operand, and those after it
-    script_read : {c : Context} {before : Before} {base : Atom} {scripts : Scripts} {with_operand : Element → Scripts} {l m n : Units} {u : Unit} {x : Operand} {o : Outcome Atom}
+    script_read : {c : Context} {before : Before} {base : Atom} {scripts : Scripts} {with_operand : Operand → Scripts} {l m n : Units} {u : Unit} {x : Operand} {o : Outcome Atom}
         → past_space l ≡ Next u m
         → step_of_mark scripts (mark_of u.piece) ≡ Some (TakesOperand with_operand)
         → ReadsOperand u.place (styled c InScript) m (Read x n)
-        → ReadsScripts c before base (with_operand x.element) n o
+        → ReadsScripts c before base (with_operand x) n o
         → ReadsScripts c before base scripts l o
-    script_refused : {c : Context} {before : Before} {base : Atom} {scripts : Scripts} {with_operand : Element → Scripts} {l m : Units} {u : Unit} {r : Refusal}
+    script_refused : {c : Context} {before : Before} {base : Atom} {scripts : Scripts} {with_operand : Operand → Scripts} {l m : Units} {u : Unit} {r : Refusal}
         → past_space l ≡ Next u m
         → step_of_mark scripts (mark_of u.piece) ≡ Some (TakesOperand with_operand)
         → ReadsOperand u.place (styled c InScript) m (Refused r)
@@ -271,7 +271,7 @@ mutual
   pub data ReadsRows : TableEnd → ℕ → Columns → Context → List Element → List Element → Units → Outcome Lines → Type 0 where
     cell_read : {end : TableEnd} {place : ℕ} {columns : Columns} {c : Context} {rows cells : List Element} {l m : Units} {row : Row} {o : Outcome Lines}
         → ReadsAtoms (InCell end place) c (begun_cell columns (length cells)) l (Read row m)
-        → ReadsBehindCell end place columns c rows cells row.elements m o
+        → ReadsBehindCell end place columns c rows cells (cell_of row) m o
         → ReadsRows end place columns c rows cells l o
     cell_refused : {end : TableEnd} {place : ℕ} {columns : Columns} {c : Context} {rows cells : List Element} {l : Units} {r : Refusal}
         → ReadsAtoms (InCell end place) c (begun_cell columns (length cells)) l (Refused r)

@@ -63,8 +63,6 @@ pub data Kind : Type 0 where
   MissingMacroName : Kind
   -- what precedes the body of a definition does not say how many arguments there are
   WrongParameters : Kind
-  -- an argument that may be left out
-  OptionalArgument : Kind
   -- an argument that ends before some sign
   DelimitedArgument : Kind
   -- a body asks for an argument that does not exist

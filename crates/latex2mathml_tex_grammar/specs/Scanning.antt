@@ -90,11 +90,11 @@ ends_if false = Misses
 abbrev pub name_deed : ℕ → Deed
 name_deed c = if c == byte "$" then Misses else Adds c (InArgument Name)
 
--- a column on the left, in the middle, or on the right, or a line; a column that has a width is on the left, and its width is
+-- a column on the left, in the middle, or on the right, or a line, which may be dashed; a column that has a width is on the left, and its width is
 -- ignored
 abbrev pub column_deed : ℕ → Deed
 column_deed c =
-    if c == byte "l" || c == byte "c" || c == byte "r" || c == byte "|" then Adds c (InArgument ColumnList)
+    if c == byte "l" || c == byte "c" || c == byte "r" || c == byte "|" || c == byte ":" then Adds c (InArgument ColumnList)
     else if c == byte "p" || c == byte "m" || c == byte "b" then Adds (byte "l") BeforeGap
     else if c == byte "@" then Passes BeforeGap
     else Refuses UnknownColumn

@@ -2,7 +2,7 @@
 use Rattle.std.specs.Prelude.{ℕ, suc, ◌==◌, ◌||◌, Bool, true, false, List, [], codes, Option, Some, None, if◌then◌else◌}
 use Rattle.std.specs.{Str.byte, Str.bytes_eq}
 use Rattle.latex2mathml_elements.specs.Element.{Element}
-use Rattle.latex2mathml_tex_grammar.specs.{Atoms.Atom, Atoms.Plain, Atoms.atom, Commands.meaning_of, Makes.Scripts, Makes.behind_primes, Rows.row_element, Rules.a_digit}
+use Rattle.latex2mathml_tex_grammar.specs.{Atoms.Atom, Atoms.Plain, Atoms.atom, Commands.meaning_of, Makes.Scripts, Makes.behind_primes, Rows.Operand, Rows.row_element, Rules.a_digit}
 use Rattle.latex2mathml_tex_grammar.specs.Meaning.{Change, Changes, Meaning, LimitPlace, Beside, ByStyle, Stacked}
 use Rattle.latex2mathml_tex_grammar.specs.Refusal.{Kind, UnclosedBrace, UnclosedBracket, UnclosedDollar, LeftWithoutRight, LimitsWithoutOperator, SecondSubscript, SecondSuperscript, Refusal, refusal_at, BeginWithoutEnd}
 use Rattle.latex2mathml_tex_grammar.specs.Rules.{Ending, WholeText, InBraces, InBrackets, InDollars, InDelimiters, InCell, ByName, ByBrace, ByText}
@@ -167,7 +167,7 @@ operand_start piece =
 -- what a mark does after an atom with these scripts
 pub data Step : Type 0 where
   GoesOn : Scripts → Step
-  TakesOperand : (Element → Scripts) → Step
+  TakesOperand : (Operand → Scripts) → Step
   -- a second script, or limits of what is not an operator
   Forbidden : Kind → Step
 
@@ -176,9 +176,9 @@ abbrev pub step_of : Scripts → Option Element → Option Element → Mark → 
 step_of scripts below (Some x) Prime = Forbidden SecondSuperscript
 step_of scripts below None Prime = GoesOn (record scripts { primes = suc scripts.primes })
 step_of scripts (Some x) above Below = Forbidden SecondSubscript
-step_of scripts None above Below = TakesOperand (λ x. record scripts { below = Some x })
+step_of scripts None above Below = TakesOperand (λ x. record scripts { below = Some x.element; high = x.high })
 step_of scripts below (Some x) Above = Forbidden SecondSuperscript
-step_of scripts below None Above = TakesOperand (λ x. record scripts { above = Some (behind_primes scripts.primes x) })
+step_of scripts below None Above = TakesOperand (λ x. record scripts { above = Some (behind_primes scripts.primes x.element) })
 step_of scripts below above (LimitsAt place) = if scripts.takes_limits then GoesOn (record scripts { limits = place }) else Forbidden LimitsWithoutOperator
 
 -- the step of the unit that comes next, where it is a mark

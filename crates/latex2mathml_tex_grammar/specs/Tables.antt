@@ -1,19 +1,24 @@
 -- Tables: rows of cells. Here what was read last comes first.
 use Rattle.std.specs.Prelude.{ℕ, true, List, [], ◌∷◌, reverse, Option, Some, None}
 use Rattle.latex2mathml_elements.specs.Attributes.{plain, MathStyle}
-use Rattle.latex2mathml_elements.specs.{Columns.Alignment, Columns.SecondOfPair, Columns.Columns, Columns.column_at, Tables.rows_in}
+use Rattle.latex2mathml_elements.specs.{Columns.Alignment, Columns.SecondOfPair, Columns.Columns, Columns.column_at, Tables.attributes_in, Tables.rows_in}
 use Rattle.latex2mathml_elements.specs.Element.{Mrow, Element, Rows, container, table, children}
-use Rattle.latex2mathml_tex_grammar.specs.{Atoms.Before, Atoms.After, Atoms.Nothing, Atoms.Plain, Atoms.atom, Makes.Core, Makes.core, Makes.fenced, Makes.math_style, Rows.Row, Rows.empty_row, Rows.row_element}
-use Rattle.latex2mathml_tex_grammar.specs.Symbols.{Class, Ordinary, Inner, Style, InDisplay, InText}
+use Rattle.latex2mathml_tex_grammar.specs.{Atoms.Before, Atoms.After, Atoms.Plain, Atoms.atom, Makes.Core, Makes.core, Makes.fenced, Makes.math_style, Rows.Row, Rows.empty_row, Rows.lone, Rows.row_element}
+use Rattle.latex2mathml_tex_grammar.specs.Symbols.{Class, Ordinary, Opening, Inner, Style, InDisplay, InText}
 
--- what precedes the first atom of a cell: the second of a pair continues the first
+-- What precedes the first atom of a cell: the second of a pair continues the first. Any other cell begins like a formula, as if
+-- after an opening sign.
 abbrev pub before_cell : Alignment → Before
 before_cell SecondOfPair = After Ordinary
-before_cell alignment = Nothing
+before_cell alignment = After Opening
 
 -- the row of a cell that has this many cells before it, before its first atom
 abbrev pub begun_cell : Columns → ℕ → Row
 begun_cell columns k = record empty_row { before = before_cell (column_at columns k).alignment }
+
+-- the elements of a cell; a sign that is all of it has no space
+abbrev pub cell_of : Row → List Element
+cell_of row = lone row.last row.elements
 
 -- Rows: until a table is made of it, a row is an `mrow` of its cells; the lines of `RowLines` are among the rows
 
@@ -62,4 +67,5 @@ table_class (Some delimiters) = Inner
 -- a table in these columns, whose cells have the first style, where the second is around it
 abbrev pub a_table : Option (List ℕ × List ℕ) → Columns → Style → Style → Lines → Core
 a_table delimiters columns style around lines =
-    core (atom (Plain (table_class delimiters)) true (between_any delimiters (table (record plain { style = said_style style around }) (rows_of columns lines))))
+    core (atom (Plain (table_class delimiters)) true
+    (between_any delimiters (table (attributes_in columns (record plain { style = said_style style around })) (rows_of columns lines))))

@@ -8,12 +8,19 @@ use Rattle.latex2mathml_tex_grammar.specs.Units.{Unit, Units, Next}
 -- the name, how many arguments the macro takes, and the text of its body
 unfoldable pub usual_entries : List (List ℕ × ℕ × List ℕ)
 usual_entries =
+    (codes "(", 0, codes "$") ∷
+    (codes ")", 0, codes "$") ∷
     (codes "*", 0, codes "") ∷
     (codes "-", 0, codes "") ∷
     (codes "/", 0, codes "") ∷
     (codes "Bbbk", 0, codes "\\mathbb{k}") ∷
     (codes "Bra", 1, codes "\\left\\langle #1\\right|") ∷
+    (codes "Colonapprox", 0, codes "\\mathrel{::\\approx}") ∷
+    (codes "Coloneq", 0, codes "\\mathrel{::=}") ∷
     (codes "Coloneqq", 0, codes "\\mathrel{::=}") ∷
+    (codes "Colonsim", 0, codes "\\mathrel{::\\sim}") ∷
+    (codes "Eqcolon", 0, codes "\\mathrel{=::}") ∷
+    (codes "Eqqcolon", 0, codes "\\mathrel{=::}") ∷
     (codes "Huge", 0, codes "") ∷
     (codes "Ket", 1, codes "\\left|#1\\right\\rangle") ∷
     (codes "LARGE", 0, codes "") ∷
@@ -21,6 +28,8 @@ usual_entries =
     (codes "Large", 0, codes "") ∷
     (codes "TeX", 0, codes "\\text{TeX}") ∷
     (codes "allowbreak", 0, codes "") ∷
+    (codes "approxcolon", 0, codes "\\mathrel{\\approx:}") ∷
+    (codes "approxcoloncolon", 0, codes "\\mathrel{\\approx::}") ∷
     (codes "bfseries", 0, codes "\\bf") ∷
     (codes "bmod", 0, codes "\\mskip5mu\\mathbin{\\operatorname{mod}}\\mskip5mu") ∷
     (codes "bra", 1, codes "\\langle #1|") ∷
@@ -28,22 +37,32 @@ usual_entries =
     (codes "centering", 0, codes "") ∷
     (codes "clap", 1, codes "\\mathclap{\\text{#1}}") ∷
     (codes "colon", 0, codes "\\mskip2mu\\mathord{:}\\mskip6mu") ∷
+    (codes "colonapprox", 0, codes "\\mathrel{:\\approx}") ∷
+    (codes "coloncolonapprox", 0, codes "\\mathrel{::\\approx}") ∷
     (codes "coloncolonequals", 0, codes "\\mathrel{::=}") ∷
+    (codes "coloncolonminus", 0, codes "\\mathrel{::\\relbar}") ∷
+    (codes "coloncolonsim", 0, codes "\\mathrel{::\\sim}") ∷
     (codes "coloneq", 0, codes "\\mathrel{:=}") ∷
     (codes "coloneqq", 0, codes "\\mathrel{:=}") ∷
+    (codes "colonminus", 0, codes "\\mathrel{:\\relbar}") ∷
+    (codes "colonsim", 0, codes "\\mathrel{:\\sim}") ∷
     (codes "colorbox", 2, codes "\\mathcolorbox{#1}{\\text{#2}}") ∷
     (codes "dotsb", 0, codes "\\cdots") ∷
     (codes "dotsc", 0, codes "\\ldots") ∷
     (codes "dotsi", 0, codes "\\cdots") ∷
     (codes "dotsm", 0, codes "\\cdots") ∷
     (codes "dotso", 0, codes "\\ldots") ∷
+    (codes "dotsx", 0, codes "\\ldots\\,") ∷
     (codes "em", 0, codes "\\it") ∷
     (codes "ensuremath", 1, codes "#1") ∷
     (codes "eqno", 0, codes "\\qquad\\textstyle") ∷
+    (codes "equalscoloncolon", 0, codes "\\mathrel{=::}") ∷
     (codes "fbox", 1, codes "\\boxed{\\text{#1}}") ∷
     (codes "footnotesize", 0, codes "") ∷
+    (codes "global", 0, codes "") ∷
     (codes "hdots", 0, codes "\\ldots") ∷
     (codes "huge", 0, codes "") ∷
+    (codes "idotsint", 0, codes "\\int\\cdots\\int") ∷
     (codes "iff", 0, codes "\\;\\Longleftrightarrow\\;") ∷
     (codes "impliedby", 0, codes "\\;\\Longleftarrow\\;") ∷
     (codes "implies", 0, codes "\\;\\Longrightarrow\\;") ∷
@@ -51,10 +70,14 @@ usual_entries =
     (codes "ket", 1, codes "|#1\\rangle") ∷
     (codes "label", 1, codes "") ∷
     (codes "large", 0, codes "") ∷
+    (codes "leftroot", 1, codes "") ∷
     (codes "leqno", 0, codes "\\qquad\\textstyle") ∷
     (codes "llap", 1, codes "\\mathllap{\\text{#1}}") ∷
+    (codes "long", 0, codes "") ∷
+    (codes "lq", 0, codes "`") ∷
     (codes "mathstrut", 0, codes "\\vphantom{(}") ∷
     (codes "mdseries", 0, codes "") ∷
+    (codes "minuscoloncolon", 0, codes "\\mathrel{\\relbar::}") ∷
     (codes "mod", 1, codes "\\mathchoice{\\mkern18mu}{\\mkern12mu}{\\mkern12mu}{\\mkern12mu}\\mathrm{mod}\\,\\,#1") ∷
     (codes "nobreak", 0, codes "") ∷
     (codes "nonumber", 0, codes "") ∷
@@ -69,16 +92,24 @@ usual_entries =
     (codes "relax", 0, codes "") ∷
     (codes "rlap", 1, codes "\\mathrlap{\\text{#1}}") ∷
     (codes "rmfamily", 0, codes "\\rm") ∷
+    (codes "rq", 0, codes "'") ∷
     (codes "scriptsize", 0, codes "") ∷
     (codes "scshape", 0, codes "") ∷
     (codes "sffamily", 0, codes "\\sf") ∷
     (codes "sfrac", 2, codes "#1/#2") ∷
+    (codes "shoveleft", 1, codes "#1") ∷
+    (codes "shoveright", 1, codes "#1") ∷
+    (codes "sideset", 3, codes "\\mathop{\\vphantom{#3}#1\\!#3\\nolimits#2}") ∷
+    (codes "simcolon", 0, codes "\\mathrel{\\sim:}") ∷
+    (codes "simcoloncolon", 0, codes "\\mathrel{\\sim::}") ∷
+    (codes "slash", 0, codes "/") ∷
     (codes "slshape", 0, codes "\\it") ∷
     (codes "small", 0, codes "") ∷
     (codes "strut", 0, codes "\\vphantom{(}") ∷
     (codes "tag", 1, codes "\\qquad\\text{(#1)}") ∷
     (codes "tiny", 0, codes "") ∷
     (codes "ttfamily", 0, codes "\\tt") ∷
+    (codes "uproot", 1, codes "") ∷
     (codes "upshape", 0, codes "") ∷
     (codes "varDelta", 0, codes "\\mathit{\\Delta}") ∷
     (codes "varGamma", 0, codes "\\mathit{\\Gamma}") ∷
@@ -95,6 +126,7 @@ usual_entries =
     (codes "varliminf", 0, codes "\\operatorname*{\\underline{\\mathrm{lim}}}") ∷
     (codes "varlimsup", 0, codes "\\operatorname*{\\overline{\\mathrm{lim}}}") ∷
     (codes "varprojlim", 0, codes "\\operatorname*{\\underleftarrow{\\mathrm{lim}}}") ∷
+    (codes "vcenter", 1, codes "{#1}") ∷
     []
 
 -- the units as a list

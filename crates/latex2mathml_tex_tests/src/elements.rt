@@ -6,6 +6,7 @@ use latex2mathml_attributes::attributes::{
     Attributes, Form, MathStyle, Side, Size, Space, Stretch,
 };
 use latex2mathml_attributes::columns::{Alignment, Columns, ListedColumn};
+use latex2mathml_attributes::line::Line;
 use latex2mathml_attributes::tag::{Container, Pair, Token, Triple};
 use latex2mathml_builder::builder::Builder;
 use latex2mathml_builder::works::Works;
@@ -259,7 +260,7 @@ fn push_tables(builder: &mut Builder, listed: Columns, alike: Columns) -> Result
 
 #[test]
 fn columns_of_each_kind(rt: HostRuntime) -> Result<(), Fail> {
-    let mut listed = Columns::none();
+    let mut listed = Columns::none(Line::Nothing);
     assert!(rt; listed.push(ListedColumn::LeftAlignedBeforeLine));
     let mut alike = Columns::alike(Alignment::Dense);
     assert!(rt; !alike.push(ListedColumn::LeftAligned));
@@ -269,7 +270,7 @@ fn columns_of_each_kind(rt: HostRuntime) -> Result<(), Fail> {
         rt.alloc(),
         &builder,
         3,
-        "<mtable><mtr><mtd columnalign=\"right\" style=\"text-align: right; text-align: -webkit-right; padding-inline: 0.5em\"><mi>a</mi></mtd><mtd style=\"padding-inline: 0.5em\"><mi>b</mi></mtd><mtd columnalign=\"left\" style=\"text-align: left; padding-inline: 0.5em\"><mi>c</mi></mtd></mtr></mtable><mtable><mtr><mtd columnalign=\"left\" style=\"text-align: left; padding-inline: 0.5em; border-right: thin solid\"><mi>d</mi></mtd><mtd style=\"padding-inline: 0.5em\"><mi>e</mi></mtd></mtr></mtable><mtable><mtr><mtd style=\"padding: 0.1em 0\"><mi>f</mi></mtd></mtr></mtable>",
+        "<mtable><mtr><mtd columnalign=\"right\" style=\"text-align: right; text-align: -webkit-right; padding-inline: 0.5em\"><mi>a</mi></mtd><mtd style=\"padding-inline: 0.5em\"><mi>b</mi></mtd><mtd columnalign=\"left\" style=\"text-align: left; padding-inline: 0.5em\"><mi>c</mi></mtd></mtr></mtable><mtable style=\"border-collapse: collapse\"><mtr><mtd columnalign=\"left\" style=\"text-align: left; padding-inline: 0.5em; border-right: thin solid\"><mi>d</mi></mtd><mtd style=\"padding-inline: 0.5em\"><mi>e</mi></mtd></mtr></mtable><mtable><mtr><mtd style=\"padding: 0.1em 0\"><mi>f</mi></mtd></mtr></mtable>",
     )
 }
 

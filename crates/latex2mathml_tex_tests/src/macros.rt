@@ -92,10 +92,7 @@ static REFUSALS: [(&str, &str); 7] = [
         "\\newcommand{\\a}[2]{#3}",
         "a body has no such argument at 0",
     ),
-    (
-        "\\newcommand{\\a}[1][x]{#1}",
-        "optional arguments are not read at 0",
-    ),
+    ("\\newcommand{\\a}[1][x{#1}", "[ is not closed at 18"),
     (
         "\\def\\a#1,{#1}",
         "an argument up to a sign is not read at 0",

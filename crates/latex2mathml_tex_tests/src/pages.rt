@@ -5,7 +5,7 @@ use latex2mathml_tex_uses::page::{PageError, formula};
 use std::alloc::Global;
 use std::test::Fail;
 
-const PREAMBLE: &str = "\\newcommand{\\R}{\\mathbb{R}}";
+const PREAMBLE: &str = "\\newcommand{\\RR}{\\mathbb{R}}";
 
 /// Returns the markup of a formula of a page in a line of text, or the text of its error after a word that says whose it is.
 fn shown(alloc: Global, preamble: Option<&'static str>, tex: &'static str) -> Result<String, Fail> {
@@ -20,12 +20,12 @@ fn shown(alloc: Global, preamble: Option<&'static str>, tex: &'static str) -> Re
 static PAGES: [(Option<&str>, &str, &str); 4] = [
     (
         Some(PREAMBLE),
-        "\\R",
+        "\\RR",
         "<math xmlns=\"http://www.w3.org/1998/Math/MathML\" display=\"inline\"><mi>ℝ</mi></math>",
     ),
-    (None, "x\\R", "formula: unknown command \\R at 1"),
+    (None, "x\\RR", "formula: unknown command \\RR at 1"),
     (Some(PREAMBLE), "x\\Q", "formula: unknown command \\Q at 1"),
-    (Some("\n\\R"), "x", "preamble: not a definition at 1"),
+    (Some("\n\\RR"), "x", "preamble: not a definition at 1"),
 ];
 
 #[test]

@@ -32,7 +32,7 @@ step_open place depth depth' l m u e p d = rw (e, p, d) refl
 pub step_close : (place depth depth' : ℕ) (l m : Units) (u : Unit) → l ≡ Next (unit_of u) m → u.piece ≡ piece.Close → depth ≡ suc depth' → group place l depth ≡ with_first (unit_of u) (group place m depth')
 step_close place depth depth' l m u e p d = rw (e, p, d) refl
 
-no_brace : (p : Piece) → (p ≡ piece.Open → ⊥) → (p ≡ piece.Close → ⊥) → brace_of (piece_of p) ≡ NoBrace
+pub no_brace : (p : Piece) → (p ≡ piece.Open → ⊥) → (p ≡ piece.Close → ⊥) → brace_of (piece_of p) ≡ NoBrace
 no_brace piece.Space o c = refl
 no_brace piece.Open o c = absurd (o refl)
 no_brace piece.Close o c = absurd (c refl)

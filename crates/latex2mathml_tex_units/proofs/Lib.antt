@@ -10,8 +10,10 @@ pub mod Listings
 pub mod Lone
 pub mod Names
 pub mod Nexts
+pub mod Optional
 pub mod Parameters
 pub mod Plain
+pub mod Prefixes
 pub mod PuttingBodies
 pub mod Runs
 pub mod Scanned

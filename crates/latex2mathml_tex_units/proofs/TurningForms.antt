@@ -8,10 +8,10 @@ use Rattle.latex2mathml_tex_grammar.specs.Definitions.{word_named}
 use Rattle.latex2mathml_tex_units.specs.TurningForms.{is_turning_form}
 use Rattle.latex2mathml_tex_units.proofs.Tables.{usual_is}
 
--- whether the name is of one byte and one of two such macros, or has such a form
+-- whether the name is of one byte and one of such macros, or has such a form
 abbrev pub may_turn : List ℕ → Bool
 may_turn [] = false
-may_turn (one ∷ []) = one == byte "*" || one == byte "-" || one == byte "/"
+may_turn (one ∷ []) = one == byte "(" || one == byte ")" || one == byte "*" || one == byte "-" || one == byte "/"
 may_turn (first ∷ second ∷ rest) = is_turning_form first second (length (first ∷ second ∷ rest))
 
 all_may_be : List (List ℕ × ℕ × List ℕ) → Bool
@@ -45,7 +45,7 @@ apart name word none may = elim (cases_Bool (bytes_eq name word)) [
 
 pub no_word : (name : List ℕ) → may_turn name ≡ false → word_named name ≡ None
 no_word name none =
-    rw (apart name (codes "newcommand") none refl, apart name (codes "renewcommand") none refl, apart name (codes "providecommand") none refl, apart name (codes "def") none refl, apart name (codes "DeclareMathOperator") none refl) refl
+    rw (apart name (codes "newcommand") none refl, apart name (codes "renewcommand") none refl, apart name (codes "providecommand") none refl, apart name (codes "def") none refl, apart name (codes "gdef") none refl, apart name (codes "DeclareMathOperator") none refl) refl
 
 -- Names by their length
 
@@ -53,9 +53,9 @@ pub turns_none : (name bytes : List ℕ) → bytes ≡ name → length bytes < 1
 turns_none [] bytes e h = refl
 turns_none (x ∷ name) bytes e h = absurd (omega (arith, h, ap length e))
 
-pub turns_one : (name bytes : List ℕ) → bytes ≡ name → 1 ≤ length bytes → length bytes < 2 → may_turn name ≡ (get_or bytes 0 0 == byte "*" || get_or bytes 0 0 == byte "-" || get_or bytes 0 0 == byte "/")
+pub turns_one : (name bytes : List ℕ) → bytes ≡ name → 1 ≤ length bytes → length bytes < 2 → may_turn name ≡ (get_or bytes 0 0 == byte "(" || get_or bytes 0 0 == byte ")" || get_or bytes 0 0 == byte "*" || get_or bytes 0 0 == byte "-" || get_or bytes 0 0 == byte "/")
 turns_one [] bytes e h k = absurd (omega (arith, h, ap length e))
-turns_one (x ∷ []) bytes e h k = ap (λ b. get_or b 0 0 == byte "*" || get_or b 0 0 == byte "-" || get_or b 0 0 == byte "/") (sym e)
+turns_one (x ∷ []) bytes e h k = ap (λ b. get_or b 0 0 == byte "(" || get_or b 0 0 == byte ")" || get_or b 0 0 == byte "*" || get_or b 0 0 == byte "-" || get_or b 0 0 == byte "/") (sym e)
 turns_one (x ∷ y ∷ rest) bytes e h k = absurd (omega (arith, k, ap length e))
 
 pub turns_more : (name bytes : List ℕ) → bytes ≡ name → 2 ≤ length bytes → may_turn name ≡ is_turning_form (get_or bytes 0 0) (get_or bytes 1 0) (length name)

@@ -1,5 +1,6 @@
 -- The environments of the code, as the definitions describe them.
 use Rattle.std.specs.Prelude.{ℕ, List, [], ◌∷◌, option_map, Option}
+use Rattle.latex2mathml_elements.specs.Lines.{NoLine}
 use Rattle.latex2mathml_elements.specs.Columns.{Centered, LeftAligned, RightAligned, Dense, unlined, Columns, Alike, InPairs, Listed}
 use Rattle.latex2mathml_tex_grammar.specs.Environments as environments
 use Rattle.latex2mathml_tex_commands.specs.{Delimiters.delimiter_text, Meanings.style_of}
@@ -13,7 +14,7 @@ layout_of layout.Centered = Alike Centered
 layout_of layout.LeftAligned = Alike LeftAligned
 layout_of layout.Dense = Alike Dense
 layout_of layout.InPairs = InPairs
-layout_of layout.AroundRelation = Listed (unlined RightAligned ∷ unlined Centered ∷ unlined LeftAligned ∷ [])
+layout_of layout.AroundRelation = Listed NoLine (unlined RightAligned ∷ unlined Centered ∷ unlined LeftAligned ∷ [])
 
 abbrev pub bracket_of : Bracket → environments.Bracket
 bracket_of bracket.Nothing = environments.NoBracket

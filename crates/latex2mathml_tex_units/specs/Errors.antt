@@ -43,7 +43,6 @@ kind_of_error (kind.CharacterInWords c) = Some (refusal.CharacterInWords c)
 kind_of_error kind.TooManyExpansions = Some refusal.TooManyExpansions
 kind_of_error kind.MissingMacroName = Some refusal.MissingMacroName
 kind_of_error kind.WrongParameters = Some refusal.WrongParameters
-kind_of_error kind.OptionalArgument = Some refusal.OptionalArgument
 kind_of_error kind.DelimitedArgument = Some refusal.DelimitedArgument
 kind_of_error kind.UnknownParameter = Some refusal.UnknownParameter
 kind_of_error kind.NoDefinition = Some refusal.NoDefinition

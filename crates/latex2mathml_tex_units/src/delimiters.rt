@@ -73,15 +73,21 @@ fn negated_commands() -> &'static [Named]
 }
 
 #[rattlefmt::skip]
-static DELIMITERS: [Named; 38] = [
+static DELIMITERS: [Named; 48] = [
+    Named { name: "Darr", character: '⇓' },
     Named { name: "Downarrow", character: '⇓' },
+    Named { name: "Uarr", character: '⇑' },
     Named { name: "Uparrow", character: '⇑' },
     Named { name: "Updownarrow", character: '⇕' },
     Named { name: "Vert", character: '‖' },
     Named { name: "backslash", character: '\\' },
+    Named { name: "dArr", character: '⇓' },
+    Named { name: "darr", character: '↓' },
     Named { name: "downarrow", character: '↓' },
     Named { name: "gt", character: '⟩' },
+    Named { name: "lBrace", character: '⦃' },
     Named { name: "lVert", character: '‖' },
+    Named { name: "lang", character: '⟨' },
     Named { name: "langle", character: '⟨' },
     Named { name: "lbrace", character: '{' },
     Named { name: "lbrack", character: '[' },
@@ -93,7 +99,9 @@ static DELIMITERS: [Named; 38] = [
     Named { name: "lparen", character: '(' },
     Named { name: "lt", character: '⟨' },
     Named { name: "lvert", character: '|' },
+    Named { name: "rBrace", character: '⦄' },
     Named { name: "rVert", character: '‖' },
+    Named { name: "rang", character: '⟩' },
     Named { name: "rangle", character: '⟩' },
     Named { name: "rbrace", character: '}' },
     Named { name: "rbrack", character: ']' },
@@ -104,6 +112,8 @@ static DELIMITERS: [Named; 38] = [
     Named { name: "rparen", character: ')' },
     Named { name: "rrbracket", character: '⟧' },
     Named { name: "rvert", character: '|' },
+    Named { name: "uArr", character: '⇑' },
+    Named { name: "uarr", character: '↑' },
     Named { name: "ulcorner", character: '⌜' },
     Named { name: "uparrow", character: '↑' },
     Named { name: "updownarrow", character: '↕' },
@@ -115,14 +125,16 @@ static DELIMITERS: [Named; 38] = [
 ];
 
 #[rattlefmt::skip]
-static NEGATED: [Named; 21] = [
+static NEGATED: [Named; 26] = [
     Named { name: "approx", character: '≉' },
     Named { name: "cong", character: '≇' },
     Named { name: "equiv", character: '≢' },
+    Named { name: "exist", character: '∄' },
     Named { name: "exists", character: '∄' },
     Named { name: "ge", character: '≱' },
     Named { name: "geq", character: '≱' },
     Named { name: "in", character: '∉' },
+    Named { name: "isin", character: '∉' },
     Named { name: "le", character: '≰' },
     Named { name: "leq", character: '≰' },
     Named { name: "mid", character: '∤' },
@@ -131,9 +143,12 @@ static NEGATED: [Named; 21] = [
     Named { name: "parallel", character: '∦' },
     Named { name: "prec", character: '⊀' },
     Named { name: "sim", character: '≁' },
+    Named { name: "sub", character: '⊄' },
+    Named { name: "sube", character: '⊈' },
     Named { name: "subset", character: '⊄' },
     Named { name: "subseteq", character: '⊈' },
     Named { name: "succ", character: '⊁' },
+    Named { name: "supe", character: '⊉' },
     Named { name: "supset", character: '⊅' },
     Named { name: "supseteq", character: '⊉' },
     Named { name: "vdash", character: '⊬' },

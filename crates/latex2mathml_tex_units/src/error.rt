@@ -77,8 +77,6 @@ pub enum TexErrorKind {
     MissingMacroName,
     /// What precedes the body of a definition does not say how many arguments there are.
     WrongParameters,
-    /// An optional argument of a macro.
-    OptionalArgument,
     /// An argument that is delimited by a sign.
     DelimitedArgument,
     /// The body of a definition refers to an argument that does not exist.
@@ -146,7 +144,6 @@ impl fmt::Display for TexErrorKind {
             TexErrorKind::TooManyExpansions => "too many macros are expanded",
             TexErrorKind::MissingMacroName => "no name to define",
             TexErrorKind::WrongParameters => "wrong parameters of a definition",
-            TexErrorKind::OptionalArgument => "optional arguments are not read",
             TexErrorKind::DelimitedArgument => "an argument up to a sign is not read",
             TexErrorKind::UnknownParameter => "a body has no such argument",
             TexErrorKind::NoDefinition => "not a definition",
@@ -213,10 +210,10 @@ impl TexErrorKind {
             Fault::Forbidden(c) => TexErrorKind::ForbiddenCharacter(c),
             Fault::MissingArgument => TexErrorKind::MissingArgument,
             Fault::UnclosedBrace => TexErrorKind::UnclosedBrace,
+            Fault::UnclosedBracket => TexErrorKind::UnclosedBracket,
             Fault::TooManyExpansions => TexErrorKind::TooManyExpansions,
             Fault::MissingMacroName => TexErrorKind::MissingMacroName,
             Fault::WrongParameters => TexErrorKind::WrongParameters,
-            Fault::OptionalArgument => TexErrorKind::OptionalArgument,
             Fault::DelimitedArgument => TexErrorKind::DelimitedArgument,
             Fault::UnknownParameter => TexErrorKind::UnknownParameter,
             Fault::NoDefinition => TexErrorKind::NoDefinition,

@@ -14,5 +14,6 @@ pub mod lexer;
 pub mod macros;
 pub mod passing;
 pub mod position;
+mod row_lines;
 pub mod scanning;
 pub mod unit;

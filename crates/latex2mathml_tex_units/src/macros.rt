@@ -4,6 +4,7 @@ mod arguments;
 mod definitions;
 pub mod expander;
 mod halt;
+mod optional;
 mod part;
 mod pending;
 mod putting;

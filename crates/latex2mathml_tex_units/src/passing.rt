@@ -1,13 +1,17 @@
 //! Names, columns and lengths, which are found among the units that are left and taken or skipped.
 ghost use Rattle.std.specs.Prelude.{◌≡◌, ◌≤◌, ℕ, IfOk, OnOk, string_bytes};
-ghost use Rattle.latex2mathml_tex_grammar.specs.RowLines.{line_next};
+ghost use Rattle.latex2mathml_attributes.specs.Lines.{line_of};
+ghost use Rattle.latex2mathml_tex_grammar.specs.Next.{follows};
+ghost use Rattle.latex2mathml_tex_grammar.specs.RowLines.{is_line_command, line_next};
 ghost use Rattle.latex2mathml_tex_grammar.specs.Scanning.{BeforeRow, past, past_break, past_gap, scan};
 ghost use Rattle.latex2mathml_tex_units.specs.{Left.SameUnits, Left.unit_count, Left.units_at, Scans.IsFound, Scans.behind_text, Scans.spot_of};
 
 use crate::error::{TexError, TexErrorKind};
 use crate::input::Input;
-use crate::scanning::{Argument, Deed, Spot, is_line_command};
+use crate::row_lines::{is_line_command, line_of};
+use crate::scanning::{Argument, Deed, Spot};
 use crate::unit::{Next, Piece};
+use latex2mathml_attributes::line::Line;
 use std::alloc::{AllocError, Global};
 
 impl<'a> Input<'a> {
@@ -110,10 +114,11 @@ impl<'a> Input<'a> {
         Ok(())
     }
 
-    /// Skips what may follow the sign that ends a row: its star, a length, and the lines before the next row. Returns whether
-    /// there is a line.
-    pub fn pass_break(&mut self, alloc: Global) -> Result<bool, AllocError>
-        ensures line { IfOk result (λ line. line ≡ line_next (past_gap (units_at self.old))) }
+    /// Skips what may follow the sign that ends a row: its star, a length, and the lines before the next row. Returns how these
+    /// are drawn.
+    pub fn pass_break(&mut self, alloc: Global) -> Result<Line, AllocError>
+        ensures line { IfOk result (λ line.
+            line_of line ≡ line_next (past_gap (units_at self.old))) }
         ensures units { OnOk result (units_at self.new ≡ past_break (units_at self.old)) }
     {
         self.pass(alloc, Spot::BeforeStar)?;
@@ -121,19 +126,38 @@ impl<'a> Input<'a> {
         self.pass_lines(alloc)
     }
 
-    /// Skips the lines before a row. Returns whether there is one.
-    pub fn pass_lines(&mut self, alloc: Global) -> Result<bool, AllocError>
-        ensures line { IfOk result (λ line. line ≡ line_next (units_at self.old)) }
+    /// Skips the lines before a row. Returns how they are drawn.
+    pub fn pass_lines(&mut self, alloc: Global) -> Result<Line, AllocError>
+        ensures line { IfOk result (λ line. line_of line ≡ line_next (units_at self.old)) }
         ensures units { OnOk result (units_at self.new ≡ past BeforeRow (units_at self.old)) }
     {
-        let line = self.line_is_next();
+        let line = self.next_line();
         self.pass(alloc, Spot::BeforeRow)?;
         Ok(line)
     }
 
+    /// Returns how the lines that come next are drawn. Takes nothing.
+    fn next_line(&mut self) -> Line
+        ensures answer { line_of result ≡ line_next (units_at self.old) }
+        ensures unchanged { self.new ≡ self.old }
+    {
+        let start = self.taken;
+        self.skip_space();
+        let line = match self.peek() {
+            Next::Unit(unit) => {
+                self.advance();
+                let another = self.line_is_next();
+                line_of(unit.piece, another)
+            }
+            Next::End(_) | Next::Fault(_, _) => Line::Nothing,
+        };
+        self.taken = start;
+        line
+    }
+
     /// Whether a line comes next. Takes nothing.
     fn line_is_next(&mut self) -> bool
-        ensures answer { result ≡ line_next (units_at self.old) }
+        ensures answer { result ≡ follows is_line_command (units_at self.old) }
         ensures unchanged { self.new ≡ self.old }
     {
         let start = self.taken;

@@ -3,7 +3,6 @@
 ghost use Rattle.std.specs.Prelude.{◌≡◌, ℕ, [], IsFalse, Some};
 ghost use Rattle.latex2mathml_tex_grammar.specs.Refusal.{refusal_at};
 ghost use Rattle.latex2mathml_tex_grammar.specs.{Commands.meaning_of, Meaning.takes_words};
-ghost use Rattle.latex2mathml_tex_grammar.specs.RowLines.{is_line_command};
 ghost use Rattle.latex2mathml_tex_grammar.specs.Scanning;
 ghost use Rattle.latex2mathml_tex_grammar.specs.Scanning.{past, scan};
 ghost use Rattle.latex2mathml_tex_grammar.specs.Units.{End, Next, Stop, Units, unit};
@@ -11,6 +10,7 @@ ghost use Rattle.latex2mathml_tex_units.specs.{Errors.kind_of_error, Taking.kind
 ghost use Rattle.latex2mathml_tex_units.specs.Scans.{IsFound, argument_of, deed_of, length_end_of, spot_of};
 
 use crate::error::{TexError, TexErrorKind};
+use crate::row_lines::is_line;
 use crate::unit::{Fault, Piece};
 use latex2mathml_tex_commands::commands;
 use latex2mathml_tex_commands::meaning::Meaning;
@@ -101,7 +101,7 @@ fn column_deed(c: char) -> Deed
     ensures { deed_of result ≡ Scanning.column_deed c }
 {
     match c {
-        'l' | 'c' | 'r' | '|' => Deed::Adds(c, Spot::InArgument(Argument::ColumnList)),
+        'l' | 'c' | 'r' | '|' | ':' => Deed::Adds(c, Spot::InArgument(Argument::ColumnList)),
         'p' | 'm' | 'b' => Deed::Adds('l', Spot::BeforeGap),
         '@' => Deed::Passes(Spot::BeforeGap),
         _ => Deed::Refuses,
@@ -341,26 +341,6 @@ fn row_deed(piece: Piece) -> Deed
         Piece::Command(name) if is_line(name) => Deed::Passes(Spot::BeforeRow),
         _ => Deed::Leaves,
     }
-}
-
-/// Whether a unit is a command for a line between rows.
-pub(crate) fn is_line_command(piece: Piece) -> bool
-    ensures { result ≡ is_line_command (piece_of piece.entry) }
-{
-    match piece {
-        Piece::Command(name) => is_line(name),
-        _ => false,
-    }
-}
-
-/// Whether this is the name of a line between rows.
-fn is_line(name: &str) -> bool
-    ensures { result ≡ Scanning.is_line name.now }
-{
-    matches!(
-        name,
-        "hline" | "hdashline" | "toprule" | "midrule" | "bottomrule"
-    )
 }
 
 impl Spot {

@@ -33,14 +33,14 @@ pub enum Fault {
     MissingArgument,
     /// A brace that is not closed.
     UnclosedBrace,
+    /// The bracket of an optional argument that is not closed.
+    UnclosedBracket,
     /// More macros are used than allowed, or they put more units than allowed.
     TooManyExpansions,
     /// What a definition should define is not a name.
     MissingMacroName,
     /// What precedes the body of a definition does not say how many arguments there are.
     WrongParameters,
-    /// An optional argument.
-    OptionalArgument,
     /// An argument that is delimited by a sign.
     DelimitedArgument,
     /// A body refers to an argument that does not exist.

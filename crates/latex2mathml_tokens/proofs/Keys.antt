@@ -6,7 +6,7 @@ use Rattle.std.proofs.lemmas.Cmp.{by_ranked, nat_list_cmp_total}
 use Rattle.std.specs.{Cmp.nat_cmp_is, Cmp.ranked, Cmp.Lexicographic.slice_cmp}
 use Rattle.std.specs.Ordering.{nat_cmp, ordering_reverse}
 use Rattle.std.specs.declared.cmp.Ordering.TheVariants.{Less, Greater}
-use Rattle.latex2mathml_tokens.specs.Keys.{are_bytes, is_key, number}
+use Rattle.latex2mathml_tokens.specs.Entries.{are_bytes, is_key, number}
 
 -- the number of the first bytes, from the front
 

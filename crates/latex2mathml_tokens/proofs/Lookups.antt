@@ -1,33 +1,16 @@
 -- What one comparison in a sorted table says about a look-up.
-use Rattle.std.proofs.Common.{◌≡◌, ◌≢◌, ℕ, zero, suc, ◌+◌, ◌^◌, ◌<◌, ◌≤◌, true, false, List, [], ◌∷◌, refl, sym, ap, subst, ◌∙◌, arith, map, take, drop, get_or, ◌/◌, ◌==◌, drop-cons, add-one, Some, None, length}
+use Rattle.std.proofs.Common.{◌≡◌, ◌≢◌, ℕ, zero, suc, ◌+◌, ◌^◌, ◌<◌, ◌≤◌, true, false, List, [], ◌∷◌, ◌++◌, refl, sym, ap, subst, ◌∙◌, arith, map, take, drop, get_or, ◌/◌, ◌==◌, drop-cons, add-one, Some, None, length, take-append-drop}
 use Rattle.std.specs.declared.cmp.Ordering.{Ordering}
 use Rattle.std.specs.declared.cmp.Ordering.TheVariants.{Less, Equal, Greater}
 use Rattle.std.specs.Ordering.{nat_cmp, is_lt, is_eq, ordering_reverse}
 use Rattle.std.specs.{Cmp.Lexicographic.slice_cmp, Cmp.Lexicographic.texts_ties, Str.bytes_eq, List.AllPass}
 use Rattle.std.proofs.{lemmas.Cmp.nat_list_cmp_total, lemmas.Slice.Eq.bytes_eq-Decides, lemmas.Bool.Decides.nat_tests}
 use Rattle.std.proofs.lemmas.Bool.{and_from, and_parts, eqb-true, false_from_ne_true}
-use Rattle.std.proofs.lemmas.List.{drop-map, length-drop, length-take, take-map}
+use Rattle.std.proofs.lemmas.List.{length-drop, length-take, map-append}
 use Rattle.std.proofs.lemmas.List.Elements.{All-drop, All-take}
 use Rattle.std.proofs.Math.Nat.{pow-suc}
-use Rattle.latex2mathml_tokens.specs.{Commands.command_entries, Commands.entry_token, Ordered.ascending, Tok.Tok}
-use Rattle.latex2mathml_tokens.specs.{declared.token.table.Entry.Entry, Entries.entry_of, Keys.has_key, Lexemes.lexeme_tok}
-
--- a part of a sorted table is sorted
-
-pub ascending-drop : (n : ℕ) (rs : List (List ℕ × Tok)) → ascending rs ≡ true → ascending (drop n rs) ≡ true
-unfolding ascending
-ascending-drop zero rs h = h
-ascending-drop (suc n) [] h = refl
-ascending-drop (suc n) (r ∷ rs) h = ascending-drop n rs (and_parts _ _ h).1
-
-pub ascending-take : (n : ℕ) (rs : List (List ℕ × Tok)) → ascending rs ≡ true → ascending (take n rs) ≡ true
-unfolding ascending
-ascending-take zero rs h = refl
-ascending-take (suc n) [] h = refl
-ascending-take (suc zero) (r ∷ rs) h = refl
-ascending-take (suc (suc n)) (r ∷ []) h = refl
-ascending-take (suc (suc n)) (r ∷ s ∷ rs) h =
-    let p = and_parts _ _ h in and_from _ _ p.0 (ascending-take (suc n) (s ∷ rs) p.1)
+use Rattle.latex2mathml_tokens.specs.{Commands.command_entries, Commands.entry_token, Lexemes.lexeme_tok, Tok.Tok}
+use Rattle.latex2mathml_tokens.specs.{Entries.ascending, Entries.entry_of, Entries.has_key, declared.token.table.Entry.Entry}
 
 -- what a comparison says of equality
 tested : (name other : List ℕ) (o : Ordering) → slice_cmp nat_cmp name other ≡ o → bytes_eq other name ≡ is_eq (ordering_reverse o)
@@ -38,41 +21,50 @@ is_less Less h = refl
 is_less Equal h = cc
 is_less Greater h = cc
 
--- each name is less than all later ones
-later : (r : Entry) (rs : List Entry) (k : ℕ) (d : Entry) → ascending (map entry_of (r ∷ rs)) ≡ true → k < length rs → slice_cmp nat_cmp r.name.now (get_or rs k d).name.now ≡ Less
+-- the parts of a sorted table are sorted
+pub ascending-parts : (rs ss : List (List ℕ × Tok)) → ascending (rs ++ ss) ≡ true → (ascending rs ≡ true) × (ascending ss ≡ true)
 unfolding ascending
-later r [] k d a h = absurd (omega arith)
-later r (s ∷ rs) zero d a h = is_less _ (and_parts _ _ a).0
-later r (s ∷ rs) (suc k) d a h =
-    let p = and_parts _ _ a in
-    nat_list_cmp_total.trans _ s.name.now _ (is_less _ p.0) (later s rs k d p.1 (omega arith))
+ascending-parts [] ss h = (refl, h)
+ascending-parts (r ∷ []) ss h = (refl, (and_parts _ _ h).1)
+ascending-parts (r ∷ s ∷ rs) ss h =
+    let p = and_parts _ _ h in
+    let q = ascending-parts (s ∷ rs) ss p.1 in
+    (and_from _ _ p.0 q.0, q.1)
+
+-- each name is less than all later ones
+later : (r : List ℕ × Tok) (rs : List (List ℕ × Tok)) (s : List ℕ × Tok) (ss : List (List ℕ × Tok)) → ascending (r ∷ rs ++ s ∷ ss) ≡ true → slice_cmp nat_cmp r.0 s.0 ≡ Less
+unfolding ascending
+later r [] s ss a = is_less _ (and_parts _ _ a).0
+later r (q ∷ rs) s ss a =
+    let p = and_parts _ _ a in nat_list_cmp_total.trans _ q.0 _ (is_less _ p.0) (later q rs s ss p.1)
 
 -- no entry has a name that is less than the first one's
-none_before : (name : List ℕ) (r : Entry) (rs : List Entry) → ascending (map entry_of (r ∷ rs)) ≡ true → slice_cmp nat_cmp name r.name.now ≡ Less → entry_token (map entry_of (r ∷ rs)) name ≡ None
+none_before : (name : List ℕ) (r : List ℕ × Tok) (rs : List (List ℕ × Tok)) → ascending (r ∷ rs) ≡ true → slice_cmp nat_cmp name r.0 ≡ Less → entry_token (r ∷ rs) name ≡ None
 unfolding ascending
-none_before name r [] a h = rw (tested name r.name.now Less h) refl
+none_before name r [] a h = rw (tested name r.0 Less h) refl
 none_before name r (s ∷ rs) a h =
     let p = and_parts _ _ a in
-    rw (tested name r.name.now Less h) (none_before name s rs p.1 (nat_list_cmp_total.trans name r.name.now _ h (is_less _ p.0)))
+    rw (tested name r.0 Less h) (none_before name s rs p.1 (nat_list_cmp_total.trans name r.0 _ h (is_less _ p.0)))
 
--- the entry of a name that is less than the one at m is before m, and that of any other name is not
-pub stands_before : (m : ℕ) (rs : List Entry) (name : List ℕ) (d : Entry) → m < length rs → ascending (map entry_of rs) ≡ true → slice_cmp nat_cmp name (get_or rs m d).name.now ≡ Less → entry_token (map entry_of rs) name ≡ entry_token (map entry_of (take m rs)) name
+-- the entry of a name that is less than that of s is before s, and that of any other name is not
+pub stands_before : (rs : List (List ℕ × Tok)) (s : List ℕ × Tok) (ss : List (List ℕ × Tok)) (name : List ℕ) → ascending (rs ++ s ∷ ss) ≡ true → slice_cmp nat_cmp name s.0 ≡ Less → entry_token (rs ++ s ∷ ss) name ≡ entry_token rs name
 unfolding ascending
-stands_before m [] name d in_rs a h = absurd (omega arith)
-stands_before zero (r ∷ rs) name d in_rs a h = none_before name r rs a h
-stands_before (suc m) (r ∷ rs) name d in_rs a h =
-    let in_rest : m < length rs = omega arith in
-    let rest = (and_parts _ _ a).1 in
-    rw (stands_before m rs name d in_rest rest h) refl
+stands_before [] s ss name a h = none_before name s ss a h
+stands_before (r ∷ rs) s ss name a h =
+    let rest = (and_parts _ _ a).1 in rw (stands_before rs s ss name rest h) refl
 
-pub stands_from : (m : ℕ) (rs : List Entry) (name : List ℕ) (d : Entry) → m < length rs → ascending (map entry_of rs) ≡ true → slice_cmp nat_cmp name (get_or rs m d).name.now ≢ Less → entry_token (map entry_of rs) name ≡ entry_token (map entry_of (drop m rs)) name
+pub stands_from : (rs : List (List ℕ × Tok)) (s : List ℕ × Tok) (ss : List (List ℕ × Tok)) (name : List ℕ) → ascending (rs ++ s ∷ ss) ≡ true → slice_cmp nat_cmp name s.0 ≢ Less → entry_token (rs ++ s ∷ ss) name ≡ entry_token (s ∷ ss) name
 unfolding ascending
-stands_from m [] name d in_rs a h = absurd (omega arith)
-stands_from zero (r ∷ rs) name d in_rs a h = refl
-stands_from (suc m) (r ∷ rs) name d in_rs a h =
-    let less = later r rs m d a (omega arith) in
-    let other = λ (e : bytes_eq r.name.now name ≡ true). h (subst (λ n. slice_cmp nat_cmp n (get_or rs m d).name.now ≡ Less) ((bytes_eq-Decides r.name.now name).0 e) less) in
-    rw (false_from_ne_true _ other) (stands_from m rs name d (omega arith) (and_parts _ _ a).1 h)
+stands_from [] s ss name a h = refl
+stands_from (r ∷ rs) s ss name a h =
+    let other = λ (e : bytes_eq r.0 name ≡ true). h (subst (λ n. slice_cmp nat_cmp n s.0 ≡ Less) ((bytes_eq-Decides r.0 name).0 e) (later r rs s ss a)) in
+    rw (false_from_ne_true _ other) (stands_from rs s ss name (and_parts _ _ a).1 h)
+
+-- a table is what precedes one of its entries, that entry, and what follows it
+pub parted : (entries : List Entry) (m : ℕ) (d : Entry) → m < length entries → map entry_of entries ≡ map entry_of (take m entries) ++ entry_of (get_or entries m d) ∷ map entry_of (drop (suc m) entries)
+parted entries m d h =
+    ap (map entry_of) (sym (take-append-drop m entries) ∙ ap (λ es. take m entries ++ es) (drop-cons entries m d h))
+    ∙ map-append entry_of (take m entries) (get_or entries m d ∷ drop (suc m) entries)
 
 -- the invariant of the search: the entries that are left decide the look-up, and after n comparisons they need at most `left` more
 pub record Narrowed (entries : List Entry) (name : List ℕ) (n : ℕ) : Type 0 where
@@ -104,40 +96,48 @@ module _ (entries : List Entry) (name : List ℕ) (n : ℕ) (d : Entry) (inv : N
   abbrev middle : Entry
   middle = get_or entries (length entries / 2) d
 
-  from_middle : slice_cmp nat_cmp name middle.name.now ≢ Less → entry_token command_entries name ≡ entry_token (map entry_of (middle ∷ drop (suc (length entries / 2)) entries)) name
-  from_middle other =
-      let in_entries : length entries / 2 < length entries = omega (arith, some) in
-      inv.same ∙ stands_from (length entries / 2) entries name d in_entries inv.ordered other
-      ∙ ap (λ es. entry_token (map entry_of es) name) (drop-cons entries (length entries / 2) d in_entries)
+  abbrev left : List Entry
+  left = take (length entries / 2) entries
+
+  abbrev right : List Entry
+  right = drop (suc (length entries / 2)) entries
+
+  around_middle : map entry_of entries ≡ map entry_of left ++ entry_of middle ∷ map entry_of right
+  around_middle = parted entries (length entries / 2) d (omega (arith, some))
+
+  ordered : ascending (map entry_of left ++ entry_of middle ∷ map entry_of right) ≡ true
+  ordered = rw around_middle at inv.ordered
+
+  from_middle : slice_cmp nat_cmp name middle.name.now ≢ Less → entry_token command_entries name ≡ entry_token (entry_of middle ∷ map entry_of right) name
+  from_middle other = inv.same ∙ ap (λ es. entry_token es name) around_middle ∙ stands_from _ _ _ name ordered other
 
   -- the middle entry is the result if its name is equal
   pub found : slice_cmp nat_cmp name middle.name.now ≡ Equal → entry_token command_entries name ≡ Some (lexeme_tok middle.lexeme)
   found is = from_middle (λ less. cc) ∙ rw (tested name middle.name.now Equal is) refl
 
-  -- the left half remains if the name is less than the middle entry's
-  pub kept_left : (entries' : List Entry) (n' : ℕ) → slice_cmp nat_cmp name middle.name.now ≡ Less → entries' ≡ take (length entries / 2) entries → n' ≡ n + 1 → Narrowed entries' name n'
-  kept_left entries' n' is e f =
-      let h = halves (length entries) (length (take (length entries / 2) entries)) inv.left some inv.halved (simp length-take (omega arith)) in
+  -- a half that has all entries of this name remains
+  narrowed : (half remaining : List Entry) (n' : ℕ) → entry_token command_entries name ≡ entry_token (map entry_of half) name → ascending (map entry_of half) ≡ true → length half + length half ≤ length entries → AllPass has_key half → remaining ≡ half → n' ≡ n + 1 → Narrowed remaining name n'
+  narrowed half remaining n' same sorted twice keyed e f =
+      let h = halves (length entries) (length half) inv.left some inv.halved twice in
       rw (e, f) (record {
-        same = inv.same ∙ stands_before (length entries / 2) entries name d (omega (arith, some)) inv.ordered is;
-        ordered = rw (← take-map entry_of (length entries / 2) entries) (ascending-take (length entries / 2) _ inv.ordered);
+        same = same;
+        ordered = sorted;
         left = h.0;
         halved = h.2;
         some = omega arith;
         nine = omega (arith, inv.nine, h.1);
-        keyed = All-take (λ e. has_key e ≡ true) (length entries / 2) entries inv.keyed;
+        keyed = keyed;
       })
 
-  -- the right half remains if the name is greater than the middle entry's
-  pub kept_right : (entries' : List Entry) (n' : ℕ) → slice_cmp nat_cmp name middle.name.now ≡ Greater → entries' ≡ drop (length entries / 2 + 1) entries → n' ≡ n + 1 → Narrowed entries' name n'
-  kept_right entries' n' is e f =
-      let h = halves (length entries) (length (drop (length entries / 2 + 1) entries)) inv.left some inv.halved (simp length-drop (omega (arith, some))) in
-      rw (e, f) (record {
-        same = from_middle (λ less. cc) ∙ rw (add-one, tested name middle.name.now Greater is) refl;
-        ordered = rw (← drop-map entry_of (length entries / 2 + 1) entries) (ascending-drop (length entries / 2 + 1) _ inv.ordered);
-        left = h.0;
-        halved = h.2;
-        some = omega arith;
-        nine = omega (arith, inv.nine, h.1);
-        keyed = All-drop (λ e. has_key e ≡ true) (length entries / 2 + 1) entries inv.keyed;
-      })
+  -- the left one if the name is less than the middle entry's
+  pub kept_left : (remaining : List Entry) (n' : ℕ) → slice_cmp nat_cmp name middle.name.now ≡ Less → remaining ≡ left → n' ≡ n + 1 → Narrowed remaining name n'
+  kept_left remaining n' is =
+      narrowed left remaining n' (inv.same ∙ ap (λ es. entry_token es name) around_middle ∙ stands_before _ _ _ name ordered is)
+      (ascending-parts _ _ ordered).0 (simp length-take (omega arith)) (All-take (λ e. has_key e ≡ true) (length entries / 2) entries inv.keyed)
+
+  -- the right one if it is greater
+  pub kept_right : (remaining : List Entry) (n' : ℕ) → slice_cmp nat_cmp name middle.name.now ≡ Greater → remaining ≡ drop (length entries / 2 + 1) entries → n' ≡ n + 1 → Narrowed remaining name n'
+  kept_right remaining n' is e =
+      narrowed right remaining n' (from_middle (λ less. cc) ∙ rw (tested name middle.name.now Greater is) refl)
+      (ascending-parts (entry_of middle ∷ []) _ (ascending-parts _ _ ordered).1).1 (simp length-drop (omega (arith, some)))
+      (All-drop (λ e. has_key e ≡ true) (suc (length entries / 2)) entries inv.keyed) (rw add-one at e)

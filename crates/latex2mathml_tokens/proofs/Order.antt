@@ -2,8 +2,8 @@
 -- a text. All of this is computed.
 use Rattle.std.proofs.Common.{◌≡◌, ℕ, true, false, not, List, [], ◌∷◌, unwrap_or, refl, length, arith}
 use Rattle.std.specs.{List.list_all, Prelude.IsSome}
-use Rattle.latex2mathml_tokens.specs.{Commands.command_entries, Commands.command_token, Commands.entry_token, Ordered.ascending}
-use Rattle.latex2mathml_tokens.specs.{Entries.entries_from_l, Entries.entries_up_to_k, Lexemes.owns_text, Tok.Tok, Tok.Command}
+use Rattle.latex2mathml_tokens.specs.{Commands.command_entries, Commands.command_token, Commands.entry_token, Lexemes.owns_text}
+use Rattle.latex2mathml_tokens.specs.{Entries.ascending, Entries.entries_from_l, Entries.entries_up_to_k, Tok.Tok, Tok.Command}
 
 pub ascending-command_entries : ascending command_entries ≡ true
 unfolding ascending command_entries

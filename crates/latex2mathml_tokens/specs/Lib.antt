@@ -4,10 +4,8 @@ pub mod Commands
 pub mod Discreteness
 pub mod Entries
 pub mod Escape
-pub mod Keys
 pub mod Lexemes
 pub mod Names
-pub mod Ordered
 pub mod Refusal
 pub mod Same
 pub mod Tok

@@ -14,6 +14,75 @@ use crate::lexeme::Lexeme;
 use crate::token::text::Contents;
 use std::alloc::{AllocError, Global};
 
+/// Calls a macro with the kinds of tokens: those that contain nothing, a character, another value, a text that has a name, two
+/// values, and a text of their own.
+macro_rules! with_kinds {
+    ($called:ident, $($value:ident),*) => {
+        $called!($($value),*;
+            EOF Begin End Ampersand NewLine Left Right Middle LBrace RBrace Frac Underscore Circumflex
+            Overset Underset Sqrt OperatorName Slashed Text;
+            Illegal Overbrace Underbrace Integral Operator BigOp;
+            Binom Space Style;
+            Paren Lim Big Function;
+            Over Under Letter;
+            Number Command
+        )
+    };
+}
+
+pub(crate) use with_kinds;
+
+/// A token with the same contents, with a text of its own.
+macro_rules! copied {
+    ($token:ident, $alloc:ident;
+     $($bare:ident)*; $($character:ident)*; $($one:ident)*; $($named:ident)*; $($two:ident)*; $($text:ident)*) => {
+        match $token {
+            $(Token::$bare => Token::$bare,)*
+            $(Token::$character(c) => Token::$character(*c),)*
+            $(Token::$one(x) => Token::$one(*x),)*
+            $(Token::$named(text) => Token::$named(text),)*
+            $(Token::$two(x, y) => Token::$two(*x, *y),)*
+            $(Token::$text(text) => Token::$text(String::from_str($alloc, text)?),)*
+        }
+    };
+}
+
+/// Whether two tokens are of the same kind and have the same contents.
+macro_rules! alike {
+    ($a:ident, $b:ident;
+     $($bare:ident)*; $($character:ident)*; $($one:ident)*; $($named:ident)*; $($two:ident)*; $($text:ident)*) => {
+        match $a {
+            $(Token::$bare => matches!($b, Token::$bare),)*
+            $(Token::$character(c) => matches!($b, Token::$character(other) if c == other),)*
+            $(Token::$one(x) => matches!($b, Token::$one(other) if x == other),)*
+            $(Token::$named(text) => matches!($b, Token::$named(other) if text == other),)*
+            $(Token::$two(x, y) => matches!($b, Token::$two(z, other) if x == z && y == other),)*
+            $(Token::$text(text) => matches!($b, Token::$text(other) if text == other),)*
+        }
+    };
+}
+
+/// The name of the kind of a token, and what it contains.
+macro_rules! named_parts {
+    ($token:ident;
+     $($bare:ident)*; $($character:ident)*; $($one:ident)*; $($named:ident)*; $($two:ident)*; $($text:ident)*) => {
+        match $token {
+            $(Token::$bare => (stringify!($bare), Contents::Nothing),)*
+            $(Token::$character(c) => (stringify!($character), Contents::Character(*c)),)*
+            Token::Binom(None) => ("Binom(None)", Contents::Nothing),
+            Token::Binom(Some(DisplayStyle::Block)) => ("Binom(Some(Block))", Contents::Nothing),
+            Token::Binom(Some(DisplayStyle::Inline)) => ("Binom(Some(Inline))", Contents::Nothing),
+            Token::Space(width) => ("Space", Contents::Width(*width)),
+            Token::Style(variant) => ("Style", Contents::Style(*variant)),
+            $(Token::$named(text) => (stringify!($named), Contents::Text(text)),)*
+            Token::Over(c, accent) => ("Over", Contents::Sign(*c, *accent)),
+            Token::Under(c, accent) => ("Under", Contents::Sign(*c, *accent)),
+            Token::Letter(c, variant) => ("Letter", Contents::Letter(*c, *variant)),
+            $(Token::$text(text) => (stringify!($text), Contents::Text(text)),)*
+        }
+    };
+}
+
 /// What a slice of a formula represents.
 #[derive(Debug, Drop)]
 pub enum Token {
@@ -129,45 +198,7 @@ impl Token {
     pub fn clone(&self, alloc: Global) -> Result<Token, AllocError>
         ensures { IfOk result (λ copy. tok copy ≡ tok self.now) }
     {
-        let token = match self {
-            Token::Illegal(c) => Token::Illegal(*c),
-            Token::EOF => Token::EOF,
-            Token::Begin => Token::Begin,
-            Token::End => Token::End,
-            Token::Ampersand => Token::Ampersand,
-            Token::NewLine => Token::NewLine,
-            Token::Left => Token::Left,
-            Token::Right => Token::Right,
-            Token::Middle => Token::Middle,
-            Token::Paren(text) => Token::Paren(text),
-            Token::LBrace => Token::LBrace,
-            Token::RBrace => Token::RBrace,
-            Token::Frac => Token::Frac,
-            Token::Underscore => Token::Underscore,
-            Token::Circumflex => Token::Circumflex,
-            Token::Binom(display) => Token::Binom(*display),
-            Token::Overset => Token::Overset,
-            Token::Underset => Token::Underset,
-            Token::Overbrace(c) => Token::Overbrace(*c),
-            Token::Underbrace(c) => Token::Underbrace(*c),
-            Token::Sqrt => Token::Sqrt,
-            Token::Integral(c) => Token::Integral(*c),
-            Token::Lim(text) => Token::Lim(text),
-            Token::Space(width) => Token::Space(*width),
-            Token::Style(variant) => Token::Style(*variant),
-            Token::Big(text) => Token::Big(text),
-            Token::Over(c, accent) => Token::Over(*c, *accent),
-            Token::Under(c, accent) => Token::Under(*c, *accent),
-            Token::Operator(c) => Token::Operator(*c),
-            Token::BigOp(c) => Token::BigOp(*c),
-            Token::Letter(c, variant) => Token::Letter(*c, *variant),
-            Token::Number(text) => Token::Number(String::from_str(alloc, text)?),
-            Token::Function(text) => Token::Function(text),
-            Token::OperatorName => Token::OperatorName,
-            Token::Slashed => Token::Slashed,
-            Token::Text => Token::Text,
-            Token::Command(text) => Token::Command(String::from_str(alloc, text)?),
-        };
+        let token = with_kinds!(copied, self, alloc);
         Ok(token)
     }
 
@@ -175,47 +206,7 @@ impl Token {
     pub(crate) fn parts(&self) -> (&'static str, Contents<'_>)
         ensures { result.0.now ++ contents_text result.1 ≡ token_text (tok self.now) }
     {
-        match self {
-            Token::Illegal(c) => ("Illegal", Contents::Character(*c)),
-            Token::EOF => ("EOF", Contents::Nothing),
-            Token::Begin => ("Begin", Contents::Nothing),
-            Token::End => ("End", Contents::Nothing),
-            Token::Ampersand => ("Ampersand", Contents::Nothing),
-            Token::NewLine => ("NewLine", Contents::Nothing),
-            Token::Left => ("Left", Contents::Nothing),
-            Token::Right => ("Right", Contents::Nothing),
-            Token::Middle => ("Middle", Contents::Nothing),
-            Token::Paren(text) => ("Paren", Contents::Text(text)),
-            Token::LBrace => ("LBrace", Contents::Nothing),
-            Token::RBrace => ("RBrace", Contents::Nothing),
-            Token::Frac => ("Frac", Contents::Nothing),
-            Token::Underscore => ("Underscore", Contents::Nothing),
-            Token::Circumflex => ("Circumflex", Contents::Nothing),
-            Token::Binom(None) => ("Binom(None)", Contents::Nothing),
-            Token::Binom(Some(DisplayStyle::Block)) => ("Binom(Some(Block))", Contents::Nothing),
-            Token::Binom(Some(DisplayStyle::Inline)) => ("Binom(Some(Inline))", Contents::Nothing),
-            Token::Overset => ("Overset", Contents::Nothing),
-            Token::Underset => ("Underset", Contents::Nothing),
-            Token::Overbrace(c) => ("Overbrace", Contents::Character(*c)),
-            Token::Underbrace(c) => ("Underbrace", Contents::Character(*c)),
-            Token::Sqrt => ("Sqrt", Contents::Nothing),
-            Token::Integral(c) => ("Integral", Contents::Character(*c)),
-            Token::Lim(text) => ("Lim", Contents::Text(text)),
-            Token::Space(width) => ("Space", Contents::Width(*width)),
-            Token::Style(variant) => ("Style", Contents::Style(*variant)),
-            Token::Big(text) => ("Big", Contents::Text(text)),
-            Token::Over(c, accent) => ("Over", Contents::Sign(*c, *accent)),
-            Token::Under(c, accent) => ("Under", Contents::Sign(*c, *accent)),
-            Token::Operator(c) => ("Operator", Contents::Character(*c)),
-            Token::BigOp(c) => ("BigOp", Contents::Character(*c)),
-            Token::Letter(c, variant) => ("Letter", Contents::Letter(*c, *variant)),
-            Token::Number(text) => ("Number", Contents::Text(text)),
-            Token::Function(text) => ("Function", Contents::Text(text)),
-            Token::OperatorName => ("OperatorName", Contents::Nothing),
-            Token::Slashed => ("Slashed", Contents::Nothing),
-            Token::Text => ("Text", Contents::Nothing),
-            Token::Command(text) => ("Command", Contents::Text(text)),
-        }
+        with_kinds!(named_parts, self)
     }
 }
 
@@ -236,44 +227,5 @@ impl PartialEq for Token {
 fn same_contents(a: &Token, b: &Token) -> bool
     ensures { IsTrue result ↔ (tok a.now ≡ tok b.now) }
 {
-    match a {
-        Token::Illegal(c) => matches!(b, Token::Illegal(other) if c == other),
-        Token::EOF => matches!(b, Token::EOF),
-        Token::Begin => matches!(b, Token::Begin),
-        Token::End => matches!(b, Token::End),
-        Token::Ampersand => matches!(b, Token::Ampersand),
-        Token::NewLine => matches!(b, Token::NewLine),
-        Token::Left => matches!(b, Token::Left),
-        Token::Right => matches!(b, Token::Right),
-        Token::Middle => matches!(b, Token::Middle),
-        Token::Paren(text) => matches!(b, Token::Paren(other) if text == other),
-        Token::LBrace => matches!(b, Token::LBrace),
-        Token::RBrace => matches!(b, Token::RBrace),
-        Token::Frac => matches!(b, Token::Frac),
-        Token::Underscore => matches!(b, Token::Underscore),
-        Token::Circumflex => matches!(b, Token::Circumflex),
-        Token::Binom(display) => matches!(b, Token::Binom(other) if display == other),
-        Token::Overset => matches!(b, Token::Overset),
-        Token::Underset => matches!(b, Token::Underset),
-        Token::Overbrace(c) => matches!(b, Token::Overbrace(other) if c == other),
-        Token::Underbrace(c) => matches!(b, Token::Underbrace(other) if c == other),
-        Token::Sqrt => matches!(b, Token::Sqrt),
-        Token::Integral(c) => matches!(b, Token::Integral(other) if c == other),
-        Token::Lim(text) => matches!(b, Token::Lim(other) if text == other),
-        Token::Space(width) => matches!(b, Token::Space(other) if width == other),
-        Token::Style(variant) => matches!(b, Token::Style(other) if variant == other),
-        Token::Big(text) => matches!(b, Token::Big(other) if text == other),
-        Token::Over(c, accent) => matches!(b, Token::Over(d, other) if c == d && accent == other),
-        Token::Under(c, accent) => matches!(b, Token::Under(d, other) if c == d && accent == other),
-        Token::Operator(c) => matches!(b, Token::Operator(other) if c == other),
-        Token::BigOp(c) => matches!(b, Token::BigOp(other) if c == other),
-        Token::Letter(c, variant) =>
-            matches!(b, Token::Letter(d, other) if c == d && variant == other),
-        Token::Number(text) => matches!(b, Token::Number(other) if text == other),
-        Token::Function(text) => matches!(b, Token::Function(other) if text == other),
-        Token::OperatorName => matches!(b, Token::OperatorName),
-        Token::Slashed => matches!(b, Token::Slashed),
-        Token::Text => matches!(b, Token::Text),
-        Token::Command(text) => matches!(b, Token::Command(other) if text == other),
-    }
+    with_kinds!(alike, a, b)
 }

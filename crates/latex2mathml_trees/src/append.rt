@@ -4,7 +4,7 @@ ghost use Rattle.std.specs.Prelude.{Some};
 ghost use Rattle.latex2mathml_tokens.specs.Escape.{content, content_char};
 ghost use Rattle.latex2mathml_trees.specs.{Print.print, Texts.Appends, Tree.space, Tree.undefined};
 
-use crate::text::{needs_escape, write_escaped, write_undefined};
+use crate::text::{Place, needs_escape, write_escaped, write_undefined};
 use crate::width::write_space;
 use std::alloc::AllocError;
 use std::fmt;
@@ -17,7 +17,7 @@ impl fmt::Display for Contents<'_> {
     ghost output = { λ text. Some (content text.0.now) };
 
     fn fmt<W: fmt::Write>(&self, f: &mut fmt::Formatter<W>) -> fmt::Result {
-        write_escaped(self.0, f)
+        write_escaped(Place::Content, self.0, f)
     }
 }
 

@@ -85,7 +85,9 @@ impl<'a> Parser<'a> {
             Frame::First(first, place, context) => {
                 self.after_first(first, place, context, operand, next)
             }
-            Frame::Script(core, scripts, side, _, _) => self.with_script(core, scripts, side, next),
+            Frame::Script(core, scripts, side, _, _) => {
+                self.with_script(core, scripts, side, operand.high, next)
+            }
             _ => unreachable!(),
         }
     }

@@ -1,6 +1,7 @@
 //! Environments: how they begin.
 ghost use Rattle.std.specs.Prelude.{◌≡◌, MatchOption, Some, false, length, true, nat_le};
 ghost use Rattle.latex2mathml_attributes.specs.Columns.{columns_of, listed_of};
+ghost use Rattle.latex2mathml_attributes.specs.Lines.{line_of};
 ghost use Rattle.latex2mathml_elements.specs.Columns.{Listed};
 ghost use Rattle.latex2mathml_tex_grammar.specs.Environments;
 ghost use Rattle.latex2mathml_tex_grammar.specs.{Meaning.BeginTable};
@@ -13,6 +14,7 @@ ghost use Rattle.latex2mathml_tex.specs.Steps.{BeginsIn, CanBegin, Advances, Lea
 use crate::parse::frames::TableKind;
 use crate::parse::{Parser, State};
 use latex2mathml_attributes::columns::{Alignment, Columns, ListedColumn};
+use latex2mathml_attributes::line::Line;
 use latex2mathml_tex_atoms::atoms::Context;
 use latex2mathml_tex_units::environments;
 use latex2mathml_tex_units::environments::{Bracket, Environment};
@@ -243,32 +245,55 @@ impl<'a> Parser<'a> {
     }
 }
 
-/// Returns the column that a letter specifies, with a line before it and a line after it, if so.
-fn column(letter: u8, before: bool, after: bool) -> ListedColumn
-    ensures { listed_of result
-        ≡ Environments.column_of letter (Environments.borders before after) }
+/// Returns the column that a letter specifies, with this line after it.
+fn column(letter: u8, line: Line) -> ListedColumn
+    ensures { listed_of result ≡ Environments.column_of letter (line_of line) }
 {
-    match (letter, before, after) {
-        (b'l', false, false) => ListedColumn::LeftAligned,
-        (b'l', true, false) => ListedColumn::LeftAlignedBehindLine,
-        (b'l', false, true) => ListedColumn::LeftAlignedBeforeLine,
-        (b'l', true, true) => ListedColumn::LeftAlignedBetweenLines,
-        (b'r', false, false) => ListedColumn::RightAligned,
-        (b'r', true, false) => ListedColumn::RightAlignedBehindLine,
-        (b'r', false, true) => ListedColumn::RightAlignedBeforeLine,
-        (b'r', true, true) => ListedColumn::RightAlignedBetweenLines,
-        (_, false, false) => ListedColumn::Centered,
-        (_, true, false) => ListedColumn::CenteredBehindLine,
-        (_, false, true) => ListedColumn::CenteredBeforeLine,
-        (_, true, true) => ListedColumn::CenteredBetweenLines,
+    match (letter, line) {
+        (b'l', Line::Nothing) => ListedColumn::LeftAligned,
+        (b'l', Line::One) => ListedColumn::LeftAlignedBeforeLine,
+        (b'l', Line::Two) => ListedColumn::LeftAlignedBeforeTwoLines,
+        (b'l', Line::Dashes) => ListedColumn::LeftAlignedBeforeDashes,
+        (b'r', Line::Nothing) => ListedColumn::RightAligned,
+        (b'r', Line::One) => ListedColumn::RightAlignedBeforeLine,
+        (b'r', Line::Two) => ListedColumn::RightAlignedBeforeTwoLines,
+        (b'r', Line::Dashes) => ListedColumn::RightAlignedBeforeDashes,
+        (_, Line::Nothing) => ListedColumn::Centered,
+        (_, Line::One) => ListedColumn::CenteredBeforeLine,
+        (_, Line::Two) => ListedColumn::CenteredBeforeTwoLines,
+        (_, Line::Dashes) => ListedColumn::CenteredBeforeDashes,
     }
+}
+
+/// Whether a sign among columns is a line.
+fn is_line_sign(sign: u8) -> bool
+    ensures { result ≡ Environments.is_line_sign sign }
+{
+    matches!(sign, b'|' | b':')
 }
 
 /// Whether signs of columns begin with a line.
 fn begins_with_line(signs: &[u8]) -> bool
     ensures { result ≡ Environments.begins_with_line signs.now }
 {
-    !signs.is_empty() && signs[0] == b'|'
+    !signs.is_empty() && is_line_sign(signs[0])
+}
+
+/// Returns the line that signs of columns begin with, if they begin with one. Several are drawn as two.
+fn line_at(signs: &[u8]) -> Line
+    ensures { line_of result ≡ Environments.line_at signs.now }
+{
+    if !begins_with_line(signs) {
+        return Line::Nothing;
+    }
+    if begins_with_line(&signs[1..]) {
+        return Line::Two;
+    }
+    if signs[0] == b':' {
+        Line::Dashes
+    } else {
+        Line::One
+    }
 }
 
 /// Returns the columns that these signs specify, unless there are too many.
@@ -276,22 +301,19 @@ fn listed(signs: &str) -> Option<Columns>
     ensures { let columns = Environments.columns_of signs.now
         in MatchOption result (nat_le (length columns) most_columns ≡ false)
         (λ few. (nat_le (length columns) most_columns ≡ true)
-        × (columns_of few ≡ Listed columns)) }
+        × (columns_of few ≡ Listed (Environments.line_at signs.now) columns)) }
 {
-    let mut columns = Columns::none();
     let mut rest = signs.as_bytes();
-    let mut line_before = begins_with_line(rest);
+    let mut columns = Columns::none(line_at(rest));
     'signs: while !rest.is_empty() {
         let sign = rest[0];
         rest = &rest[1..];
-        if sign == b'|' {
+        if is_line_sign(sign) {
             continue 'signs;
         }
-        let column = column(sign, line_before, begins_with_line(rest));
-        if !columns.push(column) {
+        if !columns.push(column(sign, line_at(rest))) {
             return None;
         }
-        line_before = false;
     }
     Some(columns)
 }

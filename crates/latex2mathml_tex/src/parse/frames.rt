@@ -225,7 +225,7 @@ impl Table {
     {
         let before = match self.columns.column_at(self.cells) {
             Column::SecondOfPair => Before::After(Class::Ordinary),
-            _ => Before::Nothing,
+            _ => Before::After(Class::Opening),
         };
         Row {
             before,

@@ -281,7 +281,7 @@ impl<'a> Parser<'a> {
         ensures step { Advances 5 self.old self.new next.new result }
     {
         let row = finish(&mut self.builder, style, row)?;
-        self.end_cells(table, row.count, at, next)
+        self.end_cells(table, row.count, row.last, at, next)
     }
 
     /// Ends a row that was read in this style, with this unit, which was taken. Its frame was taken off the stack.

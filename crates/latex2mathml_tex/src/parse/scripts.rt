@@ -1,5 +1,5 @@
 //! Scripts: what follows an atom.
-ghost use Rattle.std.specs.Prelude.{◌≡◌, ◌+◌, ◌≤◌, ◌∷◌, IfOk, None, OnOk, Some, drop, length, option_map, true};
+ghost use Rattle.std.specs.Prelude.{◌≡◌, ◌+◌, ◌≤◌, ◌∷◌, ◌||◌, IfOk, None, OnOk, Some, drop, length, option_map, true};
 ghost use Rattle.latex2mathml_elements.specs.{Attributes.plain, Element.Element, Element.pair, Element.triple};
 ghost use Rattle.latex2mathml_builder.specs.Built.{elements_in};
 ghost use Rattle.latex2mathml_attributes.specs.Names.{pair_of, triple_of};
@@ -158,23 +158,24 @@ impl<'a> Parser<'a> {
         ensures step { Advances 6 self.old self.new next.new result }
     {
         let put = put_symbol_operand(&mut self.input, &mut self.builder, context)?;
-        if let Some(_) = put {
-            return self.with_script(core, scripts, side, next);
+        if let Some(operand) = put {
+            return self.with_script(core, scripts, side, operand.high, next);
         }
         self.open(Frame::Script(core, scripts, side, place, context), next)
     }
 
-    /// Goes on after an operand that is a script.
+    /// Goes on after an operand that is a script, and higher than a letter, if `high` says so.
     pub(crate) fn with_script(
         &mut self,
         core: Core,
         scripts: Scripts,
         side: Side,
+        high: bool,
         next: &mut State,
     ) -> Result<(), AllocError>
         requires { CanMake atom_made (primes_put side scripts.primes + (script_count scripts + 2))
             self.old }
-        ensures holds { LeadsOn (TookScript core scripts side) self.old self.new next.new result }
+        ensures holds { LeadsOn (TookScript core scripts side high) self.old self.new next.new result }
         ensures step { Advances 3 self.old self.new next.new result }
     {
         *next = State::Atom(
@@ -183,6 +184,7 @@ impl<'a> Parser<'a> {
                 Side::Below => Scripts {
                     below: true,
                     is_exchanged: scripts.above,
+                    high,
                     ..scripts
                 },
                 Side::Above => {
@@ -235,12 +237,24 @@ fn scripted(
         return Ok(core);
     }
     adapt_base(builder, style, before, core.kind, scripts);
-    put_scripts(builder, style.stacks(scripts.limits), scripts)?;
+    let is_stacked = style.stacks(scripts.limits);
+    put_scripts(builder, is_stacked, scripts)?;
     Ok(Core {
         kind: core.kind.with_scripts(),
-        high: true,
+        high: is_high(style, is_stacked, core.high, scripts),
         limits: core.limits,
     })
+}
+
+/// Whether an atom with these scripts is higher than a letter, by whether its base is. Within scripts it always is.
+fn is_high(style: Style, is_stacked: bool, high: bool, scripts: Scripts) -> bool
+    ensures { result ≡ Makes.is_high (style_of style)
+        (is_stacked || high || scripts.high || scripts.above) }
+{
+    match style {
+        Style::InScript => true,
+        _ => is_stacked || high || scripts.high || scripts.above,
+    }
 }
 
 /// Returns the scripts with a mark of the primes as the superscript, if they have no other superscript.

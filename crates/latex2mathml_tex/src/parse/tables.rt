@@ -1,16 +1,16 @@
 //! Tables: how each cell begins and ends, and what is made of the cells.
 ghost use Rattle.std.specs.Prelude.{◌≡◌, ◌+◌, ◌∷◌, ◌<◌, ◌≤◌, IfOk, MatchBool, OnOk, drop, length, option_map, reverse, string_bytes, take};
 ghost use Rattle.latex2mathml_builder.specs.{Built.elements_in, Stacks.table_with};
-ghost use Rattle.latex2mathml_attributes.specs.Columns.{columns_of};
+ghost use Rattle.latex2mathml_attributes.specs.{Columns.columns_of, Lines.line_of};
 ghost use Rattle.latex2mathml_elements.specs.{Attributes.styled};
 ghost use Rattle.latex2mathml_attributes.specs.Names.{math_style_of};
 ghost use Rattle.latex2mathml_tex_grammar.specs.Tables;
-ghost use Rattle.latex2mathml_tex_grammar.specs.{Meaning.Substack, RowLines.lined, Starts.cell_end, Tables.a_row, Rows.row_element};
+ghost use Rattle.latex2mathml_tex_grammar.specs.{Meaning.Substack, RowLines.lined, Starts.cell_end, Tables.a_row, Rows.lone, Rows.row_element};
 ghost use Rattle.latex2mathml_tex_grammar.specs.Rules.{meaning_rule, rows_of_text};
 ghost use Rattle.latex2mathml_tex_commands.specs.Meanings.{class_of, style_of};
 ghost use Rattle.latex2mathml_tex_units.specs.{Scans.spot_of, Taking.piece_of};
 ghost use Rattle.latex2mathml_tex.specs.Frames.{context_at};
-ghost use Rattle.latex2mathml_tex_atoms.specs.Models.{context_of};
+ghost use Rattle.latex2mathml_tex_atoms.specs.Models.{context_of, kind_of};
 ghost use Rattle.latex2mathml_tex_units.specs.Environments.{delimiter_texts};
 ghost use Rattle.latex2mathml_tex.specs.Tables.{cell_end_of, line_count};
 ghost use Rattle.latex2mathml_tex.specs.Steps.{BeginsIn, BeginsTable, CanBegin, CanMake, Begins, ClosesCell, EndsCells, EndsRows, GoesOnTable, Advances, LeadsOn, MakesTable, TookText, core_made, level};
@@ -19,25 +19,17 @@ use crate::parse::frames::{Ending, Frame, Table, TableKind};
 use crate::parse::{Parser, State};
 use latex2mathml_attributes::attributes::{Attributes, MathStyle};
 use latex2mathml_attributes::columns::{Alignment, Columns};
-use latex2mathml_attributes::extent::Extent;
+use latex2mathml_attributes::line::Line;
 use latex2mathml_attributes::tag::Container;
 use latex2mathml_builder::builder::Builder;
 use latex2mathml_tex_atoms::atoms::{Context, Core, Kind, Row};
-use latex2mathml_tex_atoms::shapes::{enclose, put_row};
+use latex2mathml_tex_atoms::shapes::{enclose, put_braced};
 use latex2mathml_tex_commands::meaning::{Class, Style};
 use latex2mathml_tex_units::environments::Environment;
 use latex2mathml_tex_units::error::TexErrorKind;
 use latex2mathml_tex_units::scanning::{Argument, Spot};
 use latex2mathml_tex_units::unit::{Piece, Unit};
 use std::alloc::AllocError;
-
-/// A line among the rows of which a table is made: a black rectangle of no size.
-const ROW_LINE: Extent = Extent {
-    width: 0,
-    height: 0,
-    depth: 0,
-    is_black: true,
-};
 
 /// What the end of a cell does.
 #[derive(Clone, Copy)]
@@ -157,14 +149,14 @@ impl<'a> Parser<'a> {
     {
         match cell_end(unit.piece) {
             CellEnd::PartsCells => {
-                put_row(&mut self.builder, row.count)?;
+                put_braced(&mut self.builder, row.count, row.last)?;
                 // all cells are among the elements of the builder, so their number fits in a `usize`
                 let _ = self.builder.len();
                 let cells = table.cells + 1;
                 self.begin_cell(Table { cells, ..table }, place, next)
             }
             CellEnd::EndsRow => {
-                put_last(&mut self.builder, row.count, table.cells)?;
+                put_last(&mut self.builder, row.count, row.last, table.cells)?;
                 let line = self.input.pass_break(self.alloc)?;
                 let lines = put_line(&mut self.builder, line)?;
                 let _ = self.builder.len();
@@ -179,27 +171,29 @@ impl<'a> Parser<'a> {
                     next,
                 )
             }
-            CellEnd::EndsTable => self.end_cells(table, row.count, unit.place, next),
+            CellEnd::EndsTable => { self.end_cells(table, row.count, row.last, unit.place, next) }
         }
     }
 
-    /// Ends a table at this place, after its last cell, which has `count` elements.
+    /// Ends a table at this place, after its last cell, which has `count` elements, and whose last atom is of this kind.
     pub(crate) fn end_cells(
         &mut self,
         table: Table,
         count: usize,
+        last: Kind,
         at: usize,
         next: &mut State,
     ) -> Result<(), AllocError>
         requires can { CanMake core_made (count + (table.cells + table.rows)) self.old }
-        ensures holds { LeadsOn (EndsCells table count at) self.old self.new next.new result }
+        ensures holds { LeadsOn (EndsCells table count last at)
+            self.old self.new next.new result }
         ensures step { Advances 5 self.old self.new next.new result }
     {
         // an empty last row does not count
         if is_no_row(count, table) {
             return self.end_table(table.kind, table.columns, table.rows, at, next);
         }
-        put_last(&mut self.builder, count, table.cells)?;
+        put_last(&mut self.builder, count, last, table.cells)?;
         let _ = self.builder.len();
         let rows = table.rows + 1;
         self.end_table(table.kind, table.columns, rows, at, next)
@@ -338,31 +332,31 @@ fn cell_end(piece: Piece) -> CellEnd
     }
 }
 
-/// Makes a row of the cell of `count` elements and the `cells` cells before it.
-fn put_last(builder: &mut Builder, count: usize, cells: usize) -> Result<(), AllocError>
+/// Makes a row of the cell of `count` elements, whose last atom is of this kind, and the `cells` cells before it.
+fn put_last(builder: &mut Builder, count: usize, last: Kind, cells: usize) -> Result<(), AllocError>
     requires { count + cells ≤ length (elements_in builder.old) }
     ensures { OnOk result (elements_in builder.new
-        ≡ a_row (row_element (take count (elements_in builder.old))
+        ≡ a_row (row_element (lone (kind_of last) (take count (elements_in builder.old)))
         ∷ take cells (drop count (elements_in builder.old)))
         ∷ drop cells (drop count (elements_in builder.old))) }
 {
-    put_row(builder, count)?;
+    put_braced(builder, count, last)?;
     let _ = builder.len();
     builder.container(Container::Mrow, Attributes::plain(), cells + 1)
 }
 
 /// Pushes a line between rows, if there is one. Returns how many elements it is.
-fn put_line(builder: &mut Builder, line: bool) -> Result<usize, AllocError>
+fn put_line(builder: &mut Builder, line: Line) -> Result<usize, AllocError>
     ensures elements { OnOk result (elements_in builder.new
-        ≡ lined line (elements_in builder.old)) }
-    ensures count { IfOk result (λ n. n ≡ line_count line) }
+        ≡ lined (line_of line) (elements_in builder.old)) }
+    ensures count { IfOk result (λ n. n ≡ line_count (line_of line)) }
     ensures more { IfOk result (λ n. length (elements_in builder.new)
         ≡ n + length (elements_in builder.old)) }
 {
-    if !line {
+    if !line.is_drawn() {
         return Ok(0);
     }
-    builder.rectangle(ROW_LINE)?;
+    builder.rectangle(line.among_rows())?;
     Ok(1)
 }
 

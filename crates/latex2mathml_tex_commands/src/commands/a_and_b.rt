@@ -18,10 +18,12 @@ pub(crate) fn letter_a() -> &'static [Entry]
 }
 
 #[rattlefmt::skip]
-static LETTER_A: [Entry; 22] = [
+static LETTER_A: [Entry; 24] = [
     Entry { name: "a", key: 0x6100000000000000, meaning: Meaning::Shows(Symbol::UprightLetter('å')) },
     Entry { name: "acute", key: 0x6163757465000000, meaning: Meaning::Accent(Side::Above, '´', Stretch::Rigid) },
     Entry { name: "ae", key: 0x6165000000000000, meaning: Meaning::Shows(Symbol::UprightLetter('æ')) },
+    Entry { name: "alef", key: 0x616c656600000000, meaning: Meaning::Shows(Symbol::UprightLetter('ℵ')) },
+    Entry { name: "alefsym", key: 0x616c656673796d00, meaning: Meaning::Shows(Symbol::UprightLetter('ℵ')) },
     Entry { name: "aleph", key: 0x616c657068000000, meaning: Meaning::Shows(Symbol::UprightLetter('ℵ')) },
     Entry { name: "alpha", key: 0x616c706861000000, meaning: Meaning::Shows(Symbol::Letter('α')) },
     Entry { name: "amalg", key: 0x616d616c67000000, meaning: Meaning::Shows(Symbol::Sign(Class::Binary, '⨿')) },
@@ -53,7 +55,7 @@ pub(crate) fn letter_b() -> &'static [Entry]
 }
 
 #[rattlefmt::skip]
-static LETTER_B: [Entry; 61] = [
+static LETTER_B: [Entry; 62] = [
     Entry { name: "backepsilon", key: 0x6261636b65707369, meaning: Meaning::Shows(Symbol::Sign(Class::Relation, '∍')) },
     Entry { name: "backprime", key: 0x6261636b7072696d, meaning: Meaning::Shows(Symbol::Sign(Class::Ordinary, '‵')) },
     Entry { name: "backsim", key: 0x6261636b73696d00, meaning: Meaning::Shows(Symbol::Sign(Class::Relation, '∽')) },
@@ -113,6 +115,7 @@ static LETTER_B: [Entry; 61] = [
     Entry { name: "brace", key: 0x6272616365000000, meaning: Meaning::Changes(Change::Divides(FractionRule::Braced)) },
     Entry { name: "brack", key: 0x627261636b000000, meaning: Meaning::Changes(Change::Divides(FractionRule::Bracketed)) },
     Entry { name: "breve", key: 0x6272657665000000, meaning: Meaning::Accent(Side::Above, '˘', Stretch::Rigid) },
+    Entry { name: "bull", key: 0x62756c6c00000000, meaning: Meaning::Shows(Symbol::Sign(Class::Binary, '∙')) },
     Entry { name: "bullet", key: 0x62756c6c65740000, meaning: Meaning::Shows(Symbol::Sign(Class::Binary, '∙')) },
     Entry { name: "bumpeq", key: 0x62756d7065710000, meaning: Meaning::Shows(Symbol::Sign(Class::Relation, '≏')) },
 ];

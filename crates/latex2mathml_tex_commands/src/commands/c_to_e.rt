@@ -18,7 +18,7 @@ pub(crate) fn letter_c() -> &'static [Entry]
 }
 
 #[rattlefmt::skip]
-static LETTER_C: [Entry; 48] = [
+static LETTER_C: [Entry; 50] = [
     Entry { name: "cal", key: 0x63616c0000000000, meaning: Meaning::Changes(Change::ToAlphabet(Alphabet::Calligraphic)) },
     Entry { name: "cancel", key: 0x63616e63656c0000, meaning: Meaning::Boxed(OperandBox::StrikeUp) },
     Entry { name: "cap", key: 0x6361700000000000, meaning: Meaning::Shows(Symbol::Sign(Class::Binary, '∩')) },
@@ -41,7 +41,9 @@ static LETTER_C: [Entry; 48] = [
     Entry { name: "circledast", key: 0x636972636c656461, meaning: Meaning::Shows(Symbol::Sign(Class::Binary, '⊛')) },
     Entry { name: "circledcirc", key: 0x636972636c656463, meaning: Meaning::Shows(Symbol::Sign(Class::Binary, '⊚')) },
     Entry { name: "circleddash", key: 0x636972636c656464, meaning: Meaning::Shows(Symbol::Sign(Class::Binary, '⊝')) },
+    Entry { name: "clubs", key: 0x636c756273000000, meaning: Meaning::Shows(Symbol::Sign(Class::Ordinary, '♣')) },
     Entry { name: "clubsuit", key: 0x636c756273756974, meaning: Meaning::Shows(Symbol::Sign(Class::Ordinary, '♣')) },
+    Entry { name: "cnums", key: 0x636e756d73000000, meaning: Meaning::Shows(Symbol::Letter('ℂ')) },
     Entry { name: "coloncolon", key: 0x636f6c6f6e636f6c, meaning: Meaning::Shows(Symbol::Sign(Class::Relation, '∷')) },
     Entry { name: "colonequals", key: 0x636f6c6f6e657175, meaning: Meaning::Shows(Symbol::Sign(Class::Relation, '≔')) },
     Entry { name: "color", key: 0x636f6c6f72000000, meaning: Meaning::Changes(Change::ToColor) },
@@ -79,10 +81,12 @@ pub(crate) fn letter_d() -> &'static [Entry]
 }
 
 #[rattlefmt::skip]
-static LETTER_D: [Entry; 42] = [
+static LETTER_D: [Entry; 46] = [
+    Entry { name: "dArr", key: 0x6441727200000000, meaning: Meaning::Shows(Symbol::Sign(Class::Relation, '⇓')) },
     Entry { name: "dag", key: 0x6461670000000000, meaning: Meaning::Shows(Symbol::Sign(Class::Ordinary, '†')) },
     Entry { name: "dagger", key: 0x6461676765720000, meaning: Meaning::Shows(Symbol::Sign(Class::Binary, '†')) },
     Entry { name: "daleth", key: 0x64616c6574680000, meaning: Meaning::Shows(Symbol::UprightLetter('ℸ')) },
+    Entry { name: "darr", key: 0x6461727200000000, meaning: Meaning::Shows(Symbol::Sign(Class::Relation, '↓')) },
     Entry { name: "dashleftarrow", key: 0x646173686c656674, meaning: Meaning::Shows(Symbol::Sign(Class::Relation, '⇠')) },
     Entry { name: "dashrightarrow", key: 0x6461736872696768, meaning: Meaning::Shows(Symbol::Sign(Class::Relation, '⇢')) },
     Entry { name: "dashv", key: 0x6461736876000000, meaning: Meaning::Shows(Symbol::Sign(Class::Relation, '⊣')) },
@@ -90,6 +94,7 @@ static LETTER_D: [Entry; 42] = [
     Entry { name: "dblcolon", key: 0x64626c636f6c6f6e, meaning: Meaning::Shows(Symbol::Sign(Class::Relation, '∷')) },
     Entry { name: "ddag", key: 0x6464616700000000, meaning: Meaning::Shows(Symbol::Sign(Class::Ordinary, '‡')) },
     Entry { name: "ddagger", key: 0x6464616767657200, meaning: Meaning::Shows(Symbol::Sign(Class::Binary, '‡')) },
+    Entry { name: "ddddot", key: 0x646464646f740000, meaning: Meaning::Accent(Side::Above, '\u{20DC}', Stretch::Rigid) },
     Entry { name: "dddot", key: 0x6464646f74000000, meaning: Meaning::Accent(Side::Above, '\u{20DB}', Stretch::Rigid) },
     Entry { name: "ddot", key: 0x64646f7400000000, meaning: Meaning::Accent(Side::Above, '¨', Stretch::Rigid) },
     Entry { name: "ddots", key: 0x64646f7473000000, meaning: Meaning::Shows(Symbol::Sign(Class::Inner, '⋱')) },
@@ -102,6 +107,7 @@ static LETTER_D: [Entry; 42] = [
     Entry { name: "diagdown", key: 0x64696167646f776e, meaning: Meaning::Shows(Symbol::Sign(Class::Ordinary, '╲')) },
     Entry { name: "diagup", key: 0x6469616775700000, meaning: Meaning::Shows(Symbol::Sign(Class::Ordinary, '╱')) },
     Entry { name: "diamond", key: 0x6469616d6f6e6400, meaning: Meaning::Shows(Symbol::Sign(Class::Binary, '⋄')) },
+    Entry { name: "diamonds", key: 0x6469616d6f6e6473, meaning: Meaning::Shows(Symbol::Sign(Class::Ordinary, '♢')) },
     Entry { name: "diamondsuit", key: 0x6469616d6f6e6473, meaning: Meaning::Shows(Symbol::Sign(Class::Ordinary, '♢')) },
     Entry { name: "digamma", key: 0x646967616d6d6100, meaning: Meaning::Shows(Symbol::Letter('ϝ')) },
     Entry { name: "dim", key: 0x64696d0000000000, meaning: Meaning::FunctionName(LimitPlace::Beside, "dim") },
@@ -134,16 +140,18 @@ pub(crate) fn letter_e() -> &'static [Entry]
 }
 
 #[rattlefmt::skip]
-static LETTER_E: [Entry; 22] = [
+static LETTER_E: [Entry; 25] = [
     Entry { name: "earth", key: 0x6561727468000000, meaning: Meaning::Shows(Symbol::Sign(Class::Ordinary, '♁')) },
     Entry { name: "ell", key: 0x656c6c0000000000, meaning: Meaning::Shows(Symbol::Letter('ℓ')) },
     Entry { name: "emph", key: 0x656d706800000000, meaning: Meaning::Words(Some(Alphabet::Italic)) },
+    Entry { name: "empty", key: 0x656d707479000000, meaning: Meaning::Shows(Symbol::Sign(Class::Ordinary, '∅')) },
     Entry { name: "emptyset", key: 0x656d707479736574, meaning: Meaning::Shows(Symbol::Sign(Class::Ordinary, '∅')) },
     Entry { name: "end", key: 0x656e640000000000, meaning: Meaning::EndTable },
     Entry { name: "enskip", key: 0x656e736b69700000, meaning: Meaning::Spacing(9) },
     Entry { name: "enspace", key: 0x656e737061636500, meaning: Meaning::Spacing(9) },
     Entry { name: "epsilon", key: 0x657073696c6f6e00, meaning: Meaning::Shows(Symbol::Letter('ϵ')) },
     Entry { name: "eqcirc", key: 0x6571636972630000, meaning: Meaning::Shows(Symbol::Sign(Class::Relation, '≖')) },
+    Entry { name: "eqcolon", key: 0x6571636f6c6f6e00, meaning: Meaning::Shows(Symbol::Sign(Class::Relation, '≕')) },
     Entry { name: "eqqcolon", key: 0x657171636f6c6f6e, meaning: Meaning::Shows(Symbol::Sign(Class::Relation, '≕')) },
     Entry { name: "eqsim", key: 0x657173696d000000, meaning: Meaning::Shows(Symbol::Sign(Class::Relation, '≂')) },
     Entry { name: "eqslantgtr", key: 0x6571736c616e7467, meaning: Meaning::Shows(Symbol::Sign(Class::Relation, '⪖')) },
@@ -155,6 +163,7 @@ static LETTER_E: [Entry; 22] = [
     Entry { name: "eta", key: 0x6574610000000000, meaning: Meaning::Shows(Symbol::Letter('η')) },
     Entry { name: "eth", key: 0x6574680000000000, meaning: Meaning::Shows(Symbol::UprightLetter('ð')) },
     Entry { name: "euro", key: 0x6575726f00000000, meaning: Meaning::Shows(Symbol::Sign(Class::Ordinary, '€')) },
+    Entry { name: "exist", key: 0x6578697374000000, meaning: Meaning::Shows(Symbol::Sign(Class::Ordinary, '∃')) },
     Entry { name: "exists", key: 0x6578697374730000, meaning: Meaning::Shows(Symbol::Sign(Class::Ordinary, '∃')) },
     Entry { name: "exp", key: 0x6578700000000000, meaning: Meaning::FunctionName(LimitPlace::Beside, "exp") },
 ];

@@ -76,10 +76,13 @@ pub(crate) fn letter_h() -> &'static [Entry]
 }
 
 #[rattlefmt::skip]
-static LETTER_H: [Entry; 11] = [
+static LETTER_H: [Entry; 14] = [
+    Entry { name: "hArr", key: 0x6841727200000000, meaning: Meaning::Shows(Symbol::Sign(Class::Relation, '⇔')) },
+    Entry { name: "harr", key: 0x6861727200000000, meaning: Meaning::Shows(Symbol::Sign(Class::Relation, '↔')) },
     Entry { name: "hat", key: 0x6861740000000000, meaning: Meaning::Accent(Side::Above, 'ˆ', Stretch::Rigid) },
     Entry { name: "hbar", key: 0x6862617200000000, meaning: Meaning::Shows(Symbol::Letter('ℏ')) },
     Entry { name: "hbox", key: 0x68626f7800000000, meaning: Meaning::Words(None) },
+    Entry { name: "hearts", key: 0x6865617274730000, meaning: Meaning::Shows(Symbol::Sign(Class::Ordinary, '♡')) },
     Entry { name: "heartsuit", key: 0x6865617274737569, meaning: Meaning::Shows(Symbol::Sign(Class::Ordinary, '♡')) },
     Entry { name: "hom", key: 0x686f6d0000000000, meaning: Meaning::FunctionName(LimitPlace::Beside, "hom") },
     Entry { name: "hookleftarrow", key: 0x686f6f6b6c656674, meaning: Meaning::Shows(Symbol::Sign(Class::Relation, '↩')) },
@@ -100,23 +103,26 @@ pub(crate) fn letter_i() -> &'static [Entry]
 }
 
 #[rattlefmt::skip]
-static LETTER_I: [Entry; 17] = [
+static LETTER_I: [Entry; 20] = [
     Entry { name: "iff", key: 0x6966660000000000, meaning: Meaning::Shows(Symbol::Sign(Class::Relation, '⟺')) },
     Entry { name: "iiiint", key: 0x696969696e740000, meaning: Meaning::Shows(Symbol::Integral('⨌')) },
     Entry { name: "iiint", key: 0x6969696e74000000, meaning: Meaning::Shows(Symbol::Integral('∭')) },
     Entry { name: "iint", key: 0x69696e7400000000, meaning: Meaning::Shows(Symbol::Integral('∬')) },
+    Entry { name: "image", key: 0x696d616765000000, meaning: Meaning::Shows(Symbol::UprightLetter('ℑ')) },
     Entry { name: "imageof", key: 0x696d6167656f6600, meaning: Meaning::Shows(Symbol::Sign(Class::Relation, '⊷')) },
     Entry { name: "imath", key: 0x696d617468000000, meaning: Meaning::Shows(Symbol::Letter('ı')) },
     Entry { name: "impliedby", key: 0x696d706c69656462, meaning: Meaning::Shows(Symbol::Sign(Class::Relation, '⟸')) },
     Entry { name: "implies", key: 0x696d706c69657300, meaning: Meaning::Shows(Symbol::Sign(Class::Relation, '⟹')) },
     Entry { name: "in", key: 0x696e000000000000, meaning: Meaning::Shows(Symbol::Sign(Class::Relation, '∈')) },
     Entry { name: "inf", key: 0x696e660000000000, meaning: Meaning::FunctionName(LimitPlace::ByStyle, "inf") },
+    Entry { name: "infin", key: 0x696e66696e000000, meaning: Meaning::Shows(Symbol::Sign(Class::Ordinary, '∞')) },
     Entry { name: "infty", key: 0x696e667479000000, meaning: Meaning::Shows(Symbol::Sign(Class::Ordinary, '∞')) },
     Entry { name: "injlim", key: 0x696e6a6c696d0000, meaning: Meaning::FunctionName(LimitPlace::ByStyle, "inj\u{2009}lim") },
     Entry { name: "int", key: 0x696e740000000000, meaning: Meaning::Shows(Symbol::Integral('∫')) },
     Entry { name: "intercal", key: 0x696e74657263616c, meaning: Meaning::Shows(Symbol::Sign(Class::Binary, '⊺')) },
     Entry { name: "intop", key: 0x696e746f70000000, meaning: Meaning::Shows(Symbol::BigOperator('∫')) },
     Entry { name: "iota", key: 0x696f746100000000, meaning: Meaning::Shows(Symbol::Letter('ι')) },
+    Entry { name: "isin", key: 0x6973696e00000000, meaning: Meaning::Shows(Symbol::Sign(Class::Relation, '∈')) },
     Entry { name: "it", key: 0x6974000000000000, meaning: Meaning::Changes(Change::ToAlphabet(Alphabet::Italic)) },
 ];
 
@@ -161,12 +167,16 @@ pub(crate) fn letter_l() -> &'static [Entry]
 }
 
 #[rattlefmt::skip]
-static LETTER_L: [Entry; 68] = [
+static LETTER_L: [Entry; 74] = [
     Entry { name: "l", key: 0x6c00000000000000, meaning: Meaning::Shows(Symbol::UprightLetter('ł')) },
+    Entry { name: "lArr", key: 0x6c41727200000000, meaning: Meaning::Shows(Symbol::Sign(Class::Relation, '⇐')) },
+    Entry { name: "lBrace", key: 0x6c42726163650000, meaning: Meaning::Shows(Symbol::Sign(Class::Opening, '⦃')) },
     Entry { name: "lVert", key: 0x6c56657274000000, meaning: Meaning::Shows(Symbol::Sign(Class::Opening, '∥')) },
     Entry { name: "lambda", key: 0x6c616d6264610000, meaning: Meaning::Shows(Symbol::Letter('λ')) },
     Entry { name: "land", key: 0x6c616e6400000000, meaning: Meaning::Shows(Symbol::Sign(Class::Binary, '∧')) },
+    Entry { name: "lang", key: 0x6c616e6700000000, meaning: Meaning::Shows(Symbol::Sign(Class::Opening, '⟨')) },
     Entry { name: "langle", key: 0x6c616e676c650000, meaning: Meaning::Shows(Symbol::Sign(Class::Opening, '⟨')) },
+    Entry { name: "larr", key: 0x6c61727200000000, meaning: Meaning::Shows(Symbol::Sign(Class::Relation, '←')) },
     Entry { name: "lbrace", key: 0x6c62726163650000, meaning: Meaning::Shows(Symbol::Sign(Class::Opening, '{')) },
     Entry { name: "lbrack", key: 0x6c627261636b0000, meaning: Meaning::Shows(Symbol::Sign(Class::Opening, '[')) },
     Entry { name: "lceil", key: 0x6c6365696c000000, meaning: Meaning::Shows(Symbol::Sign(Class::Opening, '⌈')) },
@@ -225,6 +235,8 @@ static LETTER_L: [Entry; 68] = [
     Entry { name: "lor", key: 0x6c6f720000000000, meaning: Meaning::Shows(Symbol::Sign(Class::Binary, '∨')) },
     Entry { name: "lozenge", key: 0x6c6f7a656e676500, meaning: Meaning::Shows(Symbol::Sign(Class::Ordinary, '◊')) },
     Entry { name: "lparen", key: 0x6c706172656e0000, meaning: Meaning::Shows(Symbol::Sign(Class::Opening, '(')) },
+    Entry { name: "lrArr", key: 0x6c72417272000000, meaning: Meaning::Shows(Symbol::Sign(Class::Relation, '⇔')) },
+    Entry { name: "lrarr", key: 0x6c72617272000000, meaning: Meaning::Shows(Symbol::Sign(Class::Relation, '↔')) },
     Entry { name: "lrcorner", key: 0x6c72636f726e6572, meaning: Meaning::Shows(Symbol::Sign(Class::Closing, '⌟')) },
     Entry { name: "lt", key: 0x6c74000000000000, meaning: Meaning::Shows(Symbol::Sign(Class::Relation, '<')) },
     Entry { name: "ltimes", key: 0x6c74696d65730000, meaning: Meaning::Shows(Symbol::Sign(Class::Binary, '⋉')) },

@@ -18,7 +18,7 @@ pub(crate) fn letter_t() -> &'static [Entry]
 }
 
 #[rattlefmt::skip]
-static LETTER_T: [Entry; 40] = [
+static LETTER_T: [Entry; 41] = [
     Entry { name: "tan", key: 0x74616e0000000000, meaning: Meaning::FunctionName(LimitPlace::Beside, "tan") },
     Entry { name: "tanh", key: 0x74616e6800000000, meaning: Meaning::FunctionName(LimitPlace::Beside, "tanh") },
     Entry { name: "tau", key: 0x7461750000000000, meaning: Meaning::Shows(Symbol::Letter('τ')) },
@@ -41,6 +41,7 @@ static LETTER_T: [Entry; 40] = [
     Entry { name: "th", key: 0x7468000000000000, meaning: Meaning::FunctionName(LimitPlace::Beside, "th") },
     Entry { name: "therefore", key: 0x7468657265666f72, meaning: Meaning::Shows(Symbol::Sign(Class::Relation, '∴')) },
     Entry { name: "theta", key: 0x7468657461000000, meaning: Meaning::Shows(Symbol::Letter('θ')) },
+    Entry { name: "thetasym", key: 0x746865746173796d, meaning: Meaning::Shows(Symbol::Letter('ϑ')) },
     Entry { name: "thickapprox", key: 0x746869636b617070, meaning: Meaning::Shows(Symbol::Sign(Class::Relation, '≈')) },
     Entry { name: "thicksim", key: 0x746869636b73696d, meaning: Meaning::Shows(Symbol::Sign(Class::Relation, '∼')) },
     Entry { name: "thickspace", key: 0x746869636b737061, meaning: Meaning::Spacing(5) },
@@ -71,7 +72,9 @@ pub(crate) fn letter_u() -> &'static [Entry]
 }
 
 #[rattlefmt::skip]
-static LETTER_U: [Entry; 23] = [
+static LETTER_U: [Entry; 54] = [
+    Entry { name: "uArr", key: 0x7541727200000000, meaning: Meaning::Shows(Symbol::Sign(Class::Relation, '⇑')) },
+    Entry { name: "uarr", key: 0x7561727200000000, meaning: Meaning::Shows(Symbol::Sign(Class::Relation, '↑')) },
     Entry { name: "ulcorner", key: 0x756c636f726e6572, meaning: Meaning::Shows(Symbol::Sign(Class::Opening, '⌜')) },
     Entry { name: "underbar", key: 0x756e646572626172, meaning: Meaning::Accent(Side::Below, '\u{332}', Stretch::Stretching) },
     Entry { name: "underbrace", key: 0x756e646572627261, meaning: Meaning::Brace(Side::Below, '⏟') },
@@ -85,13 +88,42 @@ static LETTER_U: [Entry; 23] = [
     Entry { name: "underset", key: 0x756e646572736574, meaning: Meaning::Stack(Side::Below) },
     Entry { name: "unlhd", key: 0x756e6c6864000000, meaning: Meaning::Shows(Symbol::Sign(Class::Binary, '⊴')) },
     Entry { name: "unrhd", key: 0x756e726864000000, meaning: Meaning::Shows(Symbol::Sign(Class::Binary, '⊵')) },
+    Entry { name: "upalpha", key: 0x7570616c70686100, meaning: Meaning::Shows(Symbol::UprightLetter('α')) },
     Entry { name: "uparrow", key: 0x75706172726f7700, meaning: Meaning::Shows(Symbol::Sign(Class::Relation, '↑')) },
+    Entry { name: "upbeta", key: 0x7570626574610000, meaning: Meaning::Shows(Symbol::UprightLetter('β')) },
+    Entry { name: "upchi", key: 0x7570636869000000, meaning: Meaning::Shows(Symbol::UprightLetter('χ')) },
+    Entry { name: "updelta", key: 0x757064656c746100, meaning: Meaning::Shows(Symbol::UprightLetter('δ')) },
     Entry { name: "updownarrow", key: 0x7570646f776e6172, meaning: Meaning::Shows(Symbol::Sign(Class::Relation, '↕')) },
+    Entry { name: "upepsilon", key: 0x7570657073696c6f, meaning: Meaning::Shows(Symbol::UprightLetter('ϵ')) },
+    Entry { name: "upeta", key: 0x7570657461000000, meaning: Meaning::Shows(Symbol::UprightLetter('η')) },
+    Entry { name: "upgamma", key: 0x757067616d6d6100, meaning: Meaning::Shows(Symbol::UprightLetter('γ')) },
     Entry { name: "upharpoonleft", key: 0x7570686172706f6f, meaning: Meaning::Shows(Symbol::Sign(Class::Relation, '↿')) },
     Entry { name: "upharpoonright", key: 0x7570686172706f6f, meaning: Meaning::Shows(Symbol::Sign(Class::Relation, '↾')) },
+    Entry { name: "upiota", key: 0x7570696f74610000, meaning: Meaning::Shows(Symbol::UprightLetter('ι')) },
+    Entry { name: "upkappa", key: 0x75706b6170706100, meaning: Meaning::Shows(Symbol::UprightLetter('κ')) },
+    Entry { name: "uplambda", key: 0x75706c616d626461, meaning: Meaning::Shows(Symbol::UprightLetter('λ')) },
     Entry { name: "uplus", key: 0x75706c7573000000, meaning: Meaning::Shows(Symbol::Sign(Class::Binary, '⊎')) },
+    Entry { name: "upmu", key: 0x75706d7500000000, meaning: Meaning::Shows(Symbol::UprightLetter('μ')) },
+    Entry { name: "upnu", key: 0x75706e7500000000, meaning: Meaning::Shows(Symbol::UprightLetter('ν')) },
+    Entry { name: "upomega", key: 0x75706f6d65676100, meaning: Meaning::Shows(Symbol::UprightLetter('ω')) },
+    Entry { name: "upphi", key: 0x7570706869000000, meaning: Meaning::Shows(Symbol::UprightLetter('ϕ')) },
+    Entry { name: "uppi", key: 0x7570706900000000, meaning: Meaning::Shows(Symbol::UprightLetter('π')) },
+    Entry { name: "uppsi", key: 0x7570707369000000, meaning: Meaning::Shows(Symbol::UprightLetter('ψ')) },
+    Entry { name: "uprho", key: 0x757072686f000000, meaning: Meaning::Shows(Symbol::UprightLetter('ρ')) },
+    Entry { name: "upsigma", key: 0x75707369676d6100, meaning: Meaning::Shows(Symbol::UprightLetter('σ')) },
     Entry { name: "upsilon", key: 0x757073696c6f6e00, meaning: Meaning::Shows(Symbol::Letter('υ')) },
+    Entry { name: "uptau", key: 0x7570746175000000, meaning: Meaning::Shows(Symbol::UprightLetter('τ')) },
+    Entry { name: "uptheta", key: 0x7570746865746100, meaning: Meaning::Shows(Symbol::UprightLetter('θ')) },
     Entry { name: "upuparrows", key: 0x757075706172726f, meaning: Meaning::Shows(Symbol::Sign(Class::Relation, '⇈')) },
+    Entry { name: "upupsilon", key: 0x7570757073696c6f, meaning: Meaning::Shows(Symbol::UprightLetter('υ')) },
+    Entry { name: "upvarepsilon", key: 0x7570766172657073, meaning: Meaning::Shows(Symbol::UprightLetter('ε')) },
+    Entry { name: "upvarphi", key: 0x7570766172706869, meaning: Meaning::Shows(Symbol::UprightLetter('φ')) },
+    Entry { name: "upvarpi", key: 0x7570766172706900, meaning: Meaning::Shows(Symbol::UprightLetter('ϖ')) },
+    Entry { name: "upvarrho", key: 0x757076617272686f, meaning: Meaning::Shows(Symbol::UprightLetter('ϱ')) },
+    Entry { name: "upvarsigma", key: 0x7570766172736967, meaning: Meaning::Shows(Symbol::UprightLetter('ς')) },
+    Entry { name: "upvartheta", key: 0x7570766172746865, meaning: Meaning::Shows(Symbol::UprightLetter('ϑ')) },
+    Entry { name: "upxi", key: 0x7570786900000000, meaning: Meaning::Shows(Symbol::UprightLetter('ξ')) },
+    Entry { name: "upzeta", key: 0x75707a6574610000, meaning: Meaning::Shows(Symbol::UprightLetter('ζ')) },
     Entry { name: "uranus", key: 0x7572616e75730000, meaning: Meaning::Shows(Symbol::Sign(Class::Ordinary, '♅')) },
     Entry { name: "urcorner", key: 0x7572636f726e6572, meaning: Meaning::Shows(Symbol::Sign(Class::Closing, '⌝')) },
     Entry { name: "utilde", key: 0x7574696c64650000, meaning: Meaning::Accent(Side::Below, '~', Stretch::Stretching) },
@@ -147,8 +179,9 @@ pub(crate) fn letter_w() -> &'static [Entry]
 }
 
 #[rattlefmt::skip]
-static LETTER_W: [Entry; 6] = [
+static LETTER_W: [Entry; 7] = [
     Entry { name: "wedge", key: 0x7765646765000000, meaning: Meaning::Shows(Symbol::Sign(Class::Binary, '∧')) },
+    Entry { name: "weierp", key: 0x7765696572700000, meaning: Meaning::Shows(Symbol::Letter('℘')) },
     Entry { name: "widecheck", key: 0x7769646563686563, meaning: Meaning::Accent(Side::Above, 'ˇ', Stretch::Stretching) },
     Entry { name: "widehat", key: 0x7769646568617400, meaning: Meaning::Accent(Side::Above, '\u{302}', Stretch::Stretching) },
     Entry { name: "widetilde", key: 0x7769646574696c64, meaning: Meaning::Accent(Side::Above, '~', Stretch::Stretching) },
@@ -166,7 +199,7 @@ pub(crate) fn letter_x() -> &'static [Entry]
 }
 
 #[rattlefmt::skip]
-static LETTER_X: [Entry; 21] = [
+static LETTER_X: [Entry; 24] = [
     Entry { name: "xLeftarrow", key: 0x784c656674617272, meaning: Meaning::Arrow('⇐') },
     Entry { name: "xLeftrightarrow", key: 0x784c656674726967, meaning: Meaning::Arrow('⇔') },
     Entry { name: "xRightarrow", key: 0x7852696768746172, meaning: Meaning::Arrow('⇒') },
@@ -175,6 +208,7 @@ static LETTER_X: [Entry; 21] = [
     Entry { name: "xhookrightarrow", key: 0x78686f6f6b726967, meaning: Meaning::Arrow('↪') },
     Entry { name: "xi", key: 0x7869000000000000, meaning: Meaning::Shows(Symbol::Letter('ξ')) },
     Entry { name: "xleftarrow", key: 0x786c656674617272, meaning: Meaning::Arrow('←') },
+    Entry { name: "xleftequilibrium", key: 0x786c656674657175, meaning: Meaning::Arrow('⇋') },
     Entry { name: "xleftharpoondown", key: 0x786c656674686172, meaning: Meaning::Arrow('↽') },
     Entry { name: "xleftharpoonup", key: 0x786c656674686172, meaning: Meaning::Arrow('↼') },
     Entry { name: "xleftrightarrow", key: 0x786c656674726967, meaning: Meaning::Arrow('↔') },
@@ -182,8 +216,10 @@ static LETTER_X: [Entry; 21] = [
     Entry { name: "xlongequal", key: 0x786c6f6e67657175, meaning: Meaning::Arrow('=') },
     Entry { name: "xmapsto", key: 0x786d617073746f00, meaning: Meaning::Arrow('↦') },
     Entry { name: "xrightarrow", key: 0x7872696768746172, meaning: Meaning::Arrow('→') },
+    Entry { name: "xrightequilibrium", key: 0x7872696768746571, meaning: Meaning::Arrow('⇌') },
     Entry { name: "xrightharpoondown", key: 0x7872696768746861, meaning: Meaning::Arrow('⇁') },
     Entry { name: "xrightharpoonup", key: 0x7872696768746861, meaning: Meaning::Arrow('⇀') },
+    Entry { name: "xrightleftarrows", key: 0x7872696768746c65, meaning: Meaning::Arrow('⇄') },
     Entry { name: "xrightleftharpoons", key: 0x7872696768746c65, meaning: Meaning::Arrow('⇌') },
     Entry { name: "xtofrom", key: 0x78746f66726f6d00, meaning: Meaning::Arrow('⇄') },
     Entry { name: "xtwoheadleftarrow", key: 0x7874776f68656164, meaning: Meaning::Arrow('↞') },

@@ -18,18 +18,21 @@ pub(crate) fn letter_m() -> &'static [Entry]
 }
 
 #[rattlefmt::skip]
-static LETTER_M: [Entry; 49] = [
+static LETTER_M: [Entry; 53] = [
     Entry { name: "maltese", key: 0x6d616c7465736500, meaning: Meaning::Shows(Symbol::Sign(Class::Ordinary, '✠')) },
     Entry { name: "mapsto", key: 0x6d617073746f0000, meaning: Meaning::Shows(Symbol::Sign(Class::Relation, '↦')) },
     Entry { name: "mars", key: 0x6d61727300000000, meaning: Meaning::Shows(Symbol::Sign(Class::Ordinary, '♂')) },
     Entry { name: "mathbb", key: 0x6d61746862620000, meaning: Meaning::Styled(Alphabet::DoubleStruck) },
     Entry { name: "mathbbm", key: 0x6d61746862626d00, meaning: Meaning::Styled(Alphabet::DoubleStruck) },
     Entry { name: "mathbf", key: 0x6d61746862660000, meaning: Meaning::Styled(Alphabet::Bold) },
+    Entry { name: "mathbfit", key: 0x6d61746862666974, meaning: Meaning::Styled(Alphabet::BoldItalic) },
+    Entry { name: "mathbfup", key: 0x6d61746862667570, meaning: Meaning::Styled(Alphabet::Bold) },
     Entry { name: "mathbin", key: 0x6d61746862696e00, meaning: Meaning::Classed(Class::Binary) },
     Entry { name: "mathcal", key: 0x6d61746863616c00, meaning: Meaning::Styled(Alphabet::Calligraphic) },
     Entry { name: "mathchoice", key: 0x6d61746863686f69, meaning: Meaning::Choice },
     Entry { name: "mathclap", key: 0x6d617468636c6170, meaning: Meaning::Boxed(OperandBox::OverBoth) },
     Entry { name: "mathclose", key: 0x6d617468636c6f73, meaning: Meaning::Classed(Class::Closing) },
+    Entry { name: "mathcolor", key: 0x6d617468636f6c6f, meaning: Meaning::InColor },
     Entry { name: "mathcolorbox", key: 0x6d617468636f6c6f, meaning: Meaning::Highlight },
     Entry { name: "mathds", key: 0x6d61746864730000, meaning: Meaning::Styled(Alphabet::DoubleStruck) },
     Entry { name: "mathellipsis", key: 0x6d617468656c6c69, meaning: Meaning::Shows(Symbol::Sign(Class::Inner, '…')) },
@@ -60,6 +63,7 @@ static LETTER_M: [Entry; 49] = [
     Entry { name: "mid", key: 0x6d69640000000000, meaning: Meaning::Shows(Symbol::Sign(Class::Relation, '∣')) },
     Entry { name: "middle", key: 0x6d6964646c650000, meaning: Meaning::Middle },
     Entry { name: "min", key: 0x6d696e0000000000, meaning: Meaning::FunctionName(LimitPlace::ByStyle, "min") },
+    Entry { name: "minuscolon", key: 0x6d696e7573636f6c, meaning: Meaning::Shows(Symbol::Sign(Class::Relation, '∹')) },
     Entry { name: "mit", key: 0x6d69740000000000, meaning: Meaning::Changes(Change::ToAlphabet(Alphabet::Italic)) },
     Entry { name: "mkern", key: 0x6d6b65726e000000, meaning: Meaning::Skip },
     Entry { name: "models", key: 0x6d6f64656c730000, meaning: Meaning::Shows(Symbol::Sign(Class::Relation, '⊨')) },
@@ -80,13 +84,14 @@ pub(crate) fn letter_n() -> &'static [Entry]
 }
 
 #[rattlefmt::skip]
-static LETTER_N: [Entry; 58] = [
+static LETTER_N: [Entry; 59] = [
     Entry { name: "nLeftarrow", key: 0x6e4c656674617272, meaning: Meaning::Shows(Symbol::Sign(Class::Relation, '⇍')) },
     Entry { name: "nLeftrightarrow", key: 0x6e4c656674726967, meaning: Meaning::Shows(Symbol::Sign(Class::Relation, '⇎')) },
     Entry { name: "nRightarrow", key: 0x6e52696768746172, meaning: Meaning::Shows(Symbol::Sign(Class::Relation, '⇏')) },
     Entry { name: "nVDash", key: 0x6e56446173680000, meaning: Meaning::Shows(Symbol::Sign(Class::Relation, '⊯')) },
     Entry { name: "nVdash", key: 0x6e56646173680000, meaning: Meaning::Shows(Symbol::Sign(Class::Relation, '⊮')) },
     Entry { name: "nabla", key: 0x6e61626c61000000, meaning: Meaning::Shows(Symbol::Sign(Class::Ordinary, '∇')) },
+    Entry { name: "natnums", key: 0x6e61746e756d7300, meaning: Meaning::Shows(Symbol::Letter('ℕ')) },
     Entry { name: "natural", key: 0x6e61747572616c00, meaning: Meaning::Shows(Symbol::Sign(Class::Ordinary, '♮')) },
     Entry { name: "ncong", key: 0x6e636f6e67000000, meaning: Meaning::Shows(Symbol::Sign(Class::Relation, '≆')) },
     Entry { name: "ne", key: 0x6e65000000000000, meaning: Meaning::Shows(Symbol::Sign(Class::Relation, '≠')) },
@@ -151,7 +156,7 @@ pub(crate) fn letter_o() -> &'static [Entry]
 }
 
 #[rattlefmt::skip]
-static LETTER_O: [Entry; 27] = [
+static LETTER_O: [Entry; 28] = [
     Entry { name: "o", key: 0x6f00000000000000, meaning: Meaning::Shows(Symbol::UprightLetter('ø')) },
     Entry { name: "odot", key: 0x6f646f7400000000, meaning: Meaning::Shows(Symbol::Sign(Class::Binary, '⊙')) },
     Entry { name: "oe", key: 0x6f65000000000000, meaning: Meaning::Shows(Symbol::UprightLetter('œ')) },
@@ -163,6 +168,7 @@ static LETTER_O: [Entry; 27] = [
     Entry { name: "ominus", key: 0x6f6d696e75730000, meaning: Meaning::Shows(Symbol::Sign(Class::Binary, '⊖')) },
     Entry { name: "operatorname", key: 0x6f70657261746f72, meaning: Meaning::OperatorName },
     Entry { name: "oplus", key: 0x6f706c7573000000, meaning: Meaning::Shows(Symbol::Sign(Class::Binary, '⊕')) },
+    Entry { name: "ordinarycolon", key: 0x6f7264696e617279, meaning: Meaning::Shows(Symbol::Sign(Class::Relation, ':')) },
     Entry { name: "origof", key: 0x6f7269676f660000, meaning: Meaning::Shows(Symbol::Sign(Class::Relation, '⊶')) },
     Entry { name: "oslash", key: 0x6f736c6173680000, meaning: Meaning::Shows(Symbol::Sign(Class::Binary, '⊘')) },
     Entry { name: "otimes", key: 0x6f74696d65730000, meaning: Meaning::Shows(Symbol::Sign(Class::Binary, '⊗')) },
@@ -191,7 +197,7 @@ pub(crate) fn letter_p() -> &'static [Entry]
 }
 
 #[rattlefmt::skip]
-static LETTER_P: [Entry; 23] = [
+static LETTER_P: [Entry; 25] = [
     Entry { name: "parallel", key: 0x706172616c6c656c, meaning: Meaning::Shows(Symbol::Sign(Class::Relation, '∥')) },
     Entry { name: "partial", key: 0x7061727469616c00, meaning: Meaning::Shows(Symbol::Sign(Class::Ordinary, '∂')) },
     Entry { name: "perp", key: 0x7065727000000000, meaning: Meaning::Shows(Symbol::Sign(Class::Relation, '⊥')) },
@@ -199,6 +205,8 @@ static LETTER_P: [Entry; 23] = [
     Entry { name: "phi", key: 0x7068690000000000, meaning: Meaning::Shows(Symbol::Letter('ϕ')) },
     Entry { name: "pi", key: 0x7069000000000000, meaning: Meaning::Shows(Symbol::Letter('π')) },
     Entry { name: "pitchfork", key: 0x7069746368666f72, meaning: Meaning::Shows(Symbol::Sign(Class::Relation, '⋔')) },
+    Entry { name: "plim", key: 0x706c696d00000000, meaning: Meaning::FunctionName(LimitPlace::Stacked, "plim") },
+    Entry { name: "plusmn", key: 0x706c75736d6e0000, meaning: Meaning::Shows(Symbol::Sign(Class::Binary, '±')) },
     Entry { name: "pm", key: 0x706d000000000000, meaning: Meaning::Shows(Symbol::Sign(Class::Binary, '±')) },
     Entry { name: "pmb", key: 0x706d620000000000, meaning: Meaning::Styled(Alphabet::BoldItalic) },
     Entry { name: "pounds", key: 0x706f756e64730000, meaning: Meaning::Shows(Symbol::Sign(Class::Ordinary, '£')) },

@@ -15,13 +15,21 @@ pub(crate) fn letter_r() -> &'static [Entry]
 }
 
 #[rattlefmt::skip]
-static LETTER_R: [Entry; 30] = [
+static LETTER_R: [Entry; 38] = [
+    Entry { name: "rArr", key: 0x7241727200000000, meaning: Meaning::Shows(Symbol::Sign(Class::Relation, '⇒')) },
+    Entry { name: "rBrace", key: 0x7242726163650000, meaning: Meaning::Shows(Symbol::Sign(Class::Closing, '⦄')) },
     Entry { name: "rVert", key: 0x7256657274000000, meaning: Meaning::Shows(Symbol::Sign(Class::Closing, '∥')) },
     Entry { name: "raisemath", key: 0x72616973656d6174, meaning: Meaning::Raise },
+    Entry { name: "rang", key: 0x72616e6700000000, meaning: Meaning::Shows(Symbol::Sign(Class::Closing, '⟩')) },
     Entry { name: "rangle", key: 0x72616e676c650000, meaning: Meaning::Shows(Symbol::Sign(Class::Closing, '⟩')) },
+    Entry { name: "rarr", key: 0x7261727200000000, meaning: Meaning::Shows(Symbol::Sign(Class::Relation, '→')) },
+    Entry { name: "ratio", key: 0x726174696f000000, meaning: Meaning::Shows(Symbol::Sign(Class::Relation, ':')) },
     Entry { name: "rbrace", key: 0x7262726163650000, meaning: Meaning::Shows(Symbol::Sign(Class::Closing, '}')) },
     Entry { name: "rbrack", key: 0x72627261636b0000, meaning: Meaning::Shows(Symbol::Sign(Class::Closing, ']')) },
     Entry { name: "rceil", key: 0x726365696c000000, meaning: Meaning::Shows(Symbol::Sign(Class::Closing, '⌉')) },
+    Entry { name: "real", key: 0x7265616c00000000, meaning: Meaning::Shows(Symbol::UprightLetter('ℜ')) },
+    Entry { name: "reals", key: 0x7265616c73000000, meaning: Meaning::Shows(Symbol::Letter('ℝ')) },
+    Entry { name: "relbar", key: 0x72656c6261720000, meaning: Meaning::Shows(Symbol::Sign(Class::Relation, '−')) },
     Entry { name: "restriction", key: 0x7265737472696374, meaning: Meaning::Shows(Symbol::Sign(Class::Relation, '↾')) },
     Entry { name: "rfloor", key: 0x72666c6f6f720000, meaning: Meaning::Shows(Symbol::Sign(Class::Closing, '⌋')) },
     Entry { name: "rgroup", key: 0x7267726f75700000, meaning: Meaning::Shows(Symbol::Sign(Class::Closing, '⟯')) },
@@ -58,13 +66,15 @@ pub(crate) fn letter_s() -> &'static [Entry]
 }
 
 #[rattlefmt::skip]
-static LETTER_S: [Entry; 63] = [
+static LETTER_S: [Entry; 80] = [
     Entry { name: "saturn", key: 0x73617475726e0000, meaning: Meaning::Shows(Symbol::Sign(Class::Ordinary, '♄')) },
     Entry { name: "scriptscriptstyle", key: 0x7363726970747363, meaning: Meaning::Changes(Change::ToStyle(Style::InScript)) },
     Entry { name: "scriptstyle", key: 0x7363726970747374, meaning: Meaning::Changes(Change::ToStyle(Style::InScript)) },
+    Entry { name: "sdot", key: 0x73646f7400000000, meaning: Meaning::Shows(Symbol::Sign(Class::Binary, '⋅')) },
     Entry { name: "searrow", key: 0x73656172726f7700, meaning: Meaning::Shows(Symbol::Sign(Class::Relation, '↘')) },
     Entry { name: "sec", key: 0x7365630000000000, meaning: Meaning::FunctionName(LimitPlace::Beside, "sec") },
     Entry { name: "sech", key: 0x7365636800000000, meaning: Meaning::FunctionName(LimitPlace::Beside, "sech") },
+    Entry { name: "sect", key: 0x7365637400000000, meaning: Meaning::Shows(Symbol::Sign(Class::Ordinary, '§')) },
     Entry { name: "setminus", key: 0x7365746d696e7573, meaning: Meaning::Shows(Symbol::Sign(Class::Binary, '∖')) },
     Entry { name: "sf", key: 0x7366000000000000, meaning: Meaning::Changes(Change::ToAlphabet(Alphabet::SansSerif)) },
     Entry { name: "sh", key: 0x7368000000000000, meaning: Meaning::FunctionName(LimitPlace::Beside, "sh") },
@@ -84,6 +94,7 @@ static LETTER_S: [Entry; 63] = [
     Entry { name: "smash", key: 0x736d617368000000, meaning: Meaning::Smash },
     Entry { name: "smile", key: 0x736d696c65000000, meaning: Meaning::Shows(Symbol::Sign(Class::Relation, '⌣')) },
     Entry { name: "space", key: 0x7370616365000000, meaning: Meaning::Spacing(6) },
+    Entry { name: "spades", key: 0x7370616465730000, meaning: Meaning::Shows(Symbol::Sign(Class::Ordinary, '♠')) },
     Entry { name: "spadesuit", key: 0x7370616465737569, meaning: Meaning::Shows(Symbol::Sign(Class::Ordinary, '♠')) },
     Entry { name: "sphericalangle", key: 0x7370686572696361, meaning: Meaning::Shows(Symbol::Sign(Class::Ordinary, '∢')) },
     Entry { name: "sqcap", key: 0x7371636170000000, meaning: Meaning::Shows(Symbol::Sign(Class::Binary, '⊓')) },
@@ -97,6 +108,8 @@ static LETTER_S: [Entry; 63] = [
     Entry { name: "ss", key: 0x7373000000000000, meaning: Meaning::Shows(Symbol::UprightLetter('ß')) },
     Entry { name: "stackrel", key: 0x737461636b72656c, meaning: Meaning::StackedRelation },
     Entry { name: "star", key: 0x7374617200000000, meaning: Meaning::Shows(Symbol::Sign(Class::Binary, '⋆')) },
+    Entry { name: "sub", key: 0x7375620000000000, meaning: Meaning::Shows(Symbol::Sign(Class::Relation, '⊂')) },
+    Entry { name: "sube", key: 0x7375626500000000, meaning: Meaning::Shows(Symbol::Sign(Class::Relation, '⊆')) },
     Entry { name: "subset", key: 0x7375627365740000, meaning: Meaning::Shows(Symbol::Sign(Class::Relation, '⊂')) },
     Entry { name: "subseteq", key: 0x7375627365746571, meaning: Meaning::Shows(Symbol::Sign(Class::Relation, '⊆')) },
     Entry { name: "subseteqq", key: 0x7375627365746571, meaning: Meaning::Shows(Symbol::Sign(Class::Relation, '⫅')) },
@@ -114,6 +127,7 @@ static LETTER_S: [Entry; 63] = [
     Entry { name: "sum", key: 0x73756d0000000000, meaning: Meaning::Shows(Symbol::BigOperator('∑')) },
     Entry { name: "sun", key: 0x73756e0000000000, meaning: Meaning::Shows(Symbol::Sign(Class::Ordinary, '☼')) },
     Entry { name: "sup", key: 0x7375700000000000, meaning: Meaning::FunctionName(LimitPlace::ByStyle, "sup") },
+    Entry { name: "supe", key: 0x7375706500000000, meaning: Meaning::Shows(Symbol::Sign(Class::Relation, '⊇')) },
     Entry { name: "supset", key: 0x7375707365740000, meaning: Meaning::Shows(Symbol::Sign(Class::Relation, '⊃')) },
     Entry { name: "supseteq", key: 0x7375707365746571, meaning: Meaning::Shows(Symbol::Sign(Class::Relation, '⊇')) },
     Entry { name: "supseteqq", key: 0x7375707365746571, meaning: Meaning::Shows(Symbol::Sign(Class::Relation, '⫆')) },
@@ -121,5 +135,16 @@ static LETTER_S: [Entry; 63] = [
     Entry { name: "supsetneqq", key: 0x7375707365746e65, meaning: Meaning::Shows(Symbol::Sign(Class::Relation, '⫌')) },
     Entry { name: "surd", key: 0x7375726400000000, meaning: Meaning::Shows(Symbol::Sign(Class::Ordinary, '√')) },
     Entry { name: "swarrow", key: 0x73776172726f7700, meaning: Meaning::Shows(Symbol::Sign(Class::Relation, '↙')) },
+    Entry { name: "symbb", key: 0x73796d6262000000, meaning: Meaning::Styled(Alphabet::DoubleStruck) },
     Entry { name: "symbf", key: 0x73796d6266000000, meaning: Meaning::Styled(Alphabet::BoldItalic) },
+    Entry { name: "symbfit", key: 0x73796d6266697400, meaning: Meaning::Styled(Alphabet::BoldItalic) },
+    Entry { name: "symbfup", key: 0x73796d6266757000, meaning: Meaning::Styled(Alphabet::Bold) },
+    Entry { name: "symcal", key: 0x73796d63616c0000, meaning: Meaning::Styled(Alphabet::Calligraphic) },
+    Entry { name: "symfrak", key: 0x73796d6672616b00, meaning: Meaning::Styled(Alphabet::Fraktur) },
+    Entry { name: "symit", key: 0x73796d6974000000, meaning: Meaning::Styled(Alphabet::Italic) },
+    Entry { name: "symrm", key: 0x73796d726d000000, meaning: Meaning::Styled(Alphabet::Upright) },
+    Entry { name: "symscr", key: 0x73796d7363720000, meaning: Meaning::Styled(Alphabet::Calligraphic) },
+    Entry { name: "symsf", key: 0x73796d7366000000, meaning: Meaning::Styled(Alphabet::SansSerif) },
+    Entry { name: "symtt", key: 0x73796d7474000000, meaning: Meaning::Styled(Alphabet::Monospace) },
+    Entry { name: "symup", key: 0x73796d7570000000, meaning: Meaning::Styled(Alphabet::Upright) },
 ];

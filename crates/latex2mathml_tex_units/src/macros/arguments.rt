@@ -1,11 +1,22 @@
 //! Arguments of macros and definitions.
-ghost use Rattle.latex2mathml_tex_grammar.specs.Arguments.{argument, arguments, group};
+ghost use Rattle.latex2mathml_tex_grammar.specs.Arguments.{argument, arguments, group, macro_arguments};
+ghost use Rattle.latex2mathml_tex_units.specs.{Bodies.macro_of, Putting.arguments_at};
 ghost use Rattle.latex2mathml_tex_units.specs.Pending.{Reads, lists_in, units_in};
 
 use crate::macros::halt::Halt;
+use crate::macros::part::{Macro, Part};
 use crate::macros::pending::Pending;
 use crate::unit::{Fault, Next, Piece, Unit};
 use std::alloc::Global;
+
+/// The arguments of a macro that is used.
+#[derive(Drop)]
+pub(crate) struct Arguments<'m, 'a> {
+    /// The default of the first one, if that one is left out.
+    pub(crate) default: Option<&'m [Part<'a>]>,
+    /// All others.
+    pub(crate) given: Vec<Vec<Unit<'a>>>,
+}
 
 impl<'a> Pending<'a> {
     /// Takes the units of a group that begins at this place. Its opening brace has been taken.
@@ -75,5 +86,39 @@ impl<'a> Pending<'a> {
             found.push(self.take_argument(alloc, place)?)?;
         }
         Ok(found)
+    }
+
+    /// Takes the arguments of a macro at this place.
+    pub(crate) fn take_macro_arguments<'m>(
+        &mut self,
+        alloc: Global,
+        found: &'m Macro<'a>,
+        place: usize,
+    ) -> Result<Arguments<'m, 'a>, Halt>
+        ensures { Reads result (arguments_at place) (macro_arguments (macro_of found.now) place)
+            self.old self.new }
+    {
+        let Some(default) = &found.default else {
+            let given = self.take_arguments(alloc, place, found.arity)?;
+            return Ok(Arguments {
+                default: None,
+                given,
+            });
+        };
+        let first = self.take_optional(alloc)?;
+        let mut given = self.take_arguments(alloc, place, found.arity)?;
+        match first {
+            Some(first) => {
+                given.insert(0, first)?;
+                Ok(Arguments {
+                    default: None,
+                    given,
+                })
+            }
+            None => Ok(Arguments {
+                default: Some(default),
+                given,
+            }),
+        }
     }
 }

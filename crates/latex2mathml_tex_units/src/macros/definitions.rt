@@ -1,6 +1,6 @@
 //! Definitions of macros.
 ghost use Rattle.std.specs.Prelude.{◌≡◌, map, option_map};
-ghost use Rattle.latex2mathml_tex_grammar.specs.Definitions.{are_space, body, body_in_braces, command_definition, definition_of, is_delimited, name_in, name_of, number_of, operator_definition, parameters, plain_definition, word_named};
+ghost use Rattle.latex2mathml_tex_grammar.specs.Definitions.{are_space, body, body_in_braces, command_definition, default_of, definition_of, is_delimited, name_in, name_of, number_of, operator_definition, parameters, plain_definition, word_named};
 ghost use Rattle.latex2mathml_tex_units.specs.{Bodies.parts_in, Defined.definition_in, Defined.word_of, Pending.Reads, Pending.pending_units, Taking.unit_of};
 
 use crate::macros::halt::Halt;
@@ -16,7 +16,7 @@ pub(crate) enum Word {
     NewCommand,
     /// `\providecommand`, which keeps a macro that exists.
     ProvideCommand,
-    /// `\def`
+    /// `\def` and `\gdef`.
     Def,
     /// `\DeclareMathOperator`
     DeclareOperator,
@@ -30,7 +30,7 @@ pub(crate) fn word_named(name: &str) -> Option<Word>
         Some(Word::NewCommand)
     } else if name == "providecommand" {
         Some(Word::ProvideCommand)
-    } else if name == "def" {
+    } else if name == "def" || name == "gdef" {
         Some(Word::Def)
     } else if name == "DeclareMathOperator" {
         Some(Word::DeclareOperator)
@@ -103,10 +103,29 @@ impl<'a> Pending<'a> {
         if !self.take_sign(']') {
             return Err(Halt::Refused(Fault::WrongParameters, place));
         }
-        if self.take_sign('[') {
-            return Err(Halt::Refused(Fault::OptionalArgument, place));
-        }
         Ok(number)
+    }
+
+    /// Takes the default of the first of `count` arguments, if one comes next.
+    fn take_default(
+        &mut self,
+        alloc: Global,
+        place: usize,
+        count: usize,
+    ) -> Result<Option<Vec<Part<'a>>>, Halt>
+        ensures { Reads result (option_map parts_in) (default_of place count)
+            self.old self.new }
+    {
+        let Some(units) = self.take_optional(alloc)? else {
+            return Ok(None);
+        };
+        if count == 0 {
+            return Err(Halt::Refused(Fault::WrongParameters, place));
+        }
+        match parts_of(alloc, 0, &units)? {
+            Some(parts) => Ok(Some(parts)),
+            None => Err(Halt::Refused(Fault::UnknownParameter, place)),
+        }
     }
 
     /// Takes `#1`, `#2` and so on. Returns how many there are.
@@ -178,11 +197,12 @@ impl<'a> Pending<'a> {
     {
         self.take_sign('*');
         let name = self.take_name(alloc, place)?;
-        let arity = self.take_number(place)?;
-        let body = self.take_body(alloc, place, arity)?;
+        let count = self.take_number(place)?;
+        let default = self.take_default(alloc, place, count)?;
+        let body = self.take_body(alloc, place, count)?;
         Ok(Definition {
             name,
-            stands_for: Macro { arity, body },
+            stands_for: Macro::new(default, count, body),
         })
     }
 
@@ -195,7 +215,7 @@ impl<'a> Pending<'a> {
         let body = self.take_body_in_braces(alloc, place, arity)?;
         Ok(Definition {
             name,
-            stands_for: Macro { arity, body },
+            stands_for: Macro::new(None, arity, body),
         })
     }
 
@@ -213,7 +233,7 @@ impl<'a> Pending<'a> {
         let body = operator_parts(alloc, star, &parts)?;
         Ok(Definition {
             name,
-            stands_for: Macro { arity: 0, body },
+            stands_for: Macro::new(None, 0, body),
         })
     }
 

@@ -1,7 +1,8 @@
 //! The bodies of macros.
 ghost use Rattle.std.specs.Prelude.{◌≡◌, IfOk, map, option_map};
 ghost use Rattle.latex2mathml_tex_grammar.specs.Definitions.{digit_of, is_character, operator_parts, parameter_part, parts_of};
-ghost use Rattle.latex2mathml_tex_units.specs.{Bodies.part_of, Bodies.parts_in, Taking.piece_of, Taking.unit_of};
+ghost use Rattle.latex2mathml_tex_grammar.specs.Macros.{macro_with_default};
+ghost use Rattle.latex2mathml_tex_units.specs.{Bodies.macro_of, Bodies.part_of, Bodies.parts_in, Taking.piece_of, Taking.unit_of};
 
 use crate::unit::{Piece, Unit};
 use std::alloc::{AllocError, Global};
@@ -15,11 +16,36 @@ pub(crate) enum Part<'a> {
     Argument(usize),
 }
 
-/// How many arguments a macro takes, and what replaces it.
+/// What arguments a macro takes, and what replaces it.
 #[derive(Drop)]
 pub(crate) struct Macro<'a> {
+    /// The default of the first argument, if that one can be left out.
+    pub(crate) default: Option<Vec<Part<'a>>>,
+    /// How many other arguments it takes.
     pub(crate) arity: usize,
     pub(crate) body: Vec<Part<'a>>,
+}
+
+impl<'a> Macro<'a> {
+    /// Creates a macro of `count` arguments, the first of which can be left out if it has a default.
+    pub(crate) fn new(
+        default: Option<Vec<Part<'a>>>,
+        count: usize,
+        body: Vec<Part<'a>>,
+    ) -> Macro<'a>
+        ensures { macro_of result
+            ≡ macro_with_default (option_map parts_in default.entry) count (parts_in body.entry) }
+    {
+        let arity = match &default {
+            Some(_) => count.saturating_sub(1),
+            None => count,
+        };
+        Macro {
+            default,
+            arity,
+            body,
+        }
+    }
 }
 
 /// Whether the piece is this character.

@@ -1,10 +1,11 @@
 //! What replaces macros.
-ghost use Rattle.std.specs.Prelude.{OnOk, map};
-ghost use Rattle.latex2mathml_tex_grammar.specs.{Expansion.used, Macros.Table};
+ghost use Rattle.std.specs.Prelude.{OnOk, [], map};
+ghost use Rattle.latex2mathml_tex_grammar.specs.{Expansion.used, Macros.Table, Macros.argument_at, Macros.put, Macros.put_part};
 ghost use Rattle.latex2mathml_tex_grammar.specs.Units as units;
 ghost use Rattle.latex2mathml_tex_units.specs.Putting.{ArePut, Puts, Replaces, body_units, part_units};
-ghost use Rattle.latex2mathml_tex_units.specs.{Bodies.macro_of, Pending.pending_units, Taking.unit_of};
+ghost use Rattle.latex2mathml_tex_units.specs.{Bodies.macro_of, Bodies.part_of, Pending.pending_units, Pending.units_in, Taking.unit_of};
 
+use crate::macros::arguments::Arguments;
 use crate::macros::halt::Halt;
 use crate::macros::part::{Macro, Part};
 use crate::macros::pending::Pending;
@@ -36,12 +37,65 @@ impl<'a> Pending<'a> {
         Ok(true)
     }
 
+    /// Puts what a part of a default represents, if there is room. A default has no arguments.
+    fn put_fixed(
+        &mut self,
+        room: &mut usize,
+        part: Part<'a>,
+        place: usize,
+    ) -> Result<bool, AllocError>
+        ensures { Puts result (put_part [] place (part_of part.entry)) room.old room.new
+            self.old self.new }
+    {
+        match part {
+            Part::Fixed(piece) => self.put_units(room, &[Unit { piece, place }]),
+            Part::Argument(_) => Ok(true),
+        }
+    }
+
+    /// Puts a default, if there is room.
+    fn put_default(
+        &mut self,
+        room: &mut usize,
+        default: &[Part<'a>],
+        place: usize,
+    ) -> Result<bool, AllocError>
+        ensures { Puts result (put [] place (map part_of default.now)) room.old room.new
+            self.old self.new }
+    {
+        let mut left = default.len();
+        'parts: while left > 0 {
+            left -= 1;
+            if !self.put_fixed(room, default[left], place)? {
+                return Ok(false);
+            }
+        }
+        Ok(true)
+    }
+
+    /// Puts the argument with this number, counted from 0, if there is room.
+    fn put_given(
+        &mut self,
+        room: &mut usize,
+        number: usize,
+        given: &[Vec<Unit<'a>>],
+    ) -> Result<bool, AllocError>
+        ensures { Puts result (argument_at (map units_in given.now) number) room.old room.new
+            self.old self.new }
+    {
+        if number < given.len() {
+            self.put_units(room, &given[number])
+        } else {
+            Ok(true)
+        }
+    }
+
     /// Puts what a part of a body represents, if there is room.
     fn put_part(
         &mut self,
         room: &mut usize,
         part: Part<'a>,
-        arguments: &[Vec<Unit<'a>>],
+        arguments: &Arguments<'_, 'a>,
         place: usize,
     ) -> Result<bool, AllocError>
         ensures { Puts result (part_units arguments.now place part.entry) room.old room.new
@@ -49,13 +103,16 @@ impl<'a> Pending<'a> {
     {
         match part {
             Part::Fixed(piece) => self.put_units(room, &[Unit { piece, place }]),
-            Part::Argument(number) => {
-                if number < arguments.len() {
-                    self.put_units(room, &arguments[number])
-                } else {
-                    Ok(true)
+            Part::Argument(number) => match arguments.default {
+                None => self.put_given(room, number, &arguments.given),
+                Some(default) => {
+                    if number == 0 {
+                        self.put_default(room, default, place)
+                    } else {
+                        self.put_given(room, number - 1, &arguments.given)
+                    }
                 }
-            }
+            },
         }
     }
 
@@ -64,7 +121,7 @@ impl<'a> Pending<'a> {
         &mut self,
         room: &mut usize,
         body: &[Part<'a>],
-        arguments: &[Vec<Unit<'a>>],
+        arguments: &Arguments<'_, 'a>,
         place: usize,
     ) -> Result<bool, AllocError>
         ensures { Puts result (body_units arguments.now place body.now) room.old room.new
@@ -98,7 +155,7 @@ impl<'a> Pending<'a> {
             return Err(Halt::Refused(Fault::TooManyExpansions, place));
         }
         *uses -= 1;
-        let arguments = self.take_arguments(alloc, place, found.arity)?;
+        let arguments = self.take_macro_arguments(alloc, found, place)?;
         if !self.put_body(room, &found.body, &arguments, place)? {
             return Err(Halt::Refused(Fault::TooManyExpansions, place));
         }

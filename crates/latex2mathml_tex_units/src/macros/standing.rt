@@ -3,7 +3,7 @@ ghost use Rattle.std.specs.Prelude.{◌≡◌, ◌∷◌, ◌++◌, ℕ, IfSome,
 ghost use Rattle.std.specs.Str.{byte, chars};
 ghost use Rattle.latex2mathml_tex_grammar.specs.Units.{Spells};
 ghost use Rattle.latex2mathml_tex_grammar.specs.{Definitions.word_named, Expansion.Stands, Expansion.role_of, Macros.Table, UsualMacros.usual_macros};
-ghost use Rattle.latex2mathml_tex_units.specs.{Left.units_left, Taking.piece_of, TurningForms.is_turning_form};
+ghost use Rattle.latex2mathml_tex_units.specs.{Left.units_left, Taking.piece_of, TurningForms.is_turning_form, TurningForms.turns_from_m, TurningForms.turns_up_to_l};
 ghost use Rattle.latex2mathml_tex_units.specs.Standing.{AreStanding, IsUsual, Moves};
 
 use crate::lexer::Lexer;
@@ -140,7 +140,7 @@ pub(crate) fn may_turn(name: &str) -> bool
 {
     match name.as_bytes() {
         [first, second, ..] => is_turning_form(*first, *second, name.len()),
-        [one] => matches!(*one, b'*' | b'-' | b'/'),
+        [one] => matches!(*one, b'(' | b')' | b'*' | b'-' | b'/'),
         [] => false,
     }
 }
@@ -150,19 +150,35 @@ pub(crate) fn may_turn(name: &str) -> bool
 fn is_turning_form(first: u8, second: u8, len: usize) -> bool
     ensures { result ≡ is_turning_form first second len }
 {
+    if first < b'm' {
+        turns_up_to_l(first, second, len)
+    } else {
+        turns_from_m(first, second, len)
+    }
+}
+
+/// Whether such a name, which begins before m, has these first two bytes and this length.
+#[inline(always)]
+fn turns_up_to_l(first: u8, second: u8, len: usize) -> bool
+    ensures { result ≡ turns_up_to_l first second len }
+{
     match first {
         b'B' => match second {
             b'b' => len == 4,
             b'r' => len == 3,
             _ => false,
         },
-        b'C' => second == b'o' && len == 8,
+        b'C' => second == b'o' && matches!(len, 7 | 8 | 11),
         b'D' => second == b'e' && len == 19,
+        b'E' => second == b'q' && matches!(len, 7 | 8),
         b'H' => second == b'u' && len == 4,
-        b'K' => second == b'e' && len == 3,
+        b'K' | b'T' | b'k' => second == b'e' && len == 3,
         b'L' => matches!(second, b'A' | b'a') && len == 5,
-        b'T' => second == b'e' && len == 3,
-        b'a' => second == b'l' && len == 10,
+        b'a' => match second {
+            b'l' => len == 10,
+            b'p' => matches!(len, 11 | 16),
+            _ => false,
+        },
         b'b' => match second {
             b'f' => len == 8,
             b'm' => len == 4,
@@ -172,7 +188,7 @@ fn is_turning_form(first: u8, second: u8, len: usize) -> bool
         b'c' => match second {
             b'e' => len == 9,
             b'l' => len == 4,
-            b'o' => matches!(len, 5 | 7 | 8 | 16),
+            b'o' => matches!(len, 5 | 7 | 8 | 10 | 11 | 13 | 15 | 16),
             _ => false,
         },
         b'd' => match second {
@@ -183,12 +199,17 @@ fn is_turning_form(first: u8, second: u8, len: usize) -> bool
         b'e' => match second {
             b'm' => len == 2,
             b'n' => len == 10,
-            b'q' => len == 4,
+            b'q' => matches!(len, 4 | 16),
             _ => false,
         },
         b'f' => match second {
             b'b' => len == 4,
             b'o' => len == 12,
+            _ => false,
+        },
+        b'g' => match second {
+            b'd' => len == 4,
+            b'l' => len == 6,
             _ => false,
         },
         b'h' => match second {
@@ -197,20 +218,33 @@ fn is_turning_form(first: u8, second: u8, len: usize) -> bool
             _ => false,
         },
         b'i' => match second {
+            b'd' => len == 8,
             b'f' => len == 3,
             b'm' => matches!(len, 7 | 9),
             b't' => len == 7,
             _ => false,
         },
-        b'k' | b'q' => second == b'e' && len == 3,
         b'l' => match second {
-            b'a' | b'e' => len == 5,
-            b'l' => len == 4,
+            b'a' => len == 5,
+            b'e' => matches!(len, 5 | 8),
+            b'l' | b'o' => len == 4,
+            b'q' => len == 2,
             _ => false,
         },
+        _ => false,
+    }
+}
+
+/// Whether such a name, which begins with m or after it, has these first two bytes and this length.
+#[inline(always)]
+fn turns_from_m(first: u8, second: u8, len: usize) -> bool
+    ensures { result ≡ turns_from_m first second len }
+{
+    match first {
         b'm' => match second {
             b'a' => len == 9,
             b'd' => len == 8,
+            b'i' => len == 15,
             b'o' => len == 3,
             _ => false,
         },
@@ -226,19 +260,21 @@ fn is_turning_form(first: u8, second: u8, len: usize) -> bool
             b'r' => len == 14,
             _ => false,
         },
+        b'q' => second == b'e' && len == 3,
         b'r' => match second {
-            b'a' => len == 8,
+            b'a' | b'm' => len == 8,
             b'e' => matches!(len, 5 | 12),
             b'l' => len == 4,
-            b'm' => len == 8,
+            b'q' => len == 2,
             _ => false,
         },
         b's' => match second {
             b'c' => matches!(len, 7 | 10),
             b'f' => matches!(len, 5 | 8),
-            b'l' => len == 7,
-            b'm' => len == 5,
-            b't' => len == 5,
+            b'h' => matches!(len, 9 | 10),
+            b'i' => matches!(len, 7 | 8 | 13),
+            b'l' => matches!(len, 5 | 7),
+            b'm' | b't' => len == 5,
             _ => false,
         },
         b't' => match second {
@@ -247,8 +283,12 @@ fn is_turning_form(first: u8, second: u8, len: usize) -> bool
             b't' => len == 8,
             _ => false,
         },
-        b'u' => second == b'p' && len == 7,
-        b'v' => second == b'a' && matches!(len, 5 | 6 | 8 | 9 | 10),
+        b'u' => second == b'p' && matches!(len, 6 | 7),
+        b'v' => match second {
+            b'a' => matches!(len, 5 | 6 | 8 | 9 | 10),
+            b'c' => len == 7,
+            _ => false,
+        },
         _ => false,
     }
 }

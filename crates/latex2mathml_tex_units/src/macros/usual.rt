@@ -30,13 +30,20 @@ fn entries() -> &'static [Usual]
 
 /// An entry for each macro, in the order of their names' bytes.
 #[rattlefmt::skip]
-static ENTRIES: [Usual; 87] = [
+static ENTRIES: [Usual; 119] = [
+    Usual { name: "(", arity: 0, body: "$" },
+    Usual { name: ")", arity: 0, body: "$" },
     Usual { name: "*", arity: 0, body: "" },
     Usual { name: "-", arity: 0, body: "" },
     Usual { name: "/", arity: 0, body: "" },
     Usual { name: "Bbbk", arity: 0, body: "\\mathbb{k}" },
     Usual { name: "Bra", arity: 1, body: "\\left\\langle #1\\right|" },
+    Usual { name: "Colonapprox", arity: 0, body: "\\mathrel{::\\approx}" },
+    Usual { name: "Coloneq", arity: 0, body: "\\mathrel{::=}" },
     Usual { name: "Coloneqq", arity: 0, body: "\\mathrel{::=}" },
+    Usual { name: "Colonsim", arity: 0, body: "\\mathrel{::\\sim}" },
+    Usual { name: "Eqcolon", arity: 0, body: "\\mathrel{=::}" },
+    Usual { name: "Eqqcolon", arity: 0, body: "\\mathrel{=::}" },
     Usual { name: "Huge", arity: 0, body: "" },
     Usual { name: "Ket", arity: 1, body: "\\left|#1\\right\\rangle" },
     Usual { name: "LARGE", arity: 0, body: "" },
@@ -44,6 +51,8 @@ static ENTRIES: [Usual; 87] = [
     Usual { name: "Large", arity: 0, body: "" },
     Usual { name: "TeX", arity: 0, body: "\\text{TeX}" },
     Usual { name: "allowbreak", arity: 0, body: "" },
+    Usual { name: "approxcolon", arity: 0, body: "\\mathrel{\\approx:}" },
+    Usual { name: "approxcoloncolon", arity: 0, body: "\\mathrel{\\approx::}" },
     Usual { name: "bfseries", arity: 0, body: "\\bf" },
     Usual { name: "bmod", arity: 0, body: "\\mskip5mu\\mathbin{\\operatorname{mod}}\\mskip5mu" },
     Usual { name: "bra", arity: 1, body: "\\langle #1|" },
@@ -51,22 +60,32 @@ static ENTRIES: [Usual; 87] = [
     Usual { name: "centering", arity: 0, body: "" },
     Usual { name: "clap", arity: 1, body: "\\mathclap{\\text{#1}}" },
     Usual { name: "colon", arity: 0, body: "\\mskip2mu\\mathord{:}\\mskip6mu" },
+    Usual { name: "colonapprox", arity: 0, body: "\\mathrel{:\\approx}" },
+    Usual { name: "coloncolonapprox", arity: 0, body: "\\mathrel{::\\approx}" },
     Usual { name: "coloncolonequals", arity: 0, body: "\\mathrel{::=}" },
+    Usual { name: "coloncolonminus", arity: 0, body: "\\mathrel{::\\relbar}" },
+    Usual { name: "coloncolonsim", arity: 0, body: "\\mathrel{::\\sim}" },
     Usual { name: "coloneq", arity: 0, body: "\\mathrel{:=}" },
     Usual { name: "coloneqq", arity: 0, body: "\\mathrel{:=}" },
+    Usual { name: "colonminus", arity: 0, body: "\\mathrel{:\\relbar}" },
+    Usual { name: "colonsim", arity: 0, body: "\\mathrel{:\\sim}" },
     Usual { name: "colorbox", arity: 2, body: "\\mathcolorbox{#1}{\\text{#2}}" },
     Usual { name: "dotsb", arity: 0, body: "\\cdots" },
     Usual { name: "dotsc", arity: 0, body: "\\ldots" },
     Usual { name: "dotsi", arity: 0, body: "\\cdots" },
     Usual { name: "dotsm", arity: 0, body: "\\cdots" },
     Usual { name: "dotso", arity: 0, body: "\\ldots" },
+    Usual { name: "dotsx", arity: 0, body: "\\ldots\\," },
     Usual { name: "em", arity: 0, body: "\\it" },
     Usual { name: "ensuremath", arity: 1, body: "#1" },
     Usual { name: "eqno", arity: 0, body: "\\qquad\\textstyle" },
+    Usual { name: "equalscoloncolon", arity: 0, body: "\\mathrel{=::}" },
     Usual { name: "fbox", arity: 1, body: "\\boxed{\\text{#1}}" },
     Usual { name: "footnotesize", arity: 0, body: "" },
+    Usual { name: "global", arity: 0, body: "" },
     Usual { name: "hdots", arity: 0, body: "\\ldots" },
     Usual { name: "huge", arity: 0, body: "" },
+    Usual { name: "idotsint", arity: 0, body: "\\int\\cdots\\int" },
     Usual { name: "iff", arity: 0, body: "\\;\\Longleftrightarrow\\;" },
     Usual { name: "impliedby", arity: 0, body: "\\;\\Longleftarrow\\;" },
     Usual { name: "implies", arity: 0, body: "\\;\\Longrightarrow\\;" },
@@ -74,10 +93,14 @@ static ENTRIES: [Usual; 87] = [
     Usual { name: "ket", arity: 1, body: "|#1\\rangle" },
     Usual { name: "label", arity: 1, body: "" },
     Usual { name: "large", arity: 0, body: "" },
+    Usual { name: "leftroot", arity: 1, body: "" },
     Usual { name: "leqno", arity: 0, body: "\\qquad\\textstyle" },
     Usual { name: "llap", arity: 1, body: "\\mathllap{\\text{#1}}" },
+    Usual { name: "long", arity: 0, body: "" },
+    Usual { name: "lq", arity: 0, body: "`" },
     Usual { name: "mathstrut", arity: 0, body: "\\vphantom{(}" },
     Usual { name: "mdseries", arity: 0, body: "" },
+    Usual { name: "minuscoloncolon", arity: 0, body: "\\mathrel{\\relbar::}" },
     Usual { name: "mod", arity: 1, body: "\\mathchoice{\\mkern18mu}{\\mkern12mu}{\\mkern12mu}{\\mkern12mu}\\mathrm{mod}\\,\\,#1" },
     Usual { name: "nobreak", arity: 0, body: "" },
     Usual { name: "nonumber", arity: 0, body: "" },
@@ -92,16 +115,24 @@ static ENTRIES: [Usual; 87] = [
     Usual { name: "relax", arity: 0, body: "" },
     Usual { name: "rlap", arity: 1, body: "\\mathrlap{\\text{#1}}" },
     Usual { name: "rmfamily", arity: 0, body: "\\rm" },
+    Usual { name: "rq", arity: 0, body: "'" },
     Usual { name: "scriptsize", arity: 0, body: "" },
     Usual { name: "scshape", arity: 0, body: "" },
     Usual { name: "sffamily", arity: 0, body: "\\sf" },
     Usual { name: "sfrac", arity: 2, body: "#1/#2" },
+    Usual { name: "shoveleft", arity: 1, body: "#1" },
+    Usual { name: "shoveright", arity: 1, body: "#1" },
+    Usual { name: "sideset", arity: 3, body: "\\mathop{\\vphantom{#3}#1\\!#3\\nolimits#2}" },
+    Usual { name: "simcolon", arity: 0, body: "\\mathrel{\\sim:}" },
+    Usual { name: "simcoloncolon", arity: 0, body: "\\mathrel{\\sim::}" },
+    Usual { name: "slash", arity: 0, body: "/" },
     Usual { name: "slshape", arity: 0, body: "\\it" },
     Usual { name: "small", arity: 0, body: "" },
     Usual { name: "strut", arity: 0, body: "\\vphantom{(}" },
     Usual { name: "tag", arity: 1, body: "\\qquad\\text{(#1)}" },
     Usual { name: "tiny", arity: 0, body: "" },
     Usual { name: "ttfamily", arity: 0, body: "\\tt" },
+    Usual { name: "uproot", arity: 1, body: "" },
     Usual { name: "upshape", arity: 0, body: "" },
     Usual { name: "varDelta", arity: 0, body: "\\mathit{\\Delta}" },
     Usual { name: "varGamma", arity: 0, body: "\\mathit{\\Gamma}" },
@@ -118,6 +149,7 @@ static ENTRIES: [Usual; 87] = [
     Usual { name: "varliminf", arity: 0, body: "\\operatorname*{\\underline{\\mathrm{lim}}}" },
     Usual { name: "varlimsup", arity: 0, body: "\\operatorname*{\\overline{\\mathrm{lim}}}" },
     Usual { name: "varprojlim", arity: 0, body: "\\operatorname*{\\underleftarrow{\\mathrm{lim}}}" },
+    Usual { name: "vcenter", arity: 1, body: "{#1}" },
 ];
 
 /// Returns the entry with this name, if the sorted entries have one. Each comparison halves the entries that are left.
@@ -155,10 +187,7 @@ pub(crate) fn usual_macro<'a>(alloc: Global, name: &str) -> Result<Option<Macro<
         return Ok(None);
     };
     let body = body_of(alloc, entry.arity, entry.body)?;
-    Ok(Some(Macro {
-        arity: entry.arity,
-        body,
-    }))
+    Ok(Some(Macro::new(None, entry.arity, body)))
 }
 
 /// Returns the body with this text, of a macro with `arity` arguments.

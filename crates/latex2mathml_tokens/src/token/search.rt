@@ -2,8 +2,7 @@
 ghost use Rattle.std.specs.Prelude.{◌≡◌, ◌+◌, ◌<◌, ◌≤◌, ◌^◌, map, get_or, length, MatchOption, IsTrue, Some, None};
 ghost use Rattle.std.specs.{List.AllPass, Ordering.nat_cmp, Cmp.Lexicographic.slice_cmp};
 ghost use Rattle.latex2mathml_tokens.specs.Commands.{command_entries, entry_token};
-ghost use Rattle.latex2mathml_tokens.specs.{Entries.entry_of, Lexemes.lexeme_tok, Ordered.ascending};
-ghost use Rattle.latex2mathml_tokens.specs.Keys.{has_key, is_key};
+ghost use Rattle.latex2mathml_tokens.specs.{Entries.ascending, Entries.entry_of, Entries.has_key, Entries.is_key, Lexemes.lexeme_tok};
 
 use crate::lexeme::Lexeme;
 use crate::token::table::{Entry, first, last};

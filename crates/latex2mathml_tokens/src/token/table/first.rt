@@ -1,7 +1,7 @@
 //! The entries of commands up to those that begin with k.
 ghost use Rattle.std.specs.Prelude.{◌≡◌, IsTrue, map};
 ghost use Rattle.std.specs.List.{list_all};
-ghost use Rattle.latex2mathml_tokens.specs.{Entries.entries_up_to_k, Entries.entry_of, Keys.has_key};
+ghost use Rattle.latex2mathml_tokens.specs.Entries.{entries_up_to_k, entry_of, has_key};
 
 use crate::DisplayStyle;
 use crate::attribute::{Accent, Variant};

@@ -12,7 +12,7 @@ returns-clause-print c =
     let k = c.args.place - c.args.start in
     let xs = drop c.args.place (settled_in b) in
     let some : 0 < length xs = omega (arith, length-drop c.args.place (settled_in b), settled_count b.texts b.settled, c.requires.one) in
-    cell_begun (string_bytes c.args.out.now) (cell_tag (column_at columns k)) _ _ _ _ (c.in_ok-start_cell.ensures ∙ ap (λ d. string_bytes c.args.out.now ++ cell_tag d) c.column_at.ensures) c.run.ensures.print (one_cell_written columns k xs some)
+    cell_begun (string_bytes c.args.out.now) (cell_tag (column_at columns k)) _ _ _ _ (c.in_ok-append_tag.ensures ∙ ap (λ d. string_bytes c.args.out.now ++ cell_tag d) c.column_at.ensures) c.run.ensures.print (one_cell_written columns k xs some)
 
 pub returns-clause-weight : goal.returns-clause-weight
 returns-clause-weight c =

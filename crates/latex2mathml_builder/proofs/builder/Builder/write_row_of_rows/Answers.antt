@@ -1,8 +1,8 @@
-use Rattle.std.proofs.Common.{◌+◌, ◌-◌, ◌≤◌, ◌∙◌, ◌++◌, ap, arith, codes, drop, false, if◌then◌else◌, length, refl, string_bytes}
+use Rattle.std.proofs.Common.{◌+◌, ◌-◌, ◌≤◌, ◌∙◌, ◌++◌, ap, arith, codes, drop, if◌then◌else◌, length, refl, string_bytes}
 use Rattle.std.proofs.lemmas.Result.{IfOk-weaker}
-use Rattle.latex2mathml_elements.specs.{Print.row_print, Print.row_tag, RowLines.row_lines, Tables.are_line}
+use Rattle.latex2mathml_elements.specs.{Print.row_print, Print.row_tag, Lines.NoLine, Lines.is_drawn, Lines.row_lines, Tables.last_line}
 use Rattle.latex2mathml_builder.specs.Built.{settled_in}
-use Rattle.latex2mathml_attributes.specs.Columns.{columns_of}
+use Rattle.latex2mathml_attributes.specs.{Columns.columns_of, Lines.line_of}
 use Rattle.latex2mathml_builder.specs.Due.{cell_prints, due, in_cells, row_loads, row_prints, settled_from}
 use Rattle.latex2mathml_builder.proofs.Parts.{settled_count}
 use Rattle.latex2mathml_builder.proofs.Tables.{begun, ended, others_due, row_load_taken, row_taken}
@@ -12,19 +12,19 @@ pub returns-clause-print : goal.returns-clause-print
 returns-clause-print c =
     let b = c.args.self.now in
     let columns = columns_of c.args.columns in
-    let line = c.args.line in
+    let line = line_of c.args.line in
     let first = c.args.first in
     let count = c.args.count in
     let xs = settled_in b in
     let enough : first + count ≤ length xs = omega (arith, settled_count b.texts b.settled, c.requires.all) in
-    let below = are_line (settled_from b (first + 1) (count - 1)) in
+    let below = last_line (settled_from b (first + 1) (count - 1)) in
     let cells = cell_prints columns 0 (in_cells (drop first xs)) in
-    let left = c.rows_left-left.ensures ∙ ap (λ k. if k then 0 else count - 1) c.is_before_last_line-line_below.ensures in
-    let rest = row_prints columns false (settled_from b (first + 1) (if below then 0 else count - 1)) in
+    let left = c.rows_left-left.ensures ∙ ap (λ k. if is_drawn k then 0 else count - 1) c.last_line-below.ensures in
+    let rest = row_prints columns NoLine (settled_from b (first + 1) (if is_drawn below then 0 else count - 1)) in
     let old = due b c.args.works.now.items in
     let out = string_bytes c.args.out.now in
-    let puts = c.in_ok-push_work.ensures.print ∙ ap (λ n. (row_prints columns false (settled_from b (first + 1) n) ++ codes "</mtable>") ++ old) left in
-    let tag = c.in_ok-push_str.ensures.bytes ∙ ap (λ l. out ++ l) (c.row_tag.ensures ∙ ap (λ k. row_tag (row_lines line k)) c.is_before_last_line-line_below.ensures) in
+    let puts = c.in_ok-push_work.ensures.print ∙ ap (λ n. (row_prints columns NoLine (settled_from b (first + 1) n) ++ codes "</mtable>") ++ old) left in
+    let tag = c.in_ok-push_str.ensures.bytes ∙ ap (λ l. out ++ l) (c.row_tag.ensures ∙ ap (λ k. row_tag (row_lines line k)) c.last_line-below.ensures) in
     IfOk-weaker c.write_row.result _ _
     (λ run h. others_due out old (row_print (row_lines line below) cells) (rest ++ codes "</mtable>") _ _ _ (ended _ (row_print (row_lines line below) cells) rest (codes "</mtable>") (row_taken columns xs first count c.requires.some enough line c.requires.row)) puts
     (begun out _ (row_tag (row_lines line below)) (cells ++ codes "</mtr>") (row_print (row_lines line below) cells) _ _ tag h refl))
@@ -38,9 +38,9 @@ returns-clause-weight c =
     let count = c.args.count in
     let xs = settled_in b in
     let enough : first + count ≤ length xs = omega (arith, settled_count b.texts b.settled, c.requires.all) in
-    let left = c.rows_left-left.ensures ∙ ap (λ k. if k then 0 else count - 1) c.is_before_last_line-line_below.ensures in
-    let rest = ap (λ n. row_loads columns false (settled_from b (first + 1) n)) left in
-    let parts = row_load_taken columns xs first count c.requires.some enough c.args.line c.requires.row in
+    let left = c.rows_left-left.ensures ∙ ap (λ k. if is_drawn k then 0 else count - 1) c.last_line-below.ensures in
+    let rest = ap (λ n. row_loads columns NoLine (settled_from b (first + 1) n)) left in
+    let parts = row_load_taken columns xs first count c.requires.some enough (line_of c.args.line) c.requires.row in
     IfOk-weaker c.write_row.result _ _
     (λ run h. omega (arith, h, parts, rest, c.in_ok-push_work.ensures.weight))
     c.write_row.ensures.weight

@@ -1,6 +1,6 @@
-use Rattle.std.proofs.Common.{codes, option_map, refl, ◌+◌, ◌<◌, ◌≤◌, ◌∙◌, ◌++◌, ap, arith, length, string_bytes, subst}
+use Rattle.std.proofs.Common.{◌||◌, codes, option_map, refl, ◌+◌, ◌<◌, ◌≤◌, ◌∙◌, ◌++◌, ap, arith, length, string_bytes, subst}
 use Rattle.std.proofs.lemmas.Result.{IfOk-weaker}
-use Rattle.latex2mathml_elements.specs.Attributes.{styled}
+use Rattle.latex2mathml_elements.specs.{Attributes.styled, Columns.are_lined}
 use Rattle.latex2mathml_elements.specs.Element.{children}
 use Rattle.latex2mathml_elements.specs.Print.{container_name, pair_name, print, prints, start_tag, table_attributes, triple_name}
 use Rattle.latex2mathml_attributes.specs.Arounds.{around_attributes, around_name}
@@ -81,9 +81,9 @@ returns-in_ok-start_table-in-Table-clause-print c =
     let enough : found.first + found.count ≤ length (settled_in b) = omega (arith, settled_count b.texts b.settled, fits.1) in
     let some : 0 < length xs = omega (arith, taken_length (settled_in b) found.first found.count enough, fits.0) in
     let whole = ap (λ p. print (element_of b.texts (settled_in b) p)) found.is ∙ table_written a columns xs some in
-    let begins = c.in_ok-start_table-in-Table.ensures ∙ ap (λ k. string_bytes c.args.out.now ++ start_tag (codes "mtable") (table_attributes k a)) c.has_line.ensures in
+    let begins = c.in_ok-start_table-in-Table.ensures ∙ ap (λ k. string_bytes c.args.out.now ++ start_tag (codes "mtable") (table_attributes k a)) c.is_lined.ensures in
     IfOk-weaker c.write_rows.result _ _
-    (λ run h. begun (string_bytes c.args.out.now) (due b c.args.works.now.items) (start_tag (codes "mtable") (table_attributes (has_line xs) a)) _ _ _ _ begins h whole)
+    (λ run h. begun (string_bytes c.args.out.now) (due b c.args.works.now.items) (start_tag (codes "mtable") (table_attributes (are_lined columns || has_line xs) a)) _ _ _ _ begins h whole)
     c.write_rows.ensures.print
 
 pub returns-in_ok-start_table-in-Table-clause-weight :

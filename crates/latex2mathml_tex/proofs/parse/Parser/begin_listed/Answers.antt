@@ -31,7 +31,7 @@ returns-in_default-listed-clause-holds c = λ s g.
     let rule : List ℕ → Rule = λ signs. listed_rule place (context_of c.args.context) e.name.now (environment_of e) signs in
     let many = ap (λ k. nat_le (length (grammar.columns_of k)) most_columns) (sym c.as_str.ensures.value) ∙ c.in_default-listed.ensures in
     let r = refusal_at TooManyColumns place in
-    let k = subst (λ b. RuleLeads (if b then rows_rule place (context_of c.args.context) e.name.now (environment_of e) (Listed (grammar.columns_of signs)) else refuses r) (CoreMade (level 0 s p)) (left_of q)) many (found rule took.1 g.leads) in
+    let k = subst (λ b. RuleLeads (if b then rows_rule place (context_of c.args.context) e.name.now (environment_of e) (Listed (grammar.line_at signs) (grammar.columns_of signs)) else refuses r) (CoreMade (level 0 s p)) (left_of q)) many (found rule took.1 g.leads) in
     refused_behind p q place (BeforeArgument ColumnList) signs took c.refuse.new.self c.refuse.result _ c.refuse.ensures.parser c.refuse.ensures.state s 0 r refl g.style (core_refuses r (level 0 s p) (refused k))
 
 pub returns-in_default-listed-clause-step : goal.returns-in_default-listed-clause-step
@@ -51,9 +51,9 @@ returns-clause-holds c = λ s g.
     let took = took_some string_bytes place (BeforeArgument ColumnList) p q _ c.in-Some.signs c.in-Some.is c.in_ok-signs.ensures in
     let rule : List ℕ → Rule = λ signs. listed_rule place (context_of c.args.context) e.name.now (environment_of e) signs in
     let few = ap (λ k. nat_le (length (grammar.columns_of k)) most_columns) (sym c.as_str.ensures.value) ∙ c.in-Some-listed.ensures.0 in
-    let own : columns_of c.in-Some-listed.columns ≡ Listed (grammar.columns_of signs) = c.in-Some-listed.ensures.1 ∙ ap (λ k. Listed (grammar.columns_of k)) c.as_str.ensures.value in
+    let own : columns_of c.in-Some-listed.columns ≡ Listed (grammar.line_at signs) (grammar.columns_of signs) = c.in-Some-listed.ensures.1 ∙ ap (λ k. Listed (grammar.line_at k) (grammar.columns_of k)) c.as_str.ensures.value in
     let begins = text_taken p q place (BeforeArgument ColumnList) signs took s c.args.context rule g in
-    let rows = subst (λ b. BeginsIn c.args.context (if b then rows_rule place (context_of c.args.context) e.name.now (environment_of e) (Listed (grammar.columns_of signs)) else refuses (refusal_at TooManyColumns place)) 0 s q) few begins in
+    let rows = subst (λ b. BeginsIn c.args.context (if b then rows_rule place (context_of c.args.context) e.name.now (environment_of e) (Listed (grammar.line_at signs) (grammar.columns_of signs)) else refuses (refusal_at TooManyColumns place)) 0 s q) few begins in
     c.begin_rows.ensures.holds s (subst (λ k. BeginsIn c.args.context (rows_rule place (context_of c.args.context) e.name.now (environment_of e) k) 0 s q) (sym own) rows)
 
 pub returns-clause-step : goal.returns-clause-step

@@ -1,4 +1,5 @@
 use Rattle.std.proofs.Common.{ℕ, ◌+◌, ap, arith, drop, length, refl, sym, ◌∙◌}
+use Rattle.latex2mathml_attributes.specs.Lines.{line_of}
 use Rattle.latex2mathml_tex_grammar.specs.RowLines.{lined}
 use Rattle.latex2mathml_tex.specs.declared.parse.frames.Table.{Table}
 use Rattle.std.proofs.lemmas.List.{length-drop}
@@ -7,16 +8,16 @@ use Rattle.latex2mathml_tex.specs.Tables.{cell_end_of}
 use Rattle.latex2mathml_tex.proofs.{Closing.closed_can, Rows.step_within, TableRules.broken_step, Tabled.cell_ends, Tabled.cell_parted, Tabled.row_broken}
 use Rattle.latex2mathml_tex.proofs.parse.Parser.close_cell.Goals as goal
 
-pub returns-in_ok-put_row-in-PartsCells-clause-holds : goal.returns-in_ok-put_row-in-PartsCells-clause-holds
-returns-in_ok-put_row-in-PartsCells-clause-holds c = λ s g.
+pub returns-in_ok-put_braced-in-PartsCells-clause-holds : goal.returns-in_ok-put_braced-in-PartsCells-clause-holds
+returns-in_ok-put_braced-in-PartsCells-clause-holds c = λ s g.
     let ends = sym (ap cell_end_of c.in-PartsCells.is) ∙ c.cell_end.ensures in
-    c.begin_cell.ensures.holds s (cell_parted s c.args.self.now c.args.table c.args.place c.args.row c.args.unit g c.put_row.new.builder _ refl c.in_ok-put_row-in-PartsCells.ensures ends)
+    c.begin_cell.ensures.holds s (cell_parted s c.args.self.now c.args.table c.args.place c.args.row c.args.unit g c.put_braced.new.builder _ refl c.in_ok-put_braced-in-PartsCells.ensures ends)
 
 pub returns-in_ok-lines-in-EndsRow-clause-holds : goal.returns-in_ok-lines-in-EndsRow-clause-holds
 returns-in_ok-lines-in-EndsRow-clause-holds c = λ s g.
     let t = c.args.table in
     let ends = sym (ap cell_end_of c.in-EndsRow.is) ∙ c.cell_end.ensures in
-    let line = c.in_ok-line-in-EndsRow.line in
+    let line = line_of c.in_ok-line-in-EndsRow.line in
     let table : ℕ → Table = λ n. record t { rows = t.rows + 1 + n; cells = 0 } in
     let puts = c.in_ok-lines-in-EndsRow.ensures.elements ∙ ap (lined line) c.in_ok-put_last-in-EndsRow.ensures in
     c.begin_cell-in-EndsRow.ensures.holds s (row_broken s c.args.self.now t c.args.place c.args.row c.args.unit g c.put_line.new.builder c.pass_break.new.self _ line (ap table c.in_ok-lines-in-EndsRow.ensures.count) puts c.in_ok-line-in-EndsRow.ensures.line c.in_ok-line-in-EndsRow.ensures.units ends)
@@ -37,13 +38,13 @@ returns-in-EndsTable-clause-step c =
 pub begin_cell-requires : goal.begin_cell-requires
 begin_cell-requires c =
     let t = c.args.table in
-    let can = closed_can c.args.self.now c.put_row.new.builder c.args.row c.in_ok-put_row-in-PartsCells.ensures core_made (t.cells + t.rows) c.requires.can in
+    let can = closed_can c.args.self.now c.put_braced.new.builder c.args.row c.in_ok-put_braced-in-PartsCells.ensures core_made (t.cells + t.rows) c.requires.can in
     record { can = record { elements = omega (arith, can.elements); awaits = record { accepted = can.awaits.accepted; nested = can.awaits.nested } } }
 
-pub returns-in_ok-put_row-in-PartsCells-clause-step : goal.returns-in_ok-put_row-in-PartsCells-clause-step
-returns-in_ok-put_row-in-PartsCells-clause-step c =
+pub returns-in_ok-put_braced-in-PartsCells-clause-step : goal.returns-in_ok-put_braced-in-PartsCells-clause-step
+returns-in_ok-put_braced-in-PartsCells-clause-step c =
     let p = c.args.self.now in
-    step_within p (record p { builder = c.put_row.new.builder }) c.begin_cell.new.self c.begin_cell.new.next c.begin_cell.result 6 13 (omega arith) c.begin_cell.ensures.step
+    step_within p (record p { builder = c.put_braced.new.builder }) c.begin_cell.new.self c.begin_cell.new.next c.begin_cell.result 6 13 (omega arith) c.begin_cell.ensures.step
 
 pub begin_cell-requires-in-EndsRow : goal.begin_cell-requires-in-EndsRow
 begin_cell-requires-in-EndsRow c =

@@ -7,11 +7,11 @@ use Rattle.latex2mathml_tex.proofs.parse.Parser.end_cells.Goals as goal
 pub returns-then-is_no_row-clause-holds : goal.returns-then-is_no_row-clause-holds
 returns-then-is_no_row-clause-holds c = λ s g.
     let none = c.if-is_no_row.ensures in
-    c.end_table.ensures.holds s (row_is_none s c.args.self.now c.args.table c.args.count c.args.at g none.0 none.1 none.2 (omega (arith, c.requires.can.elements)))
+    c.end_table.ensures.holds s (row_is_none s c.args.self.now c.args.table c.args.count c.args.last c.args.at g none.0 none.1 none.2 (omega (arith, c.requires.can.elements)))
 
 pub returns-clause-holds : goal.returns-clause-holds
 returns-clause-holds c = λ s g.
-    c.end_table-2.ensures.holds s (row_is_last s c.args.self.now c.args.table c.args.count c.args.at g c.put_last.new.builder _ refl c.if-is_no_row.ensures (omega (arith, c.requires.can.elements)) c.in_ok-put_last.ensures)
+    c.end_table-2.ensures.holds s (row_is_last s c.args.self.now c.args.table c.args.count c.args.last c.args.at g c.put_last.new.builder _ refl c.if-is_no_row.ensures (omega (arith, c.requires.can.elements)) c.in_ok-put_last.ensures)
 
 pub end_table-requires-2-clause-can : goal.end_table-requires-2-clause-can
 end_table-requires-2-clause-can c =

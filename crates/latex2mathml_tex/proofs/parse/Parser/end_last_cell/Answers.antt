@@ -19,4 +19,4 @@ returns-clause-holds c = λ s g.
     let row = c.in_ok-row.row in
     let whole = c.in_ok-row.ensures in
     let made = made_finished s p b c.args.style c.args.row row whole.row whole.below (ending.Cell c.args.table) c.args.place (End c.args.at) g.leads in
-    c.end_cells.ensures.holds s (text_ends_cell s (record p { builder = b }) c.args.table c.args.place c.args.at row.count (row_with row (elements_in b)) g.same_style g.left refl made)
+    c.end_cells.ensures.holds s (text_ends_cell s (record p { builder = b }) c.args.table c.args.place c.args.at row.count row.last (row_with row (elements_in b)) g.same_style g.left refl made)

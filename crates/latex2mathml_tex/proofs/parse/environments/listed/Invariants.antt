@@ -5,7 +5,7 @@ use Rattle.latex2mathml_tex_units.proofs.Listings.{AreListed}
 use Rattle.latex2mathml_tex.proofs.parse.environments.listed.Given as goal
 
 abbrev pub invariant-signs : goal.invariant-signs
-invariant-signs l = AreListed (columns_of l.columns) l.line_before l.rest l.signs
+invariant-signs l = AreListed (columns_of l.columns) l.rest l.signs
 
 abbrev pub decreases-signs : goal.decreases-signs
 decreases-signs l = length l.rest

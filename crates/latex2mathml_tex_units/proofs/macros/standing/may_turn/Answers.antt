@@ -8,5 +8,8 @@ returns-in-empty-clause-usual c = λ none. no_usual c.args.name.now (turns_none 
 pub returns-in_default-clause-usual : goal.returns-in_default-clause-usual
 returns-in_default-clause-usual c = λ none. no_usual c.args.name.now (turns_one c.args.name.now _ c.as_bytes.ensures.value c.in-len1.len_at_least c.in-len1.len_below ∙ search rules)
 
+pub returns-in_default-2-clause-usual : goal.returns-in_default-2-clause-usual
+returns-in_default-2-clause-usual c = λ none. no_usual c.args.name.now (turns_one c.args.name.now _ c.as_bytes.ensures.value c.in-len1.len_at_least c.in-len1.len_below ∙ search rules)
+
 pub returns-in-len2-up-clause-usual : goal.returns-in-len2-up-clause-usual
 returns-in-len2-up-clause-usual c = λ none. no_usual c.args.name.now (turns_more c.args.name.now _ c.as_bytes.ensures.value c.in-len2-up.len_at_least ∙ sym c.is_turning_form.ensures ∙ none)

@@ -14,4 +14,4 @@ pub returns-in_default : goal.returns-in_default
 returns-in_default c = c.in_default.ensures ∙ usual_is _ c.args.name.now c.entries.ensures
 
 pub returns : goal.returns
-returns c = ap (λ parts. Some (macro c.in-Some.entry.arity parts)) c.in_ok-body.ensures ∙ c.in-Some.ensures ∙ usual_is _ c.args.name.now c.entries.ensures
+returns c = ap Some c.new.ensures ∙ ap (λ parts. Some (macro c.in-Some.entry.arity parts)) c.in_ok-body.ensures ∙ c.in-Some.ensures ∙ usual_is _ c.args.name.now c.entries.ensures

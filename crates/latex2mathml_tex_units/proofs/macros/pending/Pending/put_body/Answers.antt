@@ -1,5 +1,5 @@
 use Rattle.std.proofs.Common.{◌≡◌, ◌+◌, ◌-◌, ◌<◌, length, map, arith}
-use Rattle.latex2mathml_tex_units.specs.Pending.{pending_units, units_in}
+use Rattle.latex2mathml_tex_units.specs.{Pending.pending_units, Putting.arguments_at}
 use Rattle.latex2mathml_tex_units.proofs.PuttingBodies.{no_room, part_put}
 use Rattle.latex2mathml_tex_units.proofs.macros.pending.Pending.put_body.Goals as goal
 
@@ -7,7 +7,7 @@ pub returns-then-not-branch : goal.returns-then-not-branch
 returns-then-not-branch c =
     let next : c.parts.left ≡ c.parts.left - 1 + 1 = omega (arith, c.parts-test.true) in
     let within : c.parts.left - 1 < length c.args.body.now = omega (arith, next, c.parts.invariant.within) in
-    no_room (map units_in c.args.arguments.now) c.args.place c.args.body.now (c.parts.left - 1) c.parts.left _ _ c.parts.room c.put_part.new.room (pending_units c.args.self.now) (pending_units c.parts.self) (pending_units c.put_part.new.self) c.parts.invariant.put next within (rw c.if-not-branch.true at c.in_ok-put_part.ensures)
+    no_room (arguments_at c.args.place c.args.arguments.now) c.args.place c.args.body.now (c.parts.left - 1) c.parts.left _ _ c.parts.room c.put_part.new.room (pending_units c.args.self.now) (pending_units c.parts.self) (pending_units c.put_part.new.self) c.parts.invariant.put next within (rw c.if-not-branch.true at c.in_ok-put_part.ensures)
 
 pub parts-preserved : goal.parts-preserved
 parts-preserved c =
@@ -15,5 +15,5 @@ parts-preserved c =
     let within : c.parts.left - 1 < length c.args.body.now = omega (arith, next, c.parts.invariant.within) in
     record {
       within = omega (arith, within);
-      put = part_put (map units_in c.args.arguments.now) c.args.place c.args.body.now (c.parts.left - 1) c.parts.left _ c.args.room.now c.parts.room c.put_part.new.room (pending_units c.args.self.now) (pending_units c.parts.self) (pending_units c.put_part.new.self) c.parts.invariant.put next within (rw c.if-not-branch.false at c.in_ok-put_part.ensures);
+      put = part_put (arguments_at c.args.place c.args.arguments.now) c.args.place c.args.body.now (c.parts.left - 1) c.parts.left _ c.args.room.now c.parts.room c.put_part.new.room (pending_units c.args.self.now) (pending_units c.parts.self) (pending_units c.put_part.new.self) c.parts.invariant.put next within (rw c.if-not-branch.false at c.in_ok-put_part.ensures);
     }

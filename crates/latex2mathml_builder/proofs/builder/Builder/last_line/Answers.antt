@@ -1,7 +1,7 @@
 use Rattle.std.proofs.Common.{◌≡◌, ◌+◌, ◌-◌, arith, drop, false, length-drop, nat_eq}
 use Rattle.latex2mathml_builder.specs.Built.{settled_in}
 use Rattle.latex2mathml_builder.proofs.{Parts.settled_count, Tables.not_one_line}
-use Rattle.latex2mathml_builder.proofs.builder.Builder.is_before_last_line.Goals as goal
+use Rattle.latex2mathml_builder.proofs.builder.Builder.last_line.Goals as goal
 
 pub returns-else-count-eq2 : goal.returns-else-count-eq2
 returns-else-count-eq2 c =
