@@ -14,7 +14,7 @@ PAGE = ROOT / "docs/COMMANDS.md"
 DRAWN = {
     **dict.fromkeys(("Letters", "Signs", "Big operators", "Functions", "Characters"), ("{0}", "{1}")),
     "Marks, braces and stacks": ("{0}{{x}}", "x{1}"), "Delimiters": (r"\left{0} x\right{0}", "{1}x{1}"), "Strokes": (r"\not{0}", "{1}"),
-    "Words": (r"\text{{{0}}}", "{1}"), "Tables": (r"\begin{{matrix}}{0} a\end{{matrix}}", "a"),
+    "Words": (r"\text{{{0}}}", "{1}"), "Accents in words": (r"\text{{{0}{{x}}}}", "x{1}"), "Tables": (r"\begin{{matrix}}{0} a\end{{matrix}}", "a"),
 }
 BEHIND = re.compile(r"`(\[.\]|\{\w+\})`")  # what the page says to follow the name of an environment
 BELOW = "{1}x"  # an arrow is before what is above it

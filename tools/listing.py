@@ -12,7 +12,9 @@ def order(name):
 
 def code(text):
     """A text as code. A space is the only thing in it, so it is kept."""
-    return "a backquote" if text == "`" else f"`{text}`"
+    if text == "`":
+        return "a backquote"
+    return f"`` {text} ``" if "`" in text else f"`{text}`"
 
 
 def drawn(text):

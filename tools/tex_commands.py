@@ -51,6 +51,7 @@ def forms():
     yield from ((f"\\{value(name)}", meaning) for name, meaning in commands())
     yield from ((value(character), f"Character({symbol})") for character, symbol in characters())
     for kind, path, name in (("TextCommand", f"{COMMANDS}/text_commands.rt", "TEXT_COMMANDS"),
+                             ("TextAccent", f"{COMMANDS}/text_commands.rt", "TEXT_ACCENTS"),
                              ("Delimiter", f"{UNITS}/delimiters.rt", "DELIMITERS"), ("Negated", f"{UNITS}/delimiters.rt", "NEGATED")):
         yield from ((f"\\{value(name)}", f"{kind}({character})") for name, character in entries(path, name, "name", "character"))
     for kind, name in (("Delimiter", "delimiter_character"), ("Negated", "negated_character")):

@@ -1,5 +1,5 @@
 -- What holds of the parser where a row ends whose elements are put as one.
-use Rattle.std.proofs.Common.{◌≡◌, ◌∙◌, ℕ, ◌+◌, false, ◌∷◌, drop, take, ap, arith}
+use Rattle.std.proofs.Common.{◌≡◌, ◌∙◌, ℕ, ◌+◌, false, ◌∷◌, drop, take, None, ap, arith}
 use Rattle.std.proofs.lemmas.List.{drop-drop, length-drop}
 use Rattle.latex2mathml_elements.specs.Element.{Element}
 use Rattle.latex2mathml_builder.specs.Built.{Built, elements_in}
@@ -18,7 +18,8 @@ use Rattle.latex2mathml_tex.specs.declared.parse.frames.Ending.TheVariants as en
 use Rattle.latex2mathml_tex.specs.declared.parse.frames.Frame.TheVariants as frame
 use Rattle.latex2mathml_tex.specs.declared.parse.frames.Last.TheVariants as last
 use Rattle.latex2mathml_tex.proofs.Leading.{given, operand_due}
-use Rattle.latex2mathml_tex.proofs.{Opening.context_is, Wording.drop_more, Wording.take_more}
+use Rattle.latex2mathml_tex_atoms.proofs.Wording.{drop_more, take_more}
+use Rattle.latex2mathml_tex.proofs.Opening.{context_is}
 
 -- the elements of the row are one element
 abbrev pub IsOne : CodeRow → Parser → Built → Type 0
@@ -38,7 +39,7 @@ module _ (p : Parser) (b : Built) (row : CodeRow) {x : Element} (one : elements_
   pub operand_closed_step : (o : CodeOperand) → CanMake operand_made (row.count + 0) p → Follows (to_do p + 13) (record p { builder = b }) (state.Operand o)
   operand_closed_step o can = let made = closed_can operand_made 0 can in record { ready = record { elements = made.elements; may_come = made.awaits }; falls = omega arith }
 
-  pub words_closed_step : (n : ℕ) → CanMake words_made (row.count + n) p → Follows (to_do p + 13) (record p { builder = b }) (state.Words (record { count = n + 1; ends_in_text = false }))
+  pub words_closed_step : (n : ℕ) → CanMake words_made (row.count + n) p → Follows (to_do p + 13) (record p { builder = b }) (state.Words (record { count = n + 1; ends_in_text = false; accent = None }))
   words_closed_step n can = let made = closed_can words_made n can in record { ready = record { elements = made.elements; may_come = made.awaits }; falls = omega arith }
 
 module _ (s : Start) (p : Parser) (b : Built) (place : ℕ) (row : CodeRow) where
@@ -52,12 +53,12 @@ module _ (s : Start) (p : Parser) (b : Built) (place : ℕ) (row : CodeRow) wher
   pub group_closed : elements_in b ≡ group ∷ drop row.count (elements_of p) → (c : CodeCore) → ((x : Element) → core_with c x ≡ core (atom (Plain Ordinary) row.high x)) → ClosesRow ending.Group place row s p → Holds s (record p { builder = b }) (state.Core c)
   group_closed one c is g = record { style = g.style; claims = rw (one, is group) (rw none_beside at (given g.leads)) }
 
-  pub formula_closed : elements_in b ≡ group ∷ drop row.count (elements_of p) → (ws : CodeWords) → ClosesRow (ending.Formula ws) place row s p → Holds s (record p { builder = b }) (state.Words (record { count = ws.count + 1; ends_in_text = false }))
-  formula_closed one ws g =
+  pub formula_closed : elements_in b ≡ group ∷ drop row.count (elements_of p) → (n : ℕ) → ClosesRow (ending.Formula n) place row s p → Holds s (record p { builder = b }) (state.Words (record { count = n + 1; ends_in_text = false; accent = None }))
+  formula_closed one n g =
       let behind = drop row.count (elements_of p) in
-      let first : take (ws.count + 1) (elements_in b) ≡ group ∷ take ws.count behind = ap (take (ws.count + 1)) one ∙ take_more ws.count group behind in
-      let others : drop (ws.count + 1) (elements_in b) ≡ drop (row.count + ws.count) (elements_of p) =
-      ap (drop (ws.count + 1)) one ∙ drop_more ws.count group behind ∙ drop-drop ws.count row.count (elements_of p) in
+      let first : take (n + 1) (elements_in b) ≡ group ∷ take n behind = ap (take (n + 1)) one ∙ take_more n group behind in
+      let others : drop (n + 1) (elements_in b) ≡ drop (row.count + n) (elements_of p) =
+      ap (drop (n + 1)) one ∙ drop_more n group behind ∙ drop-drop n row.count (elements_of p) in
       record { style = g.style; claims = rw (first, others) g.leads }
 
 module _ (s : Start) (p : Parser) (b : Built) (place : ℕ) (row : CodeRow) (one : IsOne row p b) where

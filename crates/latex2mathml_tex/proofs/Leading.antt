@@ -17,7 +17,7 @@ use Rattle.latex2mathml_tex_grammar.specs.Tables.{Lines}
 use Rattle.latex2mathml_tex.specs.Tables.{RowsLead}
 use Rattle.latex2mathml_tex_grammar.specs.Symbols.{InText, InScript, Alphabet}
 use Rattle.latex2mathml_tex_grammar.specs.Units.{Piece, Unit, Units, Next, End, Stop}
-use Rattle.latex2mathml_tex_grammar.specs.Words.{Word, Words, no_words, with_word, IsWord, BeginsGroup, EndsGroup, BeginsFormula, TakesWords, NoWord, word_rule}
+use Rattle.latex2mathml_tex_grammar.specs.Words.{Word, Words, no_words, with_accent_ended, with_word, IsWord, BeginsGroup, EndsGroup, BeginsFormula, TakesWords, NoWord, word_rule}
 use Rattle.latex2mathml_tex.specs.Levels.{AtomMade, CoreMade, FollowsChange, Leads, Level, PartMade, RestLeads, RuleLeads, ScriptsLead, Then, WordLeads, as_operand, as_words, row, operand, part, words}
 use Rattle.latex2mathml_tex.specs.Levels.{core as core_level}
 
@@ -199,7 +199,7 @@ module _ (level : Level) {place : ℕ} {a : Option Alphabet} {ws : Words} {l : U
   pub group_of_words_due : word_rule a u.piece ≡ BeginsGroup → WordLeads level place a ws (Next u l) → PartMade (words u.place a (PartMade level)) (Read ws l)
   group_of_words_due e k = λ o d. k o (group_of_words e d)
 
-  pub formula_due : word_rule a u.piece ≡ BeginsFormula → WordLeads level place a ws (Next u l) → Leads (row (InDollars u.place) (in_context InText None) (begun (InDollars u.place)) (λ o. PartMade level (as_words ws o))) l
+  pub formula_due : word_rule a u.piece ≡ BeginsFormula → WordLeads level place a ws (Next u l) → Leads (row (InDollars u.place) (in_context InText None) (begun (InDollars u.place)) (λ o. PartMade level (as_words (with_accent_ended ws).elements o))) l
   formula_due e k (Read xs m) d = k _ (formula_read e d)
   formula_due e k (Refused r) d = k _ (formula_refused e d)
 
@@ -219,7 +219,7 @@ pub word_halted : (level : Level) {place : ℕ} {a : Option Alphabet} {ws : Word
 word_halted level k = k _ word_stopped
 
 module _ {place : ℕ} {a : Option Alphabet} {K : Outcome Words → Type 0} {ws : Words} where
-  pub words_ended : {u : Unit} {l : Units} → IsTrue (is_close u.piece) → PartMade (words place a K) (Read ws (Next u l)) → K (Read ws l)
+  pub words_ended : {u : Unit} {l : Units} → IsTrue (is_close u.piece) → PartMade (words place a K) (Read ws (Next u l)) → K (Read (with_accent_ended ws) l)
   words_ended e k = k _ (words_end e)
 
   pub words_unended : {at : ℕ} → PartMade (words place a K) (Read ws (End at)) → K (Refused (refusal_at UnclosedBrace place))

@@ -68,7 +68,7 @@ module _ (r : Refusal) where
     row_refuses ending.Degree place xs k = on (core_refuses l k)
     row_refuses ending.BelowArrow place xs k = on (core_refuses l k)
     row_refuses (ending.Delimiters opening) place xs k = on (core_refuses l k)
-    row_refuses (ending.Formula ws) place xs k = on (part_refuses l k)
+    row_refuses (ending.Formula n) place xs k = on (part_refuses l k)
     row_refuses (ending.Cell t) place xs k = on (core_refuses l k)
 
     frame_refuses : (f : Frame) (xs : List Element) → Refuses (enter s f xs l) r → Whole s (Refused r)

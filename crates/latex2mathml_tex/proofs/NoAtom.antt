@@ -57,7 +57,7 @@ is_left ending.Operand place u l m next = refl
 is_left ending.Degree place u l m next = refl
 is_left ending.BelowArrow place u l m next = refl
 is_left (ending.Delimiters opening) place u l m next = refl
-is_left (ending.Formula ws) place u l m next = refl
+is_left (ending.Formula n) place u l m next = refl
 
 module _ (p : Parser) (e : Ending) (place : ℕ) (row : CodeRow) (c : Context) (others : List Frame) (inner : IsInnermost p.style p.frames.stack.items (frame.Row e place c row) others) where
   module _ (s : Start) (h : Holds s p state.Next) where

@@ -30,7 +30,8 @@ use Rattle.latex2mathml_tex.specs.declared.parse.frames.{Frame.Frame, Table.Tabl
 use Rattle.latex2mathml_attributes.specs.declared.columns.Columns.{Columns as CodeColumns}
 use Rattle.latex2mathml_tex.specs.declared.parse.frames.Ending.TheVariants as ending
 use Rattle.latex2mathml_tex.specs.declared.parse.frames.Frame.TheVariants as frame
-use Rattle.latex2mathml_tex.proofs.{Opening.context_is, Wording.drop_more, Wording.take_more}
+use Rattle.latex2mathml_tex_atoms.proofs.Wording.{drop_more, take_more}
+use Rattle.latex2mathml_tex.proofs.Opening.{context_is}
 
 -- A cell is due
 

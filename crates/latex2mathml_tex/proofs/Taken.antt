@@ -1,10 +1,14 @@
 -- What holds of the parser where its innermost frame is taken off, and where a frame is pushed.
 use Rattle.std.specs.Prelude.{⊤}
-use Rattle.std.proofs.Common.{◌≡◌, ◌∙◌, ◌+◌, ◌<◌, ◌≤◌, ◌&&◌, ◌++◌, ℕ, Bool, IsTrue, List, Option, Result, [], ◌∷◌, ap, arith, drop, false, refl, reverse, subst, sum_by, sym, true}
+use Rattle.std.proofs.Common.{◌≡◌, ◌∙◌, ◌+◌, ◌<◌, ◌≤◌, ◌&&◌, ◌++◌, ℕ, Bool, IsTrue, List, Option, Result, [], ◌∷◌, ap, arith, drop, false, refl, reverse, subst, sum_by, sym, take, true}
 use Rattle.std.proofs.lemmas.{Bool.and_parts, List.reverse-append, List.Sums.sum_by_push}
 use Rattle.std.specs.declared.alloc.AllocError.{AllocError}
-use Rattle.latex2mathml_tex_grammar.specs.{Makes.core, Makes.struck, Reading.Read, Rules.gives, Rules.struck_atom, Words.words_atom}
+use Rattle.latex2mathml_tex_grammar.specs.{Makes.core, Makes.struck, Reading.Read, Rules.gives, Rules.struck_atom}
 use Rattle.latex2mathml_tex_units.specs.Left.{unit_count, units_at}
+use Rattle.latex2mathml_builder.specs.Built.{Built, elements_in}
+use Rattle.latex2mathml_tex_grammar.specs.Words as words
+use Rattle.latex2mathml_tex_grammar.specs.Words.{text_atom, with_accent_ended}
+use Rattle.latex2mathml_tex_atoms.specs.Wording.{Replaced}
 use Rattle.latex2mathml_tex_atoms.specs.Models.{core_with, top, words_with}
 use Rattle.latex2mathml_tex.specs.{Frames.Start, Frames.element_count, Innermost.IsInnermost, Innermost.none_begun, Innermost.on_top}
 use Rattle.latex2mathml_tex.specs.Levels.{CoreMade, PartMade}
@@ -45,22 +49,14 @@ module _ (p : Parser) (fr : Frames) (f : Frame) (inner : IsInnermost p.style p.f
       step_within p (record p { frames = fr }) new st answer n m (omega (arith, brought, less)) step
 
   -- in a text, the words are those of its command
-  pub text_taken : (s : Start) (ws : Words) → f ≡ frame.Text → Holds s p (state.Words ws) → Begins (gives (core (words_atom (words_with ws (elements_of p))))) ws.count s (record p { frames = fr })
-  text_taken s ws is h =
+  pub text_taken : (s : Start) (b : Built) (ws after : Words) → f ≡ frame.Text → Replaced with_accent_ended ws (elements_of p) after (elements_in b) → Holds s p (state.Words ws)
+      → Begins (gives (core (text_atom (take after.count (elements_in b))))) after.count s (record p { frames = fr; builder = b })
+  text_taken s b ws after is ended h =
       let within = subst (λ f. IsInnermost p.style p.frames.stack.items f fr.stack.items) is inner in
+      let elements : take after.count (elements_in b) ≡ (with_accent_ended (words_with ws (elements_of p))).elements = ap (λ (w : words.Words). w.elements) ended.words in
       record {
         style = h.style;
-        leads = into_frame (λ l. PartMade l (Read (words_with ws (elements_of p)) (left_of p))) s p.style h.style p.frames.stack.items fr.stack.items frame.Text (drop ws.count (elements_of p)) within h.claims;
-      }
-
-  -- behind braces in a text, less is left to do
-  pub braces_step : (i : Input) (place : ℕ) (a : Option Alphabet) (ws : Words) → f ≡ frame.Words place a → Ready p (state.Words ws) → unit_count (units_at i) < unit_count (left_of p) → Follows (to_do p + 2) (record p { input = i; frames = fr }) (state.Words ws)
-  braces_step i place a ws is ready less =
-      let can = taken_can ws.count (ws.count + element_count f) ready.elements ready.may_come.nested refl in
-      let brought = weighed p.style p.frames.stack.items fr.stack.items f inner in
-      record {
-        ready = record { elements = omega (arith, can.elements); may_come = record { accepted = rw is at can.awaits.accepted; nested = can.awaits.nested } };
-        falls = omega (arith, brought, less);
+        leads = rw (elements, ended.below) (into_frame (λ l. PartMade l (Read (words_with ws (elements_of p)) (left_of p))) s p.style h.style p.frames.stack.items fr.stack.items frame.Text (drop ws.count (elements_of p)) within h.claims);
       }
 
   -- what is to be negated is struck through

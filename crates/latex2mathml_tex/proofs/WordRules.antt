@@ -1,14 +1,17 @@
 -- What characters and commands are in words, and what holds of the parser after them.
-use Rattle.std.proofs.Common.{◌≡◌, ◌==◌, ◌+◌, ◌||◌, ◌++◌, ◌∷◌, [], Bool, ℕ, ℤ, true, false, drop, Err, List, Ok, Option, Result, Some, None, option_map, refl, subst, sym, ap, ◌∙◌, arith}
+use Rattle.std.proofs.Common.{◌≡◌, ◌==◌, ◌+◌, ◌||◌, ◌++◌, ◌∷◌, [], Bool, ℕ, ℤ, true, false, drop, Err, List, Ok, Option, Result, Some, None, option_map, refl, subst, sym, take, ap, ◌∙◌, arith}
 use Rattle.std.proofs.lemmas.Bool.Decides.{nat_tests}
 use Rattle.std.specs.Prelude.{OnOk, ⊤}
 use Rattle.std.specs.Str.{byte}
 use Rattle.std.specs.declared.alloc.AllocError.{AllocError}
-use Rattle.latex2mathml_tex_grammar.specs.{Commands.meaning_of, Delimiters.entry_of_name, Makes.text, Meaning.Meaning, Reading.Read, Symbols.Alphabet, TextCommands.text_commands}
+use Rattle.latex2mathml_tex_grammar.specs.{Commands.meaning_of, Delimiters.entry_of_name, Makes.text, Meaning.Meaning, Reading.Read, Symbols.Alphabet, TextCommands.text_accents, TextCommands.text_commands}
 use Rattle.latex2mathml_tex_grammar.specs.Refusal.{CharacterInWords, CommandInWords, UnknownCommand, refusal_at}
 use Rattle.latex2mathml_tex_grammar.specs.Units as grammar
 use Rattle.latex2mathml_tex_grammar.specs.Units.{Character, Command, Open, Piece}
-use Rattle.latex2mathml_tex_grammar.specs.Words.{BeginsFormula, IsWord, NoWord, Shown, meaning_rule, word_character, word_rule, word_space}
+use Rattle.latex2mathml_builder.specs.Built.{Built, elements_in}
+use Rattle.latex2mathml_tex_atoms.specs.Wording.{Replaced}
+use Rattle.latex2mathml_tex_grammar.specs.Words as words
+use Rattle.latex2mathml_tex_grammar.specs.Words.{with_accent_ended, Accented, BeginsFormula, IsWord, NoWord, Shown, meaning_rule, word_character, word_rule, word_space}
 use Rattle.latex2mathml_tex_units.specs.Errors.{refusal_of}
 use Rattle.latex2mathml_tex_commands.specs.Meanings.{alphabet_of}
 use Rattle.latex2mathml_tex.specs.{Frames.Start, Levels.Leads, Levels.PartMade}
@@ -51,12 +54,15 @@ module _ (a : Option Alphabet) (name : List ℕ) where
   pub character_shown : (c : ℕ) → entry_of_name text_commands name ≡ Some c → word_rule a (Command name) ≡ IsWord (Shown (text c))
   character_shown c e = rw e refl
 
-  module _ (other : entry_of_name text_commands name ≡ None) where
+  pub accent_begins : (accent : ℕ) → entry_of_name text_commands name ≡ None → entry_of_name text_accents name ≡ Some accent → word_rule a (Command name) ≡ IsWord (Accented accent)
+  accent_begins accent other e = rw (other, e) refl
+
+  module _ (other : entry_of_name text_commands name ≡ None) (plain : entry_of_name text_accents name ≡ None) where
     pub command_meant : (m : Option Meaning) → meaning_of name ≡ m → word_rule a (Command name) ≡ meaning_rule name m
-    command_meant m e = rw (other, e) refl
+    command_meant m e = rw (other, plain, e) refl
 
     pub unknown : meaning_of name ≡ None → word_rule a (Command name) ≡ NoWord (UnknownCommand name)
-    unknown e = rw (other, e) refl
+    unknown e = rw (other, plain, e) refl
 
     -- most meanings cannot appear in words
 
@@ -69,7 +75,7 @@ module _ (a : Option Alphabet) (name : List ℕ) where
     no_word_meant m none = refl
 
     pub not_in_words : (m : CodeMeaning) → meaning_of name ≡ Some (Meanings.meaning_of m) → IsNoWord m → word_rule a (Command name) ≡ NoWord (CommandInWords name)
-    not_in_words m e none = rw (other, e) (no_word_meant m none)
+    not_in_words m e none = rw (other, plain, e) (no_word_meant m none)
 
 -- a command that cannot appear in words is refused, if there is memory for its name
 module _ (p q : Parser) (same : q ≡ record p { refusal = q.refusal }) where
@@ -124,10 +130,11 @@ module _ (s : Start) (p : Parser) (ws : CodeWords) (place : ℕ) where
         claims = rw e (subst (λ l. PartMade l (Read (words_with ws (elements_of p)) (left_of p))) (sym (pushed s p.frames.stack.items (frame.Words place a) xs)) due);
       }
 
-  -- a formula
-  pub formula_begun : (piece : Piece) (a : Option Alphabet) (row : CodeRow) → row ≡ begun → word_rule a piece ≡ BeginsFormula → BeginsWordOf ws piece place a s p
-      → Leads (level_within (frame.Row (ending.Formula ws) place (record { style = code_style.InText; alphabet = None }) row) 0 s p) (left_of p)
-  formula_begun piece a row empty rule g =
+  -- a formula, after words whose accent has ended
+  pub formula_begun : (b : Built) (after : CodeWords) (piece : Piece) (a : Option Alphabet) (row : CodeRow) → Replaced with_accent_ended ws (elements_of p) after (elements_in b) → row ≡ begun → word_rule a piece ≡ BeginsFormula → BeginsWordOf ws piece place a s p
+      → Leads (level_within (frame.Row (ending.Formula after.count) place (record { style = code_style.InText; alphabet = None }) row) 0 s (record p { builder = b })) (left_of p)
+  formula_begun b after piece a row r empty rule g =
       let due = formula_due (level ws.count s p) {u = grammar.unit piece place} rule g.leads in
-      let count : 0 + ws.count ≡ ws.count = omega arith in
-      rw empty (rw count due)
+      let count : 0 + after.count ≡ after.count = omega arith in
+      let elements : take after.count (elements_in b) ≡ (with_accent_ended (words_with ws (elements_of p))).elements = ap (λ (w : words.Words). w.elements) r.words in
+      rw empty (rw count (rw (elements, r.below) due))

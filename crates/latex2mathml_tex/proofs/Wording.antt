@@ -1,7 +1,7 @@
 -- Words: what is put after them, and where what is in them leads.
-use Rattle.std.proofs.Common.{◌≡◌, ℕ, ◌+◌, ◌<◌, ◌≤◌, Bool, false, true, zero, suc, IsTrue, IsFalse, List, [], ◌∷◌, Option, Some, length, take, drop, option_map, reverse, refl, sym, ap, ◌∙◌, arith}
+use Rattle.std.proofs.Common.{◌≡◌, ℕ, ◌+◌, ◌<◌, ◌≤◌, Bool, false, true, None, zero, suc, IsTrue, IsFalse, List, [], ◌∷◌, Option, Some, length, take, drop, option_map, reverse, refl, sym, ap, ◌∙◌, arith}
 use Rattle.latex2mathml_elements.specs.{Attributes.plain, Element.Element, Element.Mtext, Element.token}
-use Rattle.latex2mathml_builder.specs.{Built.Built, Built.elements_in, Stacks.is_token, Stacks.lengthened}
+use Rattle.latex2mathml_builder.specs.Built.{Built, elements_in}
 use Rattle.latex2mathml_tex_grammar.specs.{Makes.Core, Rows.empty_row, Rows.row_element, Rows.single, Rows.with_atom, Symbols.Alphabet, Symbols.InText}
 use Rattle.latex2mathml_tex_grammar.specs.Reading.{Outcome, Read, Refused, word_stopped}
 use Rattle.latex2mathml_tex_grammar.specs.Refusal.{Kind, Refusal, UnclosedBrace, refusal_at}
@@ -9,13 +9,13 @@ use Rattle.latex2mathml_tex_grammar.specs.Rules.{gives}
 use Rattle.latex2mathml_tex_grammar.specs.Next.{past_space}
 use Rattle.latex2mathml_tex_grammar.specs.Units as grammar
 use Rattle.latex2mathml_tex_grammar.specs.Units.{Piece}
-use Rattle.latex2mathml_tex_grammar.specs.Words.{Word, Words, Shown, Formula, Nothing, IsWord, NoWord, TakesWords, with_text, with_word, word_rule, words_element}
+use Rattle.latex2mathml_tex_grammar.specs.Words.{Accented, Word, Words, Formula, Nothing, IsWord, NoWord, TakesWords, with_accent_ended, with_word, word_rule, words_element}
 use Rattle.latex2mathml_tex_units.specs.{Errors.refusal_of, Left.units_at}
 use Rattle.latex2mathml_tex.specs.Frames.{Start, Whole, inside}
 use Rattle.latex2mathml_tex.specs.Levels.{Level, PartMade, WordLeads, words}
 use Rattle.latex2mathml_tex_commands.specs.Meanings.{alphabet_of, style_of}
 use Rattle.latex2mathml_tex_atoms.specs.{Models.core_with, Models.row_with, Models.top, Models.words_with, Shapes.IsPut}
-use Rattle.latex2mathml_tex.specs.Steps.{Begins, BeginsWordOf, CanMake, Follows, Holds, WordGiven, core_made, elements_of, left_of, level, to_do, words_made}
+use Rattle.latex2mathml_tex.specs.Steps.{Begins, BeginsWordOf, CanMake, EndsGroupOf, Follows, Holds, WordGiven, core_made, elements_of, left_of, level, to_do, words_made}
 use Rattle.latex2mathml_tex_units.specs.declared.input.Input.{Input}
 use Rattle.latex2mathml_tex_commands.specs.declared.meaning.Alphabet.{Alphabet as CodeAlphabet}
 use Rattle.latex2mathml_tex_atoms.specs.declared.{atoms.Core.Core as CodeCore, atoms.Row.Row as CodeRow, atoms.Words.Words as CodeWords}
@@ -29,41 +29,10 @@ use Rattle.latex2mathml_tex_commands.specs.declared.meaning.Style.{Style as Code
 use Rattle.latex2mathml_tex.specs.declared.parse.frames.Frames.{Frames}
 use Rattle.latex2mathml_tex_grammar.specs.Starts.{is_close}
 use Rattle.latex2mathml_tex.proofs.Leading.{given, word_given, word_refused_at, words_ended, words_halted, words_in_alphabet_due, words_unended, word_due}
+use Rattle.latex2mathml_tex_atoms.specs.Wording.{Replaced}
+use Rattle.latex2mathml_tex_atoms.proofs.Wording.{drop_more, take_more}
 use Rattle.latex2mathml_tex.proofs.Marks as marks
 use Rattle.latex2mathml_tex.proofs.{Marks.all_refuse, Opening.into_frame, Opening.out_of_frame}
-
--- A text after words
-
-pub text_longer : (more : List ℕ) (n : ℕ) (xs : List Element) → 0 < n → is_token xs ≡ true → take n (lengthened more xs) ≡ with_text true more (take n xs)
-text_longer more zero xs some is = absurd (omega arith)
-text_longer more (suc n) (token t a text ∷ xs) some is = refl
-text_longer more (suc n) xs some is = cc
-
-pub below_longer : (more : List ℕ) (n : ℕ) (xs : List Element) → 0 < n → drop n (lengthened more xs) ≡ drop n xs
-below_longer more zero xs some = absurd (omega arith)
-below_longer more (suc n) (token t a text ∷ xs) some = refl
-below_longer more (suc n) xs some = refl
-
-pub not_longer : (more : List ℕ) (xs : List Element) → is_token xs ≡ false → lengthened more xs ≡ xs
-not_longer more (token t a text ∷ xs) is = cc
-not_longer more xs is = refl
-
-pub as_many : (more : List ℕ) (xs : List Element) → length (lengthened more xs) ≡ length xs
-as_many more (token t a text ∷ xs) = refl
-as_many more xs = refl
-
-pub text_apart : (more : List ℕ) (is_text : Bool) (n : ℕ) (xs : List Element) → (is_text ≡ true → 0 < n → is_token xs ≡ false) → with_text is_text more (take n xs) ≡ token Mtext plain more ∷ take n xs
-text_apart more false n xs apart = refl
-text_apart more true zero xs apart = refl
-text_apart more true (suc n) [] apart = refl
-text_apart more true (suc n) (token t a text ∷ xs) apart = let no : true ≡ false = apart refl (omega arith) in cc
-text_apart more true (suc n) (x ∷ xs) apart = refl
-
-pub take_more : (n : ℕ) (x : Element) (xs : List Element) → take (n + 1) (x ∷ xs) ≡ x ∷ take n xs
-take_more n x xs = let same : n + 1 ≡ suc n = omega arith in rw same refl
-
-pub drop_more : (n : ℕ) (x : Element) (xs : List Element) → drop (n + 1) (x ∷ xs) ≡ drop n xs
-drop_more n x xs = let same : n + 1 ≡ suc n = omega arith in rw same refl
 
 pub words_made_of : (n : ℕ) (xs : List Element) → 0 < n → n ≤ length xs → row_element (take n xs) ≡ words_element (take n xs)
 words_made_of zero xs some enough = absurd (omega arith)
@@ -72,13 +41,27 @@ words_made_of (suc n) (x ∷ xs) some enough = refl
 
 -- What holds of the parser
 
-pub word_put : (s : Start) (p : Parser) (b : Built) (ws new : CodeWords) (w : Word) → take new.count (elements_in b) ≡ (with_word (words_with ws (elements_of p)) w).elements → new.ends_in_text ≡ (with_word (words_with ws (elements_of p)) w).ends_in_text → drop new.count (elements_in b) ≡ drop ws.count (elements_of p) → WordGiven ws w s p → Holds s (record p { builder = b }) (state.Words new)
-word_put s p b ws new (Shown more) e t d g = record { style = g.style; claims = rw (e, t, d) g.leads }
-word_put s p b ws new (Formula x) e t d g = record { style = g.style; claims = rw (e, t, d) g.leads }
-word_put s p b ws new Nothing e t d g = record { style = g.style; claims = rw (e, t, d) g.leads }
+-- a change of words replaces them
+pub words_replaced : (change : Words → Words) (s : Start) (p : Parser) (b : Built) (ws after : CodeWords) → Replaced change ws (elements_of p) after (elements_in b) → s.style ≡ style_of p.style → PartMade (level ws.count s p) (Read (change (words_with ws (elements_of p))) (left_of p)) → Holds s (record p { builder = b }) (state.Words after)
+words_replaced change s p b ws after r style k = record { style = style; claims = rw (r.words, r.below) k }
 
-pub word_kept : (s : Start) (p : Parser) (b : Built) (ws : CodeWords) (w : Word) → elements_in b ≡ elements_of p → WordGiven ws w s p → WordGiven ws w s (record p { builder = b })
-word_kept s p b ws w e g = record { style = g.style; leads = rw e g.leads }
+-- the accent of the words has ended, and the next one has begun
+pub accent_begun : (s : Start) (p : Parser) (b : Built) (ws after : CodeWords) (accent : ℕ) → Replaced with_accent_ended ws (elements_of p) after (elements_in b) → WordGiven ws (Accented accent) s p → Holds s (record p { builder = b }) (state.Words (record after { accent = Some accent }))
+accent_begun s p b ws after accent r g =
+    let same : words_with (record after { accent = Some accent }) (elements_in b) ≡ record (with_accent_ended (words_with ws (elements_of p))) { accent = Some accent } = ap (λ (w : Words). record w { accent = Some accent }) r.words in
+    record { style = g.style; claims = rw (same, r.below) g.leads }
+
+-- there are elements for these words in place of others
+pub replaced_can : (change : Words → Words) (p : Parser) (b : Built) (ws after : CodeWords) → Replaced change ws (elements_of p) after (elements_in b) → CanMake words_made ws.count p → CanMake words_made after.count (record p { builder = b })
+replaced_can change p b ws after r can = record {
+  elements = omega (arith, can.elements, r.grown);
+  awaits = record { accepted = can.awaits.accepted; nested = can.awaits.nested };
+}
+
+pub words_step : (n : ℕ) (change : Words → Words) (p : Parser) (b : Built) (ws after new : CodeWords) → 6 ≤ n → new.count ≡ after.count → Replaced change ws (elements_of p) after (elements_in b) → CanMake words_made ws.count p → Follows (to_do p + n) (record p { builder = b }) (state.Words new)
+words_step n change p b ws after new more same r can =
+    let made = replaced_can change p b ws after r can in
+    record { ready = record { elements = omega (arith, made.elements, same); may_come = made.awaits }; falls = omega (arith, more) }
 
 pub core_of_words : (s : Start) (p : Parser) (b : Built) (n : ℕ) (c : CodeCore) (x : Element) (k : Core) → elements_in b ≡ x ∷ drop n (elements_of p) → core_with c x ≡ k → Begins (gives k) n s p → Holds s (record p { builder = b }) (state.Core c)
 core_of_words s p b n c x k e f g = record { style = g.style; claims = rw (e, f) (given g.leads) }
@@ -109,8 +92,14 @@ symbol_row c k old put made whole none one is zero_count empty longer below e =
     let others : drop one.count made ≡ old = below ∙ ap (λ n. drop (n + 1) put) zero_count ∙ ap (drop 1) is.element in
     e ∙ ap (λ xs. row_element xs ∷ drop one.count made) elements ∙ ap (λ xs. (single InText k.atom).element ∷ xs) others
 
-pub formula_put : (s : Start) (p : Parser) (b : Built) (ws : CodeWords) (x : Element) → elements_in b ≡ x ∷ elements_of p → WordGiven ws (Formula x) s p → Holds s (record p { builder = b }) (state.Words (record { count = ws.count + 1; ends_in_text = false }))
-formula_put s p b ws x e g = word_put s p b ws (record { count = ws.count + 1; ends_in_text = false }) (Formula x) (ap (take (ws.count + 1)) e ∙ take_more ws.count x (elements_of p)) refl (ap (drop (ws.count + 1)) e ∙ drop_more ws.count x (elements_of p)) g
+-- the elements of the words, whose accent has ended, and that of a formula
+pub formula_put : (s : Start) (p : Parser) (b c : Built) (ws after : CodeWords) (x : Element) → Replaced with_accent_ended ws (elements_of p) after (elements_in b) → elements_in c ≡ x ∷ elements_in b → WordGiven ws (Formula x) s p
+    → Holds s (record p { builder = c }) (state.Words (record { count = after.count + 1; ends_in_text = false; accent = None }))
+formula_put s p b c ws after x r e g =
+    let elements : take after.count (elements_in b) ≡ (with_accent_ended (words_with ws (elements_of p))).elements = ap (λ (w : Words). w.elements) r.words in
+    let first : take (after.count + 1) (elements_in c) ≡ x ∷ (with_accent_ended (words_with ws (elements_of p))).elements = ap (take (after.count + 1)) e ∙ take_more after.count x (elements_in b) ∙ ap (λ xs. x ∷ xs) elements in
+    let below : drop (after.count + 1) (elements_in c) ≡ drop ws.count (elements_of p) = ap (drop (after.count + 1)) e ∙ drop_more after.count x (elements_in b) ∙ r.below in
+    record { style = g.style; claims = rw (first, below) g.leads }
 
 -- Refusals
 
@@ -156,8 +145,8 @@ module _ (s : Start) (p : Parser) (ws : CodeWords) (place : ℕ) (a : Option Cod
   within_braces : PartMade (words place (option_map alphabet_of a) (PartMade around)) (Read (words_with ws (elements_of p)) (left_of p))
   within_braces = into_frame (λ l. PartMade l (Read (words_with ws (elements_of p)) (left_of p))) s p.style h.style p.frames.stack.items others (frame.Words place a) (drop ws.count (elements_of p)) inner h.claims
 
-  pub braces_closed : (i : Input) (fr : Frames) (u : grammar.Unit) → fr.stack.items ≡ others → left_of p ≡ grammar.Next u (units_at i) → IsTrue (is_close u.piece) → Holds s (record p { input = i; frames = fr }) (state.Words ws)
-  braces_closed i fr u same e close = record { style = h.style; claims = rw same (words_ended {K = PartMade around} close (rw e at within_braces)) }
+  pub braces_closed : (i : Input) (fr : Frames) (u : grammar.Unit) → fr.stack.items ≡ others → left_of p ≡ grammar.Next u (units_at i) → IsTrue (is_close u.piece) → EndsGroupOf ws s (record p { input = i; frames = fr })
+  braces_closed i fr u same e close = record { style = h.style; leads = rw same (words_ended {K = PartMade around} close (rw e at within_braces)) }
 
   pub braces_unended : (q : Parser) (at : ℕ) → left_of p ≡ grammar.End at → q.style ≡ p.style → refusal_of q.refusal ≡ Some (refusal_at UnclosedBrace place) → Holds s q state.Refused
   braces_unended q at e f g = record {

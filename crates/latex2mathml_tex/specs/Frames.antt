@@ -1,6 +1,6 @@
 -- What the parser's frames mean: each is a level that was entered. A frame holds no elements: those that were read for it are
 -- the first of the elements that are given next to it, the uppermost first.
-use Rattle.std.specs.Prelude.{◌≡◌, ℕ, zero, suc, ◌+◌, Bool, true, IsFalse, List, [], ◌∷◌, drop, reverse, option_map, Some}
+use Rattle.std.specs.Prelude.{◌≡◌, ℕ, zero, suc, ◌+◌, Bool, true, IsFalse, List, [], ◌∷◌, drop, reverse, take, option_map, Some}
 use Rattle.latex2mathml_elements.specs.{Attributes.Above, Attributes.plain, Element.Element, Element.Mover, Element.Munderover, Element.pair, Element.triple}
 use Rattle.latex2mathml_attributes.specs.Names.{side_of, stretch_of}
 use Rattle.latex2mathml_tex_grammar.specs.Makes as makes
@@ -14,7 +14,7 @@ use Rattle.latex2mathml_tex_grammar.specs.Words.{words_atom}
 use Rattle.latex2mathml_tex.specs.Levels.{AtomMade, as_operand, as_words, CoreMade, Level, OperandMade, PartMade, RuleLeads, ScriptsLead, Then}
 use Rattle.latex2mathml_tex.specs.Levels as level
 use Rattle.latex2mathml_tex_commands.specs.Meanings.{alphabet_of, box_of, class_of, fraction_rule_of, limit_place_of, style_of}
-use Rattle.latex2mathml_tex_atoms.specs.Models.{context_of, core_with, has_script, operand_with, row_count, row_with, script_count, scripts_with, top, words_with}
+use Rattle.latex2mathml_tex_atoms.specs.Models.{context_of, core_with, has_script, operand_with, row_count, row_with, script_count, scripts_with, top}
 use Rattle.latex2mathml_tex_atoms.specs.Outlines.{outline_of}
 use Rattle.latex2mathml_tex.specs.Tables.{TableMade, table_end}
 use Rattle.latex2mathml_tex_commands.specs.Delimiters.{delimiter_text}
@@ -57,7 +57,7 @@ ending_of ending.Operand place = InBraces place
 ending_of ending.Degree place = InBrackets place
 ending_of ending.BelowArrow place = InBrackets place
 ending_of (ending.Delimiters opening) place = InDelimiters place
-ending_of (ending.Formula ws) place = InDollars place
+ending_of (ending.Formula n) place = InDollars place
 ending_of (ending.Cell t) place = InCell (table_end t) place
 
 -- the context of what is due at a level
@@ -89,7 +89,7 @@ RowMade s ending.Operand place xs l = λ o. OperandMade l (as_operand o)
 RowMade s ending.Degree place xs l = Then (λ row. of_one place (context_at l) (λ x. root (row_element row.elements) x.element)) (CoreMade l)
 RowMade s ending.BelowArrow place xs l = Then (λ row. of_one place (rules.styled (context_at l) InScript) (λ x. labeled_arrow (top xs) (row_element row.elements) x.element)) (CoreMade l)
 RowMade s (ending.Delimiters opening) place xs l = Then (after_delimiters (delimiter_text opening)) (CoreMade l)
-RowMade s (ending.Formula ws) place xs l = λ o. PartMade l (as_words (words_with ws xs) o)
+RowMade s (ending.Formula n) place xs l = λ o. PartMade l (as_words (take n xs) o)
 RowMade s (ending.Cell t) place xs l = TableMade t place xs (context_at l) (CoreMade l)
 
 -- Operands
@@ -175,7 +175,7 @@ enter s (frame.Words place a) xs l = level.words place (option_map alphabet_of a
 -- how many of the elements given next to a frame belong to it
 abbrev pub ending_count : Ending → ℕ
 ending_count ending.BelowArrow = 1
-ending_count (ending.Formula ws) = ws.count
+ending_count (ending.Formula n) = n
 ending_count (ending.Cell t) = t.cells + t.rows
 ending_count e = 0
 

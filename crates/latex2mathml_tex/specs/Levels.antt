@@ -1,6 +1,7 @@
 -- What is due while a formula is read, and where its outcome leads. These definitions serve the contracts of the
 -- parser's functions, and do not mention frames. A continuation K says what each outcome leads to.
-use Rattle.std.specs.Prelude.{ℕ, Option}
+use Rattle.std.specs.Prelude.{ℕ, List, Option}
+use Rattle.latex2mathml_elements.specs.Element.{Element}
 use Rattle.latex2mathml_tex_grammar.specs.Atoms.{Atom}
 use Rattle.latex2mathml_tex_grammar.specs.Makes.{Core, Scripts, no_scripts}
 use Rattle.latex2mathml_tex_grammar.specs.Meaning.{Change}
@@ -11,7 +12,7 @@ use Rattle.latex2mathml_tex_grammar.specs.Rows.{Operand, Row, operand_of, lone, 
 use Rattle.latex2mathml_tex_grammar.specs.Rules.{Context, Ending, Rule, gives, reads_core}
 use Rattle.latex2mathml_tex_grammar.specs.Symbols.{Alphabet}
 use Rattle.latex2mathml_tex_grammar.specs.Units.{Units}
-use Rattle.latex2mathml_tex_grammar.specs.Words.{Formula, Words, with_word}
+use Rattle.latex2mathml_tex_grammar.specs.Words.{Words, with_formula}
 
 -- What is due, and where its outcome leads. What cannot be made at a level leads nowhere.
 pub data Level : Type 1 where
@@ -61,10 +62,10 @@ abbrev pub as_operand : Outcome Row → Outcome Operand
 as_operand (Read xs l) = Read (operand_of xs) l
 as_operand (Refused r) = Refused r
 
--- words that are followed by a row, as a formula
-abbrev pub as_words : Words → Outcome Row → Outcome Words
-as_words ws (Read xs l) = Read (with_word ws (Formula (row_element (lone xs.last xs.elements)))) l
-as_words ws (Refused r) = Refused r
+-- elements of words that are followed by a row, as a formula
+abbrev pub as_words : List Element → Outcome Row → Outcome Words
+as_words before (Read xs l) = Read (with_formula before (row_element (lone xs.last xs.elements))) l
+as_words before (Refused r) = Refused r
 
 -- where the outcome of an operand leads
 abbrev pub OperandMade : Level → Outcome Operand → Type 0

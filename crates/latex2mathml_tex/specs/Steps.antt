@@ -19,7 +19,7 @@ use Rattle.latex2mathml_tex_grammar.specs.Scanning.{Spot, BeforeRow, Given, Miss
 use Rattle.latex2mathml_attributes.specs.declared.columns.Columns.{Columns}
 use Rattle.latex2mathml_tex_commands.specs.declared.meaning.Style.{Style}
 use Rattle.latex2mathml_tex_grammar.specs.Rules.{Rule, a_number, gives, rule, styled, takes_delimiter}
-use Rattle.latex2mathml_tex_grammar.specs.{Symbols.Alphabet, Symbols.Class, Words.Word, Words.with_word}
+use Rattle.latex2mathml_tex_grammar.specs.{Symbols.Alphabet, Symbols.Class, Words.Word, Words.with_accent_ended, Words.with_word}
 use Rattle.latex2mathml_tex_grammar.specs.Starts as starts
 use Rattle.latex2mathml_tex_grammar.specs.Units as grammar
 use Rattle.latex2mathml_tex_grammar.specs.{Formulas.shown}
@@ -148,7 +148,7 @@ first_accepts m (f ∷ fs) = accepts m f
 
 abbrev pub row_makes : Ending → Made
 row_makes ending.Operand = operand_made
-row_makes (ending.Formula ws) = words_made
+row_makes (ending.Formula n) = words_made
 row_makes e = core_made
 
 abbrev pub makes : Frame → Made
@@ -286,6 +286,11 @@ pub record BeginsWordOf (ws : CodeWords) (piece : grammar.Piece) (place : ℕ) (
 pub record WordGiven (ws : CodeWords) (w : Word) (s : Start) (p : Parser) : Type 0 where
   pub style : s.style ≡ style_of p.style
   pub leads : PartMade (level ws.count s p) (Read (with_word (words_with ws (elements_of p)) w) (left_of p))
+
+-- The brace of these words was taken.
+pub record EndsGroupOf (ws : CodeWords) (s : Start) (p : Parser) : Type 0 where
+  pub style : s.style ≡ style_of p.style
+  pub leads : PartMade (level ws.count s p) (Read (with_accent_ended (words_with ws (elements_of p))) (left_of p))
 
 -- A delimiter within others is due.
 pub record BeginsDivider (s : Start) (p : Parser) : Type 0 where

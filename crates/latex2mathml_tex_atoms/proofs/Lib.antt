@@ -1,3 +1,4 @@
 pub mod Boxing
 pub mod Outlined
 pub mod Shaping
+pub mod Wording

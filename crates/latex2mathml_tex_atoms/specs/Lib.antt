@@ -2,3 +2,4 @@ pub mod Adding
 pub mod Models
 pub mod Outlines
 pub mod Shapes
+pub mod Wording

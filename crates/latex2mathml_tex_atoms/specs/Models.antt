@@ -114,7 +114,7 @@ row_with row xs = record {
 }
 
 abbrev pub words_with : Words → List Element → words.Words
-words_with ws xs = record { elements = take ws.count xs; ends_in_text = ws.ends_in_text }
+words_with ws xs = record { elements = take ws.count xs; ends_in_text = ws.ends_in_text; accent = ws.accent }
 
 abbrev pub one_if : Bool → ℕ
 one_if true = 1

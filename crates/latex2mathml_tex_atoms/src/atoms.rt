@@ -450,4 +450,6 @@ pub struct Words {
     pub count: usize,
     /// Whether the last one is a text.
     pub ends_in_text: bool,
+    /// The accent that the next character gets, if there is one.
+    pub accent: Option<char>,
 }

@@ -11,3 +11,4 @@ pub mod outlines;
 pub mod rests;
 pub mod shapes;
 pub mod signs;
+pub mod words;

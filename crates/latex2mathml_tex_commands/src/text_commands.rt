@@ -1,6 +1,6 @@
-//! The commands that are one character in words.
+//! The commands that are one character in words, and those that are accents there.
 ghost use Rattle.std.specs.Prelude.{◌≡◌, map};
-ghost use Rattle.latex2mathml_tex_grammar.specs.{Delimiters.entry_of_name, TextCommands.text_commands};
+ghost use Rattle.latex2mathml_tex_grammar.specs.{Delimiters.entry_of_name, TextCommands.text_accents, TextCommands.text_commands};
 ghost use Rattle.latex2mathml_tex_commands.specs.Named.{named_entry};
 
 use crate::named::{Named, find};
@@ -18,6 +18,21 @@ fn text_commands() -> &'static [Named]
     ensures { map named_entry result.now ≡ text_commands }
 {
     &TEXT_COMMANDS
+}
+
+/// Returns the combining character of a command that puts an accent on the next character in words, if it is such a command.
+pub fn text_accent(name: &str) -> Option<char>
+    ensures { result ≡ entry_of_name text_accents name.now }
+{
+    find(text_accents(), name)
+}
+
+/// Returns these commands, in the order of their names' bytes.
+#[tactic(auto, unfolding(latex2mathml_tex_grammar::specs::TextCommands::text_accents))]
+fn text_accents() -> &'static [Named]
+    ensures { map named_entry result.now ≡ text_accents }
+{
+    &TEXT_ACCENTS
 }
 
 #[rattlefmt::skip]
@@ -64,4 +79,24 @@ static TEXT_COMMANDS: [Named; 42] = [
     Named { name: "textunderscore", character: '_' },
     Named { name: "{", character: '{' },
     Named { name: "}", character: '}' },
+];
+
+#[rattlefmt::skip]
+static TEXT_ACCENTS: [Named; 16] = [
+    Named { name: "\"", character: '\u{308}' },
+    Named { name: "'", character: '\u{301}' },
+    Named { name: ".", character: '\u{307}' },
+    Named { name: "=", character: '\u{304}' },
+    Named { name: "H", character: '\u{30B}' },
+    Named { name: "^", character: '\u{302}' },
+    Named { name: "`", character: '\u{300}' },
+    Named { name: "b", character: '\u{331}' },
+    Named { name: "c", character: '\u{327}' },
+    Named { name: "d", character: '\u{323}' },
+    Named { name: "k", character: '\u{328}' },
+    Named { name: "r", character: '\u{30A}' },
+    Named { name: "t", character: '\u{361}' },
+    Named { name: "u", character: '\u{306}' },
+    Named { name: "v", character: '\u{30C}' },
+    Named { name: "~", character: '\u{303}' },
 ];

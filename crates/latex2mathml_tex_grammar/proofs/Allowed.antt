@@ -4,13 +4,13 @@ use Rattle.std.specs.{Bool.⊤, List.AllByRecursion}
 use Rattle.latex2mathml_elements.specs.{Characters.IsAllowed, Characters.HasAllowedTexts, Element.Element}
 use Rattle.latex2mathml_elements.proofs.Plain.{IsPlain}
 use Rattle.latex2mathml_tex_grammar.specs.{Atoms.Atom, Reading.Outcome, Reading.Read, Reading.Refused, Rests.Rest, Rests.GoesOnIn, Rests.NoRest, Rows.Restyled, Rows.Row, Rows.Operand, Rows.Upper}
-use Rattle.latex2mathml_tex_grammar.specs.Makes.{Core, Scripts}
+use Rattle.latex2mathml_tex_grammar.specs.Makes.{Core, Scripts, text}
 use Rattle.latex2mathml_tex_grammar.specs.Rules.{Rule, gives, refuses, reads_operand, reads_core, reads_atoms, reads_words, takes_if, if_follows, takes_digits, takes_delimiter, takes_found, passes_over, reads_rows}
 use Rattle.latex2mathml_tex_grammar.specs.Starts.{Step, GoesOn, TakesOperand, Forbidden}
 use Rattle.latex2mathml_tex_grammar.specs.ExpansionLaws.{EachPiece}
 use Rattle.latex2mathml_tex_grammar.specs.Tables.{Lines}
 use Rattle.latex2mathml_tex_grammar.specs.Units.{Piece, Command, Character, Units, is_forbidden}
-use Rattle.latex2mathml_tex_grammar.specs.Words.{Word, Shown, Formula, Nothing, WordRule, IsWord, Words}
+use Rattle.latex2mathml_tex_grammar.specs.Words.{Word, Shown, Formula, Accented, Nothing, WordRule, IsWord, Words}
 
 -- Units
 
@@ -63,8 +63,12 @@ abbrev pub IsAllowedRest : Rest → Type 0
 IsAllowedRest (GoesOnIn c row l) = IsAllowedPart row × AreAllowedUnits l
 IsAllowedRest (NoRest r) = ⊤
 
+abbrev pub IsAllowedAccent : Option ℕ → Type 0
+IsAllowedAccent None = ⊤
+IsAllowedAccent (Some accent) = IsAllowed (text accent)
+
 abbrev pub AreAllowedWords : Words → Type 0
-AreAllowedWords ws = AreAllowedElements ws.elements
+AreAllowedWords ws = AreAllowedElements ws.elements × IsAllowedAccent ws.accent
 
 abbrev pub AreAllowedLines : Lines → Type 0
 AreAllowedLines lines = HasAllowedTexts lines.last × AreAllowedElements lines.others
@@ -75,6 +79,7 @@ AreAllowedScripts scripts = IsAllowedElement scripts.below × IsAllowedElement s
 abbrev pub IsAllowedWord : Word → Type 0
 IsAllowedWord (Shown text) = IsAllowed text
 IsAllowedWord (Formula x) = HasAllowedTexts x
+IsAllowedWord (Accented accent) = IsAllowed (text accent)
 IsAllowedWord Nothing = ⊤
 
 -- the outcome is something that is allowed, with units that are allowed, or it is a refusal

@@ -15,7 +15,7 @@ use Rattle.latex2mathml_tex_grammar.proofs.AllowedMakes.{lone_allowed, number_al
 use Rattle.latex2mathml_tex_grammar.proofs.AllowedMacros.{expansion_allowed, macros_allowed}
 use Rattle.latex2mathml_tex_grammar.proofs.AllowedRests.{finished_allowed, rest_allowed}
 use Rattle.latex2mathml_tex_grammar.proofs.AllowedRows.{given_allowed, lined_allowed, past_spot_allowed, past_break_allowed, a_row_allowed, with_last_allowed}
-use Rattle.latex2mathml_tex_grammar.proofs.AllowedRules.{IsPlainStart, start_plain, delimiter_given, rule_allowed, step_allowed, with_word_allowed, word_rule_allowed}
+use Rattle.latex2mathml_tex_grammar.proofs.AllowedRules.{IsPlainStart, start_plain, delimiter_given, rule_allowed, step_allowed, accent_ended_allowed, with_word_allowed, word_rule_allowed}
 use Rattle.latex2mathml_tex_grammar.proofs.AllowedUnits.{digits_taken as digits_next_allowed, next_allowed, next_taken, past_allowed, units_allowed}
 use Rattle.latex2mathml_tex_grammar.specs.Formulas.{ReadsFormula, as_atoms, as_rows, alone}
 use Rattle.latex2mathml_tex_grammar.proofs.{AllowedMakes.with_atom_allowed, AllowedRests.finished_allowed, AllowedRows.a_table_allowed, Sources.source_allowed}
@@ -49,7 +49,7 @@ mutual
   rules (core_stopped p) h k = tt
   rules (atoms_read {ending = ending} {row = row} d ds) h k = (let read = rows d (nothing_read (before_first ending)) k in rules ds (h row read.0) read.1)
   rules (atoms_refused d) h k = tt
-  rules (words_read {l = l} {ws = ws} d ds) h k = (let read = words d tt (past_allowed l k) in rules ds (h ws read.0) read.1)
+  rules (words_read {l = l} {ws = ws} d ds) h k = (let read = words d (tt, tt) (past_allowed l k) in rules ds (h ws read.0) read.1)
   rules (words_refused d) h k = tt
   rules (units_taken {tests = tests} {l = l} {m = m} {texts = texts} p ds) h k =
       let taken = next_taken tests l m texts p k in rules ds (h.0 texts taken.0) taken.1
@@ -142,7 +142,7 @@ mutual
   words word_stopped h k = tt
 
   word_lists : {place : ℕ} {a : Option Alphabet} {ws : Words} {l : Units} {o : Outcome Words} → ReadsWords place a ws l o → AreAllowedWords ws → AreAllowedUnits l → IsAllowedOutcome AreAllowedWords o
-  word_lists (words_end s) h k = (h, k.1)
+  word_lists (words_end {ws = ws} s) h k = (accent_ended_allowed ws h, k.1)
   word_lists words_never_ended h k = tt
   word_lists words_stopped h k = tt
   word_lists (word_read s d ds) h k = (let read = words d h k in word_lists ds read.0 read.1)

@@ -4,7 +4,7 @@ use Rattle.std.specs.{Bool.⊤, Char.is_ascii_digit, Str.byte}
 use Rattle.latex2mathml_elements.specs.{Element.Element, Element.token, Element.space, Element.rectangle, Element.container, Element.pair, Element.triple, Element.table}
 use Rattle.latex2mathml_elements.specs.Characters.{is_forbidden, IsAllowed, HasAllowedTexts}
 use Rattle.latex2mathml_elements.proofs.{Characters.allowed_both, Characters.allowed_char, Characters.allowed_plain, Plain.IsPlain}
-use Rattle.latex2mathml_tex_grammar.specs.{Commands.meaning_of, Commands.symbol_of, Delimiters.entry_of_name, Delimiters.negated_of, Delimiters.delimiter_of, TextCommands.text_commands, Dots.centered_dots, Dots.low_dots}
+use Rattle.latex2mathml_tex_grammar.specs.{Commands.meaning_of, Commands.symbol_of, Delimiters.entry_of_name, Delimiters.negated_of, Delimiters.delimiter_of, TextCommands.text_accents, TextCommands.text_commands, Dots.centered_dots, Dots.low_dots}
 use Rattle.latex2mathml_tex_grammar.specs.Makes.{Core, core, Scripts, letter, symbol, spacing, struck, text, in_box, raised_by, black, arrow, Outline, quotient, between_any, outlined_fraction, choice}
 use Rattle.latex2mathml_tex_grammar.specs.Refusal.{Refusal, OutsideTable, MisplacedCharacter, CharacterInWords, refusal_at}
 use Rattle.latex2mathml_tex_grammar.specs.Meaning.{Meaning, Shows, FunctionName, Dots, Spacing, Styled, Words as TakesWordsIn, Fraction, Root, Accent, Brace, Stack, StackedRelation, OperatorName, Negation, Slash, Sized, Left, Middle, Right, Limits, NoLimits, Classed, Changes, ToAlphabet, ToStyle, Divides, ToColor, BeginTable, EndTable, LineBreak, Substack, Skip, SkipInBraces, Boxed, Smash, ContinuedFraction, GeneralFraction, Choice, Bar, FractionRule, Box, Phantom, PhantomWidth, PhantomHeight, Smashed, WithoutHeight, WithoutDepth, OverRight, OverLeft, OverBoth, Frame, StrikeUp, StrikeDown, StrikeTwice, Raise, InColor, Highlight, Rectangle, Arrow, Raised, Colored, OnColor}
@@ -14,14 +14,14 @@ use Rattle.latex2mathml_tex_grammar.specs.Rules.{Context, Rule, gives, refuses, 
 use Rattle.latex2mathml_tex_grammar.specs.Starts.{OperandStart, NoStart, GroupStart, DigitStart, operand_start, start_of_digit, Mark, Prime, Below, Above as AboveMark, LimitsAt, step_of, step_of_mark}
 use Rattle.latex2mathml_tex_grammar.specs.Symbols.{InDisplay, InText, InScript, Ordinary, Relation, Alphabet, Style, Symbol}
 use Rattle.latex2mathml_tex_grammar.specs.Units.{Piece, Space, Open, Close, Command, Character}
-use Rattle.latex2mathml_tex_grammar.specs.Words.{Word, Shown, Formula, Nothing, WordRule, IsWord, BeginsFormula, NoWord, Words, word_space, word_character, with_text, with_word, words_element, word_rule, character_rule as word_of_character, meaning_rule as word_of_meaning, command_rule as word_of_command}
-use Rattle.latex2mathml_tex_grammar.proofs.Allowed.{IsAllowedPiece, AreAllowedElements, IsAllowedElement, IsAllowedCore, IsAllowedOperand, AreAllowedScripts, AreAllowedWords, IsAllowedWord, IsAllowedWordRule, IsAllowedStep, IsAllowedRule, AreGiven}
+use Rattle.latex2mathml_tex_grammar.specs.Words.{Word, Shown, Formula, Accented, Nothing, WordRule, IsWord, BeginsFormula, NoWord, Words, word_space, word_character, with_text, accented, with_character, end_accent, with_accent_ended, with_word, words_element, word_rule, character_rule as word_of_character, meaning_rule as word_of_meaning, accent_rule as word_of_accent, command_rule as word_of_command}
+use Rattle.latex2mathml_tex_grammar.proofs.Allowed.{IsAllowedPiece, AreAllowedElements, IsAllowedAccent, IsAllowedElement, IsAllowedCore, IsAllowedOperand, AreAllowedScripts, AreAllowedWords, IsAllowedWord, IsAllowedWordRule, IsAllowedStep, IsAllowedRule, AreGiven}
 use Rattle.latex2mathml_tex_grammar.proofs.AllowedMakes.{letter_allowed, upright_letter_allowed, symbol_allowed, number_allowed, lone_allowed, row_element_allowed, single_allowed, struck_allowed, as_base_allowed, classed_allowed, accent_allowed, brace_allowed, stack_allowed, fraction_allowed, fenced_allowed, in_style_allowed, between_allowed, behind_primes_allowed}
 use Rattle.latex2mathml_elements.specs.Columns.{Alike, Dense}
 use Rattle.latex2mathml_elements.specs.{Columns.Alike, Columns.Dense, Groups.grouped}
 use Rattle.latex2mathml_tex_grammar.specs.Environments.{environment_of}
 use Rattle.latex2mathml_tex_grammar.proofs.AllowedRows.{a_table_allowed, environment_allowed, environment_passes}
-use Rattle.latex2mathml_tex_grammar.proofs.AllowedTables.{IsAllowedText, Passes, allowed_text, in_alphabet_allowed, is_allowed, is_allowed_meaning, is_allowed_symbol, meaning_passes, negated_allowed, delimiter_allowed, not_forbidden, symbol_passes, text_command_passes}
+use Rattle.latex2mathml_tex_grammar.proofs.AllowedTables.{IsAllowedText, Passes, allowed_text, in_alphabet_allowed, is_allowed, is_allowed_meaning, is_allowed_symbol, meaning_passes, negated_allowed, delimiter_allowed, not_forbidden, symbol_passes, text_accent_passes, text_command_passes}
 use Rattle.latex2mathml_tex_grammar.proofs.AllowedUnits.{a_digit_plain, a_point_plain, digit_plain, plain_both, point_plain}
 use Rattle.latex2mathml_tex_grammar.proofs.Choices.{of_chosen, of_either}
 
@@ -118,6 +118,32 @@ struck_atom_allowed place x (Some element) h = h
 slashed_allowed : (x : Operand) (found : Option Element) → IsAllowedOperand x → IsAllowedElement found → IsAllowedCore (slashed x found)
 slashed_allowed x None h k = h
 slashed_allowed x (Some element) h k = k
+
+with_text_allowed : (ends_in_text : Bool) (more : List ℕ) (xs : List Element) → IsAllowed more → AreAllowedElements xs → AreAllowedElements (with_text ends_in_text more xs)
+with_text_allowed true more [] h k = (h, k)
+with_text_allowed true more (token t a before ∷ xs) h k = (allowed_both before more k.0 h, k.1)
+with_text_allowed true more (space width ∷ xs) h k = (h, k)
+with_text_allowed true more (rectangle e ∷ xs) h k = (h, k)
+with_text_allowed true more (container c a ys ∷ xs) h k = (h, k)
+with_text_allowed true more (pair p a y z ∷ xs) h k = (h, k)
+with_text_allowed true more (triple t a x y z ∷ xs) h k = (h, k)
+with_text_allowed true more (table a rows ∷ xs) h k = (h, k)
+with_text_allowed false more xs h k = (h, k)
+
+accented_allowed : (accent : Option ℕ) (character : List ℕ) → IsAllowedAccent accent → IsAllowed character → IsAllowed (accented accent character)
+accented_allowed None character h k = k
+accented_allowed (Some accent) character h k = allowed_both character (text accent) k h
+
+with_character_allowed : (ws : Words) (character : List ℕ) → AreAllowedWords ws → IsAllowed character → AreAllowedWords (with_character ws character)
+with_character_allowed ws character h k =
+    (with_text_allowed ws.ends_in_text (accented ws.accent character) ws.elements (accented_allowed ws.accent character h.1 k) h.0, tt)
+
+end_accent_allowed : (accent : Option ℕ) (ws : Words) → AreAllowedWords ws → AreAllowedWords (end_accent accent ws)
+end_accent_allowed None ws h = h
+end_accent_allowed (Some accent) ws h = with_character_allowed ws (text 0xA0) h (allowed_char 0xA0 refl)
+
+pub accent_ended_allowed : (ws : Words) → AreAllowedWords ws → AreAllowedWords (with_accent_ended ws)
+accent_ended_allowed ws h = end_accent_allowed ws.accent ws h
 
 words_element_allowed : (xs : List Element) → AreAllowedElements xs → HasAllowedTexts (words_element xs)
 words_element_allowed [] h = allowed_plain [] refl
@@ -260,7 +286,7 @@ meaning_rule_allowed place c (Boxed box) h = a_box_allowed place c box
 meaning_rule_allowed place c Smash h =
     (λ top given. a_box_allowed place c WithoutHeight, (λ bottom given. a_box_allowed place c WithoutDepth, a_box_allowed place c Smashed))
 meaning_rule_allowed place c (Styled alphabet) h = λ x k. k
-meaning_rule_allowed place c (TakesWordsIn alphabet) h = λ ws k. words_element_allowed ws.elements k
+meaning_rule_allowed place c (TakesWordsIn alphabet) h = λ ws k. words_element_allowed (with_accent_ended ws).elements (accent_ended_allowed ws k).0
 meaning_rule_allowed place c (Fraction rule own) h = a_fraction_allowed place c rule own
 meaning_rule_allowed place c ContinuedFraction h =
     (λ left given. a_fraction_allowed place c Bar (Some InDisplay), (λ right given. a_fraction_allowed place c Bar (Some InDisplay), a_fraction_allowed place c Bar (Some InDisplay)))
@@ -394,9 +420,13 @@ word_of_meaning_allowed name (Some Highlight) h = tt
 word_of_meaning_allowed name (Some Rectangle) h = tt
 word_of_meaning_allowed name (Some (Arrow sign_character)) h = tt
 
+word_of_accent_allowed : (name : List ℕ) (found : Option ℕ) → Passes is_allowed found → IsAllowedWordRule (word_of_accent name found)
+word_of_accent_allowed name (Some c) h = allowed_char c (not_forbidden c h)
+word_of_accent_allowed name None h = word_of_meaning_allowed name (meaning_of name) (meaning_passes name)
+
 word_of_command_allowed : (name : List ℕ) (found : Option ℕ) → Passes is_allowed found → IsAllowedWordRule (word_of_command name found)
 word_of_command_allowed name (Some c) h = allowed_char c (not_forbidden c h)
-word_of_command_allowed name None h = word_of_meaning_allowed name (meaning_of name) (meaning_passes name)
+word_of_command_allowed name None h = word_of_accent_allowed name (entry_of_name text_accents name) (text_accent_passes name)
 
 pub word_rule_allowed : (alphabet : Option Alphabet) (piece : Piece) → IsAllowedPiece piece → IsAllowedWordRule (word_rule alphabet piece)
 word_rule_allowed alphabet Space h = word_space_allowed
@@ -405,18 +435,8 @@ word_rule_allowed alphabet Close h = tt
 word_rule_allowed alphabet (Character c) h = word_of_character_allowed alphabet c h
 word_rule_allowed alphabet (Command name) h = word_of_command_allowed name (entry_of_name text_commands name) (text_command_passes name)
 
-with_text_allowed : (ends_in_text : Bool) (more : List ℕ) (xs : List Element) → IsAllowed more → AreAllowedElements xs → AreAllowedElements (with_text ends_in_text more xs)
-with_text_allowed true more [] h k = (h, k)
-with_text_allowed true more (token t a before ∷ xs) h k = (allowed_both before more k.0 h, k.1)
-with_text_allowed true more (space width ∷ xs) h k = (h, k)
-with_text_allowed true more (rectangle e ∷ xs) h k = (h, k)
-with_text_allowed true more (container c a ys ∷ xs) h k = (h, k)
-with_text_allowed true more (pair p a y z ∷ xs) h k = (h, k)
-with_text_allowed true more (triple t a x y z ∷ xs) h k = (h, k)
-with_text_allowed true more (table a rows ∷ xs) h k = (h, k)
-with_text_allowed false more xs h k = (h, k)
-
 pub with_word_allowed : (ws : Words) (w : Word) → AreAllowedWords ws → IsAllowedWord w → AreAllowedWords (with_word ws w)
-with_word_allowed ws (Shown more) h k = with_text_allowed ws.ends_in_text more ws.elements k h
-with_word_allowed ws (Formula x) h k = (k, h)
+with_word_allowed ws (Shown character) h k = with_character_allowed ws character h k
+with_word_allowed ws (Formula x) h k = ((k, (accent_ended_allowed ws h).0), tt)
+with_word_allowed ws (Accented accent) h k = ((accent_ended_allowed ws h).0, k)
 with_word_allowed ws Nothing h k = h

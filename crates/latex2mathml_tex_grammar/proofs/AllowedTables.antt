@@ -5,7 +5,7 @@ use Rattle.std.specs.{Char.encode_utf8, List.list_all, Str.byte, Str.bytes_eq, S
 use Rattle.latex2mathml_elements.specs.Characters.{is_forbidden, IsAllowed}
 use Rattle.latex2mathml_tex_grammar.specs.Alphabets.{Blocks, blocks, in_alphabet, in_blocks, in_optional_blocks, looked_up, moved}
 use Rattle.latex2mathml_tex_grammar.specs.Commands.{command_entries, entry_meaning, entry_symbol, meaning_of, symbol_of}
-use Rattle.latex2mathml_tex_grammar.specs.{CommandsUpToL.commands_up_to_l, CommandsFromM.commands_from_m, Signs.sign_entries, TextCommands.text_commands}
+use Rattle.latex2mathml_tex_grammar.specs.{CommandsUpToL.commands_up_to_l, CommandsFromM.commands_from_m, Signs.sign_entries, TextCommands.text_accents, TextCommands.text_commands}
 use Rattle.latex2mathml_tex_grammar.specs.Delimiters.{delimiter_characters, delimiter_commands, delimiter_of, entry_of_character, entry_of_name, negated_characters, negated_commands, negated_of, text_of}
 use Rattle.latex2mathml_tex_grammar.specs.Meaning.{Meaning, Shows, FunctionName, Accent, Brace, Arrow}
 use Rattle.latex2mathml_tex_grammar.specs.Symbols.{Alphabet, Upright, Italic, Bold, BoldItalic, DoubleStruck, Fraktur, Calligraphic, SansSerif, Monospace, Symbol, Letter, UprightLetter, Sign, BigOperator, Integral}
@@ -69,6 +69,10 @@ all_delimiter_characters = refl
 all_text_commands : list_all (λ e. is_allowed e.1) text_commands ≡ true
 unfolding text_commands
 all_text_commands = refl
+
+all_text_accents : list_all (λ e. is_allowed e.1) text_accents ≡ true
+unfolding text_accents
+all_text_accents = refl
 
 all_negated_commands : list_all (λ e. is_allowed e.1) negated_commands ≡ true
 unfolding negated_commands
@@ -136,6 +140,9 @@ delimiter_allowed (Character c) =
 
 pub text_command_passes : (name : List ℕ) → Passes is_allowed (entry_of_name text_commands name)
 text_command_passes name = found_name text_commands name all_text_commands
+
+pub text_accent_passes : (name : List ℕ) → Passes is_allowed (entry_of_name text_accents name)
+text_accent_passes name = found_name text_accents name all_text_accents
 
 pub negated_allowed : (piece : Piece) → IsAllowedText (negated_of piece)
 negated_allowed Space = refl

@@ -4,7 +4,7 @@ use Rattle.std.proofs.{lemmas.Bool.cases_Bool, lemmas.Slice.Eq.bytes_eq-Decides}
 use Rattle.std.specs.{Str.byte, Str.bytes_eq}
 use Rattle.latex2mathml_tex_grammar.specs.{Commands.command_entries, Commands.meaning_of, CommandsFromM.commands_from_m, CommandsUpToL.commands_up_to_l}
 use Rattle.latex2mathml_tex_grammar.specs.Delimiters.{delimiter_characters, delimiter_commands, delimiter_of, negated_characters, negated_commands, negated_of, entry_of_name, text_of}
-use Rattle.latex2mathml_tex_grammar.specs.{Rules.a_character, Rules.a_digit, TextCommands.text_commands}
+use Rattle.latex2mathml_tex_grammar.specs.{Rules.a_character, Rules.a_digit, TextCommands.text_accents, TextCommands.text_commands}
 use Rattle.latex2mathml_tex_grammar.specs.Meaning.{takes_words}
 use Rattle.latex2mathml_tex_grammar.specs.Meaning.{Change, Changes, Meaning}
 use Rattle.latex2mathml_tex_grammar.specs.Starts.{change_meant, change_by, ChangeStart, Mark, Prime, Below, Above, LimitsAt, Step, atom_start, DividerStart, start_of_mark, OperandStart, DigitStart, GroupStart, NoStart, operand_start, is_no_operand, is_open, start_of_digit, mark_of, step_of_mark, is_command}
@@ -91,6 +91,10 @@ texts_plain : take_none text_commands ≡ true
 unfolding meaning_of command_entries commands_up_to_l commands_from_m text_commands
 texts_plain = refl
 
+accents_plain : take_none text_accents ≡ true
+unfolding meaning_of command_entries commands_up_to_l commands_from_m text_accents
+accents_plain = refl
+
 both_hold : (a b : Bool) → not a && b ≡ true → (a ≡ false) × (b ≡ true)
 both_hold true b e = cc
 both_hold false b e = (refl, e)
@@ -106,6 +110,9 @@ in_table name found (entry ∷ entries) h e =
 
 pub text_command_plain : (name : List ℕ) (c : ℕ) → entry_of_name text_commands name ≡ Some c → TakesNone name
 text_command_plain name c e = in_table name _ text_commands texts_plain (ap text_of e)
+
+pub text_accent_plain : (name : List ℕ) (c : ℕ) → entry_of_name text_accents name ≡ Some c → TakesNone name
+text_accent_plain name c e = in_table name _ text_accents accents_plain (ap text_of e)
 
 -- a dollar sign is not in the tables
 no_delimiter : delimiter_of (Character (byte "$")) ≡ None

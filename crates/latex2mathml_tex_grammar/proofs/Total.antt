@@ -18,7 +18,7 @@ use Rattle.latex2mathml_elements.specs.Columns.{Columns}
 use Rattle.latex2mathml_tex_grammar.specs.Scanning.{Spot, BeforeStar, BeforeLength, BeforeRow, Deed, Passes, Adds, Ends, Leaves, Misses, Refuses, deed, done, may_end, found_at_end, with_character, Found, Given, Missing, scan, behind_found, past, past_break, past_gap}
 use Rattle.latex2mathml_tex_grammar.specs.Symbols.{InText, InScript, Alphabet}
 use Rattle.latex2mathml_tex_grammar.specs.Units.{Piece, Space, Open, Close, Command, Character, Unit, Units, Next, End, Stop}
-use Rattle.latex2mathml_tex_grammar.specs.Words.{Words, no_words, Formula, with_word, WordRule, IsWord, BeginsGroup, EndsGroup, BeginsFormula, TakesWords, NoWord, word_rule}
+use Rattle.latex2mathml_tex_grammar.specs.Words.{Words, no_words, Formula, with_accent_ended, with_word, WordRule, IsWord, BeginsGroup, EndsGroup, BeginsFormula, TakesWords, NoWord, word_rule}
 use Rattle.latex2mathml_tex_grammar.proofs.{Spaces.next_stays, Unique.one_atoms}
 
 -- how many units there are
@@ -374,7 +374,7 @@ words_total : (k : ℕ) → HasOutcomes k → (place : ℕ) (a : Option Alphabet
 words_total k has place a ws (End at) h = is_refused _ words_never_ended
 words_total k has place a ws (Stop r) h = is_refused r words_stopped
 words_total k has place a ws (Next u l) h = elim (cases_Bool (is_close u.piece)) [
-  | inl s ↦ comes_to ws l (omega arith) (words_end s)
+  | inl s ↦ comes_to (with_accent_ended ws) l (omega arith) (words_end s)
   | inr s ↦ word_after k has place a ws u l (omega arith) s (begun_word k has place a ws u l (omega arith) (word_rule a u.piece) refl)
 ]
 

@@ -1,13 +1,13 @@
 -- What each piece is in words, and where the unit after it is.
 use Rattle.std.proofs.Common.{◌≡◌, ℕ, Bool, true, false, List, Option, Some, None, refl, ◌==◌, if◌then◌else◌, ◌||◌}
 use Rattle.std.specs.Str.{byte}
-use Rattle.latex2mathml_tex_grammar.specs.{Commands.meaning_of, Delimiters.entry_of_name, TextCommands.text_commands}
+use Rattle.latex2mathml_tex_grammar.specs.{Commands.meaning_of, Delimiters.entry_of_name, TextCommands.text_accents, TextCommands.text_commands}
 use Rattle.latex2mathml_tex_grammar.specs.Meaning.{Meaning, takes_words, Shows, FunctionName, Dots, Spacing, Styled, Words as TakesWordsIn, Fraction, Root, Accent, Brace, Stack, StackedRelation, OperatorName, Negation, Slash, Sized, Left, Middle, Right, Limits, NoLimits, Classed, Changes, ToAlphabet, ToStyle, Divides, ToColor, BeginTable, EndTable, LineBreak, Substack, Skip, SkipInBraces, Boxed, Smash, ContinuedFraction, GeneralFraction, Choice, Raise, InColor, Highlight, Rectangle, Arrow}
 use Rattle.latex2mathml_tex_grammar.specs.{Next.is_space_piece, Refusal.Kind, Symbols.Alphabet}
 use Rattle.latex2mathml_tex_grammar.specs.Spacing.{Standing, BeforeWords, InWords, BetweenDollars, standing_behind, is_in_words}
 use Rattle.latex2mathml_tex_grammar.specs.Units.{Piece, Space, Open, Close, Command, Character}
-use Rattle.latex2mathml_tex_grammar.specs.Words.{Word, WordRule, IsWord, BeginsGroup, EndsGroup, BeginsFormula, TakesWords, NoWord, word_rule, command_rule, meaning_rule}
-use Rattle.latex2mathml_tex_grammar.proofs.{AlikeRules.WordsStand, AlikeRules.before_words, AlikeRules.within_words, Plain.TakesNone, Plain.text_command_plain}
+use Rattle.latex2mathml_tex_grammar.specs.Words.{Word, WordRule, IsWord, BeginsGroup, EndsGroup, BeginsFormula, TakesWords, NoWord, word_rule, command_rule, accent_rule, meaning_rule}
+use Rattle.latex2mathml_tex_grammar.proofs.{AlikeRules.WordsStand, AlikeRules.before_words, AlikeRules.within_words, Plain.TakesNone, Plain.text_accent_plain, Plain.text_command_plain}
 
 -- the piece is all of the words where words are due, or one part of words in braces
 abbrev pub EndsWord : Piece → Type 0
@@ -89,9 +89,13 @@ either : {piece : Piece} {r s : WordRule} (b : Bool) → (b ≡ true → InAWord
 either true x y = x refl
 either false x y = y refl
 
+by_accent : (name : List ℕ) (found : Option ℕ) → entry_of_name text_accents name ≡ found → InAWord (Command name) (accent_rule name found)
+by_accent name (Some c) e = a_word (command_ends name (text_accent_plain name c e))
+by_accent name None e = by_meaning name (meaning_of name) refl
+
 by_entry : (name : List ℕ) (found : Option ℕ) → entry_of_name text_commands name ≡ found → InAWord (Command name) (command_rule name found)
 by_entry name (Some c) e = a_word (command_ends name (text_command_plain name c e))
-by_entry name None e = by_meaning name (meaning_of name) refl
+by_entry name None e = by_accent name (entry_of_name text_accents name) refl
 
 in_a_word : (a : Option Alphabet) (piece : Piece) → InAWord piece (word_rule a piece)
 in_a_word a Space = a_word space_ends

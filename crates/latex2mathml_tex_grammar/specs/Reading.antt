@@ -14,7 +14,7 @@ use Rattle.latex2mathml_tex_grammar.specs.Scanning.{Spot, BeforeRow, Given, Miss
 use Rattle.latex2mathml_tex_grammar.specs.Symbols.{InText, InScript, Alphabet}
 use Rattle.latex2mathml_tex_grammar.specs.{Tables.Lines, Tables.begun_cell, Tables.cell_of, Tables.a_row, Tables.with_last}
 use Rattle.latex2mathml_tex_grammar.specs.Units.{Piece, Unit, Units, Next, End, Stop}
-use Rattle.latex2mathml_tex_grammar.specs.Words.{Word, Formula, Words, no_words, with_word, IsWord, BeginsGroup, EndsGroup, BeginsFormula, TakesWords, NoWord, word_rule}
+use Rattle.latex2mathml_tex_grammar.specs.Words.{Word, Formula, Words, no_words, with_accent_ended, with_word, IsWord, BeginsGroup, EndsGroup, BeginsFormula, TakesWords, NoWord, word_rule}
 
 -- what was read, with the units that are left, or the refusal
 pub data Outcome (A : Type 0) : Type 0 where
@@ -336,7 +336,7 @@ mutual
   pub data ReadsWords : ℕ → Option Alphabet → Words → Units → Outcome Words → Type 0 where
     words_end : {place : ℕ} {a : Option Alphabet} {ws : Words} {l : Units} {u : Unit}
         → IsTrue (is_close u.piece)
-        → ReadsWords place a ws (Next u l) (Read ws l)
+        → ReadsWords place a ws (Next u l) (Read (with_accent_ended ws) l)
     words_never_ended : {place at : ℕ} {a : Option Alphabet} {ws : Words}
         → ReadsWords place a ws (End at) (Refused (refusal_at UnclosedBrace place))
     words_stopped : {place : ℕ} {a : Option Alphabet} {ws : Words} {r : Refusal}

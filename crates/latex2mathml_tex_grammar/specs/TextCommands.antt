@@ -1,5 +1,5 @@
--- The commands that are one character in words, in the order of their names' bytes. A name is its bytes, without the
--- backslash; a character is its code point, and is also shown after its line.
+-- The commands that are one character in words, and those that are accents there, in the order of their names' bytes. A name is
+-- its bytes, without the backslash; a character is its code point, and is also shown after its line.
 use Rattle.std.specs.Prelude.{ℕ, List, [], ◌∷◌, codes}
 
 -- the commands that are a character in words, in the order of bytes
@@ -47,4 +47,26 @@ text_commands =
     (codes "textunderscore", 0x5F) ∷  -- _
     (codes "{", 0x7B) ∷  -- {
     (codes "}", 0x7D) ∷  -- }
+    []
+
+-- the commands that put an accent on the next character in words, in the order of bytes: each has the combining character that
+-- follows the accented one
+unfoldable pub text_accents : List (List ℕ × ℕ)
+text_accents =
+    (codes "\"", 0x0308) ∷  -- ̈
+    (codes "'", 0x0301) ∷  -- ́
+    (codes ".", 0x0307) ∷  -- ̇
+    (codes "=", 0x0304) ∷  -- ̄
+    (codes "H", 0x030B) ∷  -- ̋
+    (codes "^", 0x0302) ∷  -- ̂
+    (codes "`", 0x0300) ∷  -- ̀
+    (codes "b", 0x0331) ∷  -- ̱
+    (codes "c", 0x0327) ∷  -- ̧
+    (codes "d", 0x0323) ∷  -- ̣
+    (codes "k", 0x0328) ∷  -- ̨
+    (codes "r", 0x030A) ∷  -- ̊
+    (codes "t", 0x0361) ∷  -- ͡
+    (codes "u", 0x0306) ∷  -- ̆
+    (codes "v", 0x030C) ∷  -- ̌
+    (codes "~", 0x0303) ∷  -- ̃
     []

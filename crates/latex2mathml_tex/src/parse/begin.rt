@@ -377,6 +377,7 @@ impl<'a> Parser<'a> {
         let words = Words {
             count: 0,
             ends_in_text: false,
+            accent: None,
         };
         *next = State::Word(words, place, alphabet);
         Ok(())

@@ -16,7 +16,7 @@ ghost use Rattle.latex2mathml_tex_units.specs.Taking.{piece_of};
 
 use latex2mathml_attributes::attributes::{Side, Stretch};
 use latex2mathml_attributes::columns::{Column, Columns};
-use latex2mathml_tex_atoms::atoms::{Before, Context, Core, Operand, Row, Scripts, Words};
+use latex2mathml_tex_atoms::atoms::{Before, Context, Core, Operand, Row, Scripts};
 use latex2mathml_tex_atoms::outlines::Outline;
 use latex2mathml_tex_commands::meaning::{
     Alphabet, Class, FractionRule, LimitPlace, OperandBox, Style,
@@ -41,8 +41,8 @@ pub(crate) enum Ending {
     BelowArrow,
     /// `\right`: the row is between delimiters, of which this is the opening one.
     Delimiters(Option<char>),
-    /// A dollar sign: the row is a formula after these words.
-    Formula(Words),
+    /// A dollar sign: the row is a formula in words, of which this many elements are read.
+    Formula(usize),
     /// What ends a cell: the row is a cell of this table.
     Cell(Table),
 }

@@ -336,13 +336,14 @@ impl<'a> Parser<'a> {
                 self.open(Frame::Last(Last::OverAndUnderArrow, place, small), next)
             }
             Ending::Delimiters(opening) => self.close_delimiters(opening, row, next),
-            Ending::Formula(words) => {
+            Ending::Formula(count) => {
                 put_braced(&mut self.builder, row.count, row.last)?;
                 // all elements of words are among those of the builder, so their number fits in a `usize`
                 let _ = self.builder.len();
                 *next = State::Words(Words {
-                    count: words.count + 1,
+                    count: count + 1,
                     ends_in_text: false,
+                    accent: None,
                 });
                 Ok(())
             }

@@ -1,16 +1,15 @@
 //! Words: what is in `\text` and the like.
-ghost use Rattle.std.specs.Prelude.{◌≡◌, ◌≢◌, ◌==◌, ◌||◌, false, true, OnOk, MatchOption, Some, None, option_map};
+ghost use Rattle.std.specs.Prelude.{◌≡◌, ◌≢◌, ◌==◌, ◌||◌, false, true, OnOk, MatchOption, Some, None, option_map, take};
 ghost use Rattle.std.specs.Str.{byte};
 ghost use Rattle.latex2mathml_tex_grammar.specs.Makes;
 ghost use Rattle.latex2mathml_tex_grammar.specs.Makes.{core};
-ghost use Rattle.latex2mathml_tex_grammar.specs.Words.{Formula, Shown, words_atom};
+ghost use Rattle.latex2mathml_tex_grammar.specs.Words.{Formula, Shown, text_atom};
 ghost use Rattle.latex2mathml_tex_grammar.specs.Words as words;
 ghost use Rattle.latex2mathml_tex_grammar.specs.Refusal.{CommandInWords, refusal_at};
 ghost use Rattle.latex2mathml_tex_grammar.specs.{Rows.single, Rules.gives, Symbols.InText, Units.Character, Units.Close, Units.Command};
 ghost use Rattle.latex2mathml_tex_units.specs.{Errors.refusal_of, Taking.piece_of};
 ghost use Rattle.latex2mathml_tex_commands.specs.Meanings.{alphabet_of, symbol_of};
-ghost use Rattle.latex2mathml_tex_atoms.specs.Models.{words_with};
-ghost use Rattle.latex2mathml_tex.specs.Steps.{Begins, BeginsWordOf, CanMake, HoldsIn, Advances, LeadsOn, Ready, WordGiven, core_made, elements_of, words_made};
+ghost use Rattle.latex2mathml_tex.specs.Steps.{Begins, BeginsWordOf, CanMake, EndsGroupOf, HoldsIn, Advances, LeadsOn, Ready, WordGiven, core_made, elements_of, words_made};
 
 use crate::parse::frames::{Ending, Frame};
 use crate::parse::symbols::put_symbol;
@@ -19,10 +18,11 @@ use latex2mathml_attributes::attributes::Attributes;
 use latex2mathml_attributes::tag::Token;
 use latex2mathml_tex_atoms::atoms::{Context, Core, Kind, Row, Words};
 use latex2mathml_tex_atoms::shapes::{put_row, with_atom};
+use latex2mathml_tex_atoms::words::{end_accent, put_character};
 use latex2mathml_tex_commands::alphabets::in_alphabet;
 use latex2mathml_tex_commands::commands;
 use latex2mathml_tex_commands::meaning::{Alphabet, Change, Class, Meaning, Style, Symbol};
-use latex2mathml_tex_commands::text_commands::text_character;
+use latex2mathml_tex_commands::text_commands::{text_accent, text_character};
 use latex2mathml_tex_units::dots::LOW_DOTS;
 use latex2mathml_tex_units::error::TexErrorKind;
 use latex2mathml_tex_units::unit::{Next, Piece, Unit};
@@ -108,12 +108,13 @@ impl<'a> Parser<'a> {
         ensures step { Advances 13 self.old self.new next.new result }
     {
         if c == '$' {
+            let words = end_accent(&mut self.builder, words)?;
             let context = Context {
                 style: Style::InText,
                 alphabet: None,
             };
             return self.open(
-                Frame::Row(Ending::Formula(words), place, context, Row::begun()),
+                Frame::Row(Ending::Formula(words.count), place, context, Row::begun()),
                 next,
             );
         }
@@ -144,6 +145,14 @@ impl<'a> Parser<'a> {
     {
         if let Some(c) = text_character(name) {
             return self.show(words, c, next);
+        }
+        if let Some(accent) = text_accent(name) {
+            let words = end_accent(&mut self.builder, words)?;
+            *next = State::Words(Words {
+                accent: Some(accent),
+                ..words
+            });
+            return Ok(());
         }
         match commands::look_up(name) {
             Some(meaning) => match meaning {
@@ -199,15 +208,15 @@ impl<'a> Parser<'a> {
         match self.frames.innermost(self.style) {
             Frame::Text => {
                 let _ = self.frames.take(self.style);
-                self.end_text(words, next)
+                let words = end_accent(&mut self.builder, words)?;
+                self.end_text(words.count, next)
             }
             Frame::Words(place, alphabet) => match self.input.peek() {
                 Next::Unit(unit) => match unit.piece {
                     Piece::Close => {
                         self.input.advance();
                         let _ = self.frames.take(self.style);
-                        *next = State::Words(words);
-                        Ok(())
+                        self.end_group(words, next)
                     }
                     _ => self.word(words, place, alphabet, next),
                 },
@@ -231,17 +240,7 @@ impl<'a> Parser<'a> {
             self.old self.new next.new result }
         ensures step { Advances 13 self.old self.new next.new result }
     {
-        if words.ends_in_text && words.count > 0 && self.builder.push(c)? {
-            *next = State::Words(words);
-            return Ok(());
-        }
-        self.builder
-            .character(Token::Mtext, Attributes::plain(), c)?;
-        let _ = self.builder.len();
-        *next = State::Words(Words {
-            count: words.count + 1,
-            ends_in_text: true,
-        });
+        *next = State::Words(put_character(&mut self.builder, words, c)?);
         Ok(())
     }
 
@@ -259,6 +258,7 @@ impl<'a> Parser<'a> {
             self.old self.new next.new result }
         ensures step { Advances 13 self.old self.new next.new result }
     {
+        let words = end_accent(&mut self.builder, words)?;
         let core = put_symbol(&mut self.builder, None, symbol)?;
         let row = with_atom(&mut self.builder, Style::InText, Row::empty(), core)?;
         put_row(&mut self.builder, row.count)?;
@@ -266,23 +266,33 @@ impl<'a> Parser<'a> {
         *next = State::Words(Words {
             count: words.count + 1,
             ends_in_text: false,
+            accent: None,
         });
         Ok(())
     }
 
-    /// Makes the words of a command its atom.
-    fn end_text(&mut self, words: Words, next: &mut State) -> Result<(), AllocError>
-        requires { CanMake core_made words.count self.old }
+    /// Ends words in braces, whose closing brace was taken.
+    fn end_group(&mut self, words: Words, next: &mut State) -> Result<(), AllocError>
+        requires { CanMake words_made words.count self.old }
+        ensures holds { LeadsOn (EndsGroupOf words) self.old self.new next.new result }
+        ensures step { Advances 6 self.old self.new next.new result }
+    {
+        *next = State::Words(end_accent(&mut self.builder, words)?);
+        Ok(())
+    }
+
+    /// Makes the elements of words the atom of their command.
+    fn end_text(&mut self, count: usize, next: &mut State) -> Result<(), AllocError>
+        requires { CanMake core_made count self.old }
         ensures holds { LeadsOn
-            (Begins (gives (core (words_atom (words_with words (elements_of self.old)))))
-            words.count)
+            (Begins (gives (core (text_atom (take count (elements_of self.old))))) count)
             self.old self.new next.new result }
         ensures step { Advances 6 self.old self.new next.new result }
     {
-        if words.count == 0 {
+        if count == 0 {
             self.builder.token(Token::Mtext, Attributes::plain())?;
         } else {
-            put_row(&mut self.builder, words.count)?;
+            put_row(&mut self.builder, count)?;
         }
         *next = State::Core(Core::new(Kind::Plain(Class::Ordinary), false));
         Ok(())

@@ -13,7 +13,7 @@ pub returns-then-c-eq36-clause-holds : goal.returns-then-c-eq36-clause-holds
 returns-then-c-eq36-clause-holds c = λ s g.
     let a : Option Alphabet = option_map alphabet_of c.args.alphabet in
     let piece = Character c.args.c in
-    c.open.ensures.holds s g.style (formula_begun s c.args.self.now c.args.words c.args.place piece a c.begun.result c.begun.ensures (dollar_rule a c.args.c c.if-c-eq36.true) g)
+    c.open.ensures.holds s g.style (formula_begun s c.args.self.now c.args.words c.args.place c.end_accent.new.builder c.in_ok-words.words piece a c.begun.result c.in_ok-words.ensures c.begun.ensures (dollar_rule a c.args.c c.if-c-eq36.true) g)
 
 pub returns-then-c-eq126-clause-holds : goal.returns-then-c-eq126-clause-holds
 returns-then-c-eq126-clause-holds c = λ s g.
@@ -37,7 +37,7 @@ returns-clause-holds c = λ s g.
     c.show-2.ensures.holds s (rw c.word_character.ensures (stands s c.args.self.now c.args.words (Character c.args.c) c.args.place a word rule g))
 
 pub returns-then-c-eq36-clause-step : goal.returns-then-c-eq36-clause-step
-returns-then-c-eq36-clause-step c = step_within c.args.self.now c.args.self.now c.open.new.self c.open.new.next c.open.result 6 13 (omega arith) c.open.ensures.step
+returns-then-c-eq36-clause-step c = step_within c.args.self.now (record c.args.self.now { builder = c.end_accent.new.builder }) c.open.new.self c.open.new.next c.open.result 6 13 (omega arith) c.open.ensures.step
 
 pub returns-then-is_no_word-clause-step : goal.returns-then-is_no_word-clause-step
 returns-then-is_no_word-clause-step c =

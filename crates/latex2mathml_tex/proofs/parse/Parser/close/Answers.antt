@@ -25,11 +25,11 @@ returns-in_ok-put_row-in-BelowArrow-clause-holds c = λ s g.
 
 pub returns-in_ok-put_braced-in-Formula-clause-holds : goal.returns-in_ok-put_braced-in-Formula-clause-holds
 returns-in_ok-put_braced-in-Formula-clause-holds c = λ s g.
-    formula_closed s c.args.self.now c.put_braced.new.builder c.args.place c.args.row c.in_ok-put_braced-in-Formula.ensures c.in-Formula.words (rw c.in-Formula.is at g)
+    formula_closed s c.args.self.now c.put_braced.new.builder c.args.place c.args.row c.in_ok-put_braced-in-Formula.ensures c.in-Formula.count (rw c.in-Formula.is at g)
 
 pub returns-in_ok-put_braced-in-Formula-clause-step : goal.returns-in_ok-put_braced-in-Formula-clause-step
 returns-in_ok-put_braced-in-Formula-clause-step c =
-    words_closed_step c.args.self.now c.put_braced.new.builder c.args.row c.in_ok-put_braced-in-Formula.ensures c.in-Formula.words.count (rw c.in-Formula.is at c.requires.can)
+    words_closed_step c.args.self.now c.put_braced.new.builder c.args.row c.in_ok-put_braced-in-Formula.ensures c.in-Formula.count (rw c.in-Formula.is at c.requires.can)
 
 pub open-requires-clause-can : goal.open-requires-clause-can
 open-requires-clause-can c = closed_can c.args.self.now c.put_row.new.builder c.args.row c.in_ok-put_row-in-Degree.ensures core_made 0 (rw c.in-Degree.is at c.requires.can)

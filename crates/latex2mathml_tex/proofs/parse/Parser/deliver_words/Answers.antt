@@ -1,4 +1,4 @@
-use Rattle.std.proofs.Common.{◌≡◌, ◌∙◌, Some, ap, arith, refl, suc}
+use Rattle.std.proofs.Common.{◌≡◌, ◌∙◌, ◌+◌, Some, ap, arith, refl, suc}
 use Rattle.latex2mathml_tex_grammar.specs.Refusal.{UnclosedBrace, refusal_at}
 use Rattle.latex2mathml_tex_grammar.specs.Starts.{is_close}
 use Rattle.latex2mathml_tex_grammar.specs.Units.{End, Next, Stop}
@@ -8,49 +8,57 @@ use Rattle.latex2mathml_tex.specs.Steps.{left_of}
 use Rattle.latex2mathml_tex.specs.declared.parse.frames.Frame.TheVariants as frame
 use Rattle.latex2mathml_tex.proofs.Rows.{step_within}
 use Rattle.latex2mathml_tex.proofs.WordStarts.{other_piece, taken_innermost}
-use Rattle.latex2mathml_tex.proofs.Taken.{braces_step, taken_can, taken_step, text_taken}
+use Rattle.latex2mathml_tex.proofs.Taken.{taken_can, taken_step, text_taken}
 use Rattle.latex2mathml_tex.proofs.Wording.{braces_closed, braces_unended, word_behind, word_stops}
 use Rattle.latex2mathml_tex.proofs.parse.Parser.deliver_words.Goals as goal
+
+pub end_accent-requires : goal.end_accent-requires
+end_accent-requires c = omega (arith, c.requires.elements)
 
 pub end_text-requires : goal.end_text-requires
 end_text-requires c =
     let p = c.args.self.now in
     let inner = taken_innermost p.style p.frames.stack.items c.in-Text.ensures.0 c.take.new.self.stack.items frame.Text c.take.result c.in-Text.ensures.1 c.take.ensures in
-    taken_can p c.take.new.self frame.Text inner c.args.words.count _ c.requires.elements c.requires.may_come.nested (omega arith)
+    let can = taken_can p c.take.new.self frame.Text inner c.args.words.count (c.args.words.count + 0) c.requires.elements c.requires.may_come.nested (omega arith) in
+    record { elements = omega (arith, can.elements, c.in_ok-words-in-Text.ensures.grown); awaits = record { accepted = can.awaits.accepted; nested = can.awaits.nested } }
 
-pub returns-in-Text-clause-holds : goal.returns-in-Text-clause-holds
-returns-in-Text-clause-holds c = λ s h.
+pub returns-in_ok-words-in-Text-clause-holds : goal.returns-in_ok-words-in-Text-clause-holds
+returns-in_ok-words-in-Text-clause-holds c = λ s h.
     let p = c.args.self.now in
     let inner = taken_innermost p.style p.frames.stack.items c.in-Text.ensures.0 c.take.new.self.stack.items frame.Text c.take.result c.in-Text.ensures.1 c.take.ensures in
-    c.end_text.ensures.holds s (text_taken p c.take.new.self frame.Text inner s c.args.words refl h)
+    c.end_text.ensures.holds s (text_taken p c.take.new.self frame.Text inner s c.end_accent.new.builder c.args.words c.in_ok-words-in-Text.words refl c.in_ok-words-in-Text.ensures h)
 
-pub returns-in-Text-clause-step : goal.returns-in-Text-clause-step
-returns-in-Text-clause-step c =
+pub returns-in_ok-words-in-Text-clause-step : goal.returns-in_ok-words-in-Text-clause-step
+returns-in_ok-words-in-Text-clause-step c =
     let p = c.args.self.now in
+    let b = c.end_accent.new.builder in
     let inner = taken_innermost p.style p.frames.stack.items c.in-Text.ensures.0 c.take.new.self.stack.items frame.Text c.take.result c.in-Text.ensures.1 c.take.ensures in
-    taken_step p c.take.new.self frame.Text inner 6 2 c.end_text.new.self c.end_text.new.next c.end_text.result (omega arith) c.end_text.ensures.step
+    taken_step (record p { builder = b }) c.take.new.self frame.Text inner 6 2 c.end_text.new.self c.end_text.new.next c.end_text.result (omega arith) c.end_text.ensures.step
 
-pub returns-in-Close-clause-holds : goal.returns-in-Close-clause-holds
-returns-in-Close-clause-holds c = λ s h.
+pub end_group-requires : goal.end_group-requires
+end_group-requires c =
+    let p = c.args.self.now in
+    let frames = c.take-in-Close.new.self in
+    let braces = frame.Words c.in-Words.place c.in-Words.alphabet in
+    let inner = taken_innermost p.style p.frames.stack.items c.in-Words.ensures.0 frames.stack.items braces c.take-in-Close.result c.in-Words.ensures.1 c.take-in-Close.ensures in
+    let can = taken_can p frames braces inner c.args.words.count (c.args.words.count + 0) c.requires.elements c.requires.may_come.nested (omega arith) in
+    record { elements = omega (arith, can.elements); awaits = record { accepted = can.awaits.accepted; nested = can.awaits.nested } }
+
+pub returns-in-Close : goal.returns-in-Close
+returns-in-Close c =
     let p = c.args.self.now in
     let i = c.advance.new.self in
     let frames = c.take-in-Close.new.self in
     let braces = frame.Words c.in-Words.place c.in-Words.alphabet in
     let inner = taken_innermost p.style p.frames.stack.items c.in-Words.ensures.0 frames.stack.items braces c.take-in-Close.result c.in-Words.ensures.1 c.take-in-Close.ensures in
     let stands : left_of p ≡ Next (unit_of c.in-Unit.unit) (units_at i) = passed c.peek.result p.input i c.peek.ensures c.advance.ensures.left ∙ ap (λ n. put_back n (units_at i)) c.in-Unit.is in
+    let left : unit_count (left_of p) ≡ suc (unit_count (units_at i)) = ap unit_count stands in
     let close = ap (λ piece. is_close (piece_of piece)) c.in-Close.is in
-    braces_closed s p c.args.words c.in-Words.place c.in-Words.alphabet frames.stack.items inner h i frames (unit_of c.in-Unit.unit) refl stands close
-
-pub returns-in-Close-clause-step : goal.returns-in-Close-clause-step
-returns-in-Close-clause-step c =
-    let p = c.args.self.now in
-    let i = c.advance.new.self in
-    let frames = c.take-in-Close.new.self in
-    let stands : left_of p ≡ Next (unit_of c.in-Unit.unit) (units_at i) = passed c.peek.result p.input i c.peek.ensures c.advance.ensures.left ∙ ap (λ n. put_back n (units_at i)) c.in-Unit.is in
-    let less : unit_count (left_of p) ≡ suc (unit_count (units_at i)) = ap unit_count stands in
-    let braces = frame.Words c.in-Words.place c.in-Words.alphabet in
-    let inner = taken_innermost p.style p.frames.stack.items c.in-Words.ensures.0 frames.stack.items braces c.take-in-Close.result c.in-Words.ensures.1 c.take-in-Close.ensures in
-    braces_step p frames braces inner i c.in-Words.place c.in-Words.alphabet c.args.words refl c.requires (omega (arith, less))
+    let step = taken_step (record p { input = i }) frames braces inner 6 2 c.end_group.new.self c.end_group.new.next c.end_group.result (omega arith) c.end_group.ensures.step in
+    record {
+      holds = λ s h. c.end_group.ensures.holds s (braces_closed s p c.args.words c.in-Words.place c.in-Words.alphabet frames.stack.items inner h i frames (unit_of c.in-Unit.unit) refl stands close);
+      step = step_within p (record p { input = i }) c.end_group.new.self c.end_group.new.next c.end_group.result 2 2 (omega (arith, left)) step;
+    }
 
 pub returns-in_default-piece : goal.returns-in_default-piece
 returns-in_default-piece c =

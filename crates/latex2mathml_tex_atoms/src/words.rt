@@ -1,0 +1,58 @@
+//! The texts of words. The elements of words are the top elements of the builder.
+ghost use Rattle.std.specs.Prelude.{◌≤◌, IfOk, length};
+ghost use Rattle.latex2mathml_builder.specs.Built.{elements_in};
+ghost use Rattle.latex2mathml_tex_grammar.specs.{Makes.text, Words.with_accent_ended, Words.with_character};
+ghost use Rattle.latex2mathml_tex_atoms.specs.Wording.{Replaces, lengthened};
+
+use crate::atoms::Words;
+use latex2mathml_attributes::attributes::Attributes;
+use latex2mathml_attributes::tag::Token;
+use latex2mathml_builder::builder::Builder;
+use std::alloc::AllocError;
+
+/// Appends a character to words, with their accent on it if there is one. Returns the words with it.
+pub fn put_character(builder: &mut Builder, words: Words, c: char) -> Result<Words, AllocError>
+    requires { words.count ≤ length (elements_in builder.old) }
+    ensures { IfOk result (Replaces (λ ws. with_character ws (text c)) words builder.old builder.new) }
+{
+    let with_c = put_text(builder, words, c)?;
+    match words.accent {
+        None => Ok(with_c),
+        Some(accent) => {
+            let with_accent = put_text(builder, with_c, accent)?;
+            Ok(Words {
+                accent: None,
+                ..with_accent
+            })
+        }
+    }
+}
+
+/// Puts the accent of words, if they have one, on a space, since no character follows it. Returns the words without it.
+pub fn end_accent(builder: &mut Builder, words: Words) -> Result<Words, AllocError>
+    requires { words.count ≤ length (elements_in builder.old) }
+    ensures { IfOk result (Replaces with_accent_ended words builder.old builder.new) }
+{
+    match words.accent {
+        None => Ok(words),
+        Some(_) => put_character(builder, words, '\u{a0}'),
+    }
+}
+
+/// Appends a character to words. Their accent stays.
+fn put_text(builder: &mut Builder, words: Words, c: char) -> Result<Words, AllocError>
+    requires { words.count ≤ length (elements_in builder.old) }
+    ensures { IfOk result (Replaces (lengthened (text c)) words builder.old builder.new) }
+{
+    if words.ends_in_text && words.count > 0 && builder.push(c)? {
+        return Ok(words);
+    }
+    builder.character(Token::Mtext, Attributes::plain(), c)?;
+    // all elements of words are among those of the builder, so their number fits in a `usize`
+    let _ = builder.len();
+    Ok(Words {
+        count: words.count + 1,
+        ends_in_text: true,
+        ..words
+    })
+}
