@@ -34,6 +34,7 @@ usual_entries =
     (codes "bmod", 0, codes "\\mskip5mu\\mathbin{\\operatorname{mod}}\\mskip5mu") ∷
     (codes "bra", 1, codes "\\langle #1|") ∷
     (codes "braket", 1, codes "\\langle #1\\rangle") ∷
+    (codes "cases", 1, codes "\\begin{cases}#1\\end{cases}") ∷
     (codes "centering", 0, codes "") ∷
     (codes "clap", 1, codes "\\mathclap{\\text{#1}}") ∷
     (codes "colon", 0, codes "\\mskip2mu\\mathord{:}\\mskip6mu") ∷
@@ -47,6 +48,7 @@ usual_entries =
     (codes "colonminus", 0, codes "\\mathrel{:\\relbar}") ∷
     (codes "colonsim", 0, codes "\\mathrel{:\\sim}") ∷
     (codes "colorbox", 2, codes "\\mathcolorbox{#1}{\\text{#2}}") ∷
+    (codes "displaylines", 1, codes "\\begin{gathered}#1\\end{gathered}") ∷
     (codes "dotsb", 0, codes "\\cdots") ∷
     (codes "dotsc", 0, codes "\\ldots") ∷
     (codes "dotsi", 0, codes "\\cdots") ∷
@@ -55,6 +57,7 @@ usual_entries =
     (codes "dotsx", 0, codes "\\ldots\\,") ∷
     (codes "em", 0, codes "\\it") ∷
     (codes "ensuremath", 1, codes "#1") ∷
+    (codes "eqalign", 1, codes "\\begin{aligned}#1\\end{aligned}") ∷
     (codes "eqno", 0, codes "\\qquad\\textstyle") ∷
     (codes "equalscoloncolon", 0, codes "\\mathrel{=::}") ∷
     (codes "fbox", 1, codes "\\boxed{\\text{#1}}") ∷
@@ -76,6 +79,7 @@ usual_entries =
     (codes "long", 0, codes "") ∷
     (codes "lq", 0, codes "`") ∷
     (codes "mathstrut", 0, codes "\\vphantom{(}") ∷
+    (codes "matrix", 1, codes "\\begin{matrix}#1\\end{matrix}") ∷
     (codes "mdseries", 0, codes "") ∷
     (codes "minuscoloncolon", 0, codes "\\mathrel{\\relbar::}") ∷
     (codes "mod", 1, codes "\\mathchoice{\\mkern18mu}{\\mkern12mu}{\\mkern12mu}{\\mkern12mu}\\mathrm{mod}\\,\\,#1") ∷
@@ -85,6 +89,7 @@ usual_entries =
     (codes "normalsize", 0, codes "") ∷
     (codes "notag", 0, codes "") ∷
     (codes "operatornamewithlimits", 0, codes "\\operatorname*") ∷
+    (codes "pmatrix", 1, codes "\\begin{pmatrix}#1\\end{pmatrix}") ∷
     (codes "pmod", 1, codes "\\pod{\\mathrm{mod}\\mkern6mu#1}") ∷
     (codes "pod", 1, codes "\\mathchoice{\\mkern18mu}{\\mkern8mu}{\\mkern8mu}{\\mkern8mu}(#1)") ∷
     (codes "qed", 0, codes "\\square") ∷

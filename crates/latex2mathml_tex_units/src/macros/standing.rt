@@ -186,6 +186,7 @@ fn turns_up_to_l(first: u8, second: u8, len: usize) -> bool
             _ => false,
         },
         b'c' => match second {
+            b'a' => len == 5,
             b'e' => len == 9,
             b'l' => len == 4,
             b'o' => matches!(len, 5 | 7 | 8 | 10 | 11 | 13 | 15 | 16),
@@ -193,13 +194,14 @@ fn turns_up_to_l(first: u8, second: u8, len: usize) -> bool
         },
         b'd' => match second {
             b'e' => len == 3,
+            b'i' => len == 12,
             b'o' => len == 5,
             _ => false,
         },
         b'e' => match second {
             b'm' => len == 2,
             b'n' => len == 10,
-            b'q' => matches!(len, 4 | 16),
+            b'q' => matches!(len, 4 | 7 | 16),
             _ => false,
         },
         b'f' => match second {
@@ -242,7 +244,7 @@ fn turns_from_m(first: u8, second: u8, len: usize) -> bool
 {
     match first {
         b'm' => match second {
-            b'a' => len == 9,
+            b'a' => matches!(len, 6 | 9),
             b'd' => len == 8,
             b'i' => len == 15,
             b'o' => len == 3,
@@ -255,7 +257,7 @@ fn turns_from_m(first: u8, second: u8, len: usize) -> bool
         },
         b'o' => second == b'p' && len == 22,
         b'p' => match second {
-            b'm' => len == 4,
+            b'm' => matches!(len, 4 | 7),
             b'o' => len == 3,
             b'r' => len == 14,
             _ => false,

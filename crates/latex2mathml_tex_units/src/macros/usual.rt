@@ -30,7 +30,7 @@ fn entries() -> &'static [Usual]
 
 /// An entry for each macro, in the order of their names' bytes.
 #[rattlefmt::skip]
-static ENTRIES: [Usual; 119] = [
+static ENTRIES: [Usual; 124] = [
     Usual { name: "(", arity: 0, body: "$" },
     Usual { name: ")", arity: 0, body: "$" },
     Usual { name: "*", arity: 0, body: "" },
@@ -57,6 +57,7 @@ static ENTRIES: [Usual; 119] = [
     Usual { name: "bmod", arity: 0, body: "\\mskip5mu\\mathbin{\\operatorname{mod}}\\mskip5mu" },
     Usual { name: "bra", arity: 1, body: "\\langle #1|" },
     Usual { name: "braket", arity: 1, body: "\\langle #1\\rangle" },
+    Usual { name: "cases", arity: 1, body: "\\begin{cases}#1\\end{cases}" },
     Usual { name: "centering", arity: 0, body: "" },
     Usual { name: "clap", arity: 1, body: "\\mathclap{\\text{#1}}" },
     Usual { name: "colon", arity: 0, body: "\\mskip2mu\\mathord{:}\\mskip6mu" },
@@ -70,6 +71,7 @@ static ENTRIES: [Usual; 119] = [
     Usual { name: "colonminus", arity: 0, body: "\\mathrel{:\\relbar}" },
     Usual { name: "colonsim", arity: 0, body: "\\mathrel{:\\sim}" },
     Usual { name: "colorbox", arity: 2, body: "\\mathcolorbox{#1}{\\text{#2}}" },
+    Usual { name: "displaylines", arity: 1, body: "\\begin{gathered}#1\\end{gathered}" },
     Usual { name: "dotsb", arity: 0, body: "\\cdots" },
     Usual { name: "dotsc", arity: 0, body: "\\ldots" },
     Usual { name: "dotsi", arity: 0, body: "\\cdots" },
@@ -78,6 +80,7 @@ static ENTRIES: [Usual; 119] = [
     Usual { name: "dotsx", arity: 0, body: "\\ldots\\," },
     Usual { name: "em", arity: 0, body: "\\it" },
     Usual { name: "ensuremath", arity: 1, body: "#1" },
+    Usual { name: "eqalign", arity: 1, body: "\\begin{aligned}#1\\end{aligned}" },
     Usual { name: "eqno", arity: 0, body: "\\qquad\\textstyle" },
     Usual { name: "equalscoloncolon", arity: 0, body: "\\mathrel{=::}" },
     Usual { name: "fbox", arity: 1, body: "\\boxed{\\text{#1}}" },
@@ -99,6 +102,7 @@ static ENTRIES: [Usual; 119] = [
     Usual { name: "long", arity: 0, body: "" },
     Usual { name: "lq", arity: 0, body: "`" },
     Usual { name: "mathstrut", arity: 0, body: "\\vphantom{(}" },
+    Usual { name: "matrix", arity: 1, body: "\\begin{matrix}#1\\end{matrix}" },
     Usual { name: "mdseries", arity: 0, body: "" },
     Usual { name: "minuscoloncolon", arity: 0, body: "\\mathrel{\\relbar::}" },
     Usual { name: "mod", arity: 1, body: "\\mathchoice{\\mkern18mu}{\\mkern12mu}{\\mkern12mu}{\\mkern12mu}\\mathrm{mod}\\,\\,#1" },
@@ -108,6 +112,7 @@ static ENTRIES: [Usual; 119] = [
     Usual { name: "normalsize", arity: 0, body: "" },
     Usual { name: "notag", arity: 0, body: "" },
     Usual { name: "operatornamewithlimits", arity: 0, body: "\\operatorname*" },
+    Usual { name: "pmatrix", arity: 1, body: "\\begin{pmatrix}#1\\end{pmatrix}" },
     Usual { name: "pmod", arity: 1, body: "\\pod{\\mathrm{mod}\\mkern6mu#1}" },
     Usual { name: "pod", arity: 1, body: "\\mathchoice{\\mkern18mu}{\\mkern8mu}{\\mkern8mu}{\\mkern8mu}(#1)" },
     Usual { name: "qed", arity: 0, body: "\\square" },
