@@ -53,20 +53,20 @@ text_commands =
 -- follows the accented one
 unfoldable pub text_accents : List (List ℕ × ℕ)
 text_accents =
-    (codes "\"", 0x0308) ∷  -- ̈
-    (codes "'", 0x0301) ∷  -- ́
-    (codes ".", 0x0307) ∷  -- ̇
-    (codes "=", 0x0304) ∷  -- ̄
-    (codes "H", 0x030B) ∷  -- ̋
-    (codes "^", 0x0302) ∷  -- ̂
-    (codes "`", 0x0300) ∷  -- ̀
-    (codes "b", 0x0331) ∷  -- ̱
-    (codes "c", 0x0327) ∷  -- ̧
-    (codes "d", 0x0323) ∷  -- ̣
-    (codes "k", 0x0328) ∷  -- ̨
-    (codes "r", 0x030A) ∷  -- ̊
-    (codes "t", 0x0361) ∷  -- ͡
-    (codes "u", 0x0306) ∷  -- ̆
-    (codes "v", 0x030C) ∷  -- ̌
-    (codes "~", 0x0303) ∷  -- ̃
+    (codes "\"", 0x0308) ∷  -- ◌̈
+    (codes "'", 0x0301) ∷  -- ◌́
+    (codes ".", 0x0307) ∷  -- ◌̇
+    (codes "=", 0x0304) ∷  -- ◌̄
+    (codes "H", 0x030B) ∷  -- ◌̋
+    (codes "^", 0x0302) ∷  -- ◌̂
+    (codes "`", 0x0300) ∷  -- ◌̀
+    (codes "b", 0x0331) ∷  -- ◌̱
+    (codes "c", 0x0327) ∷  -- ◌̧
+    (codes "d", 0x0323) ∷  -- ◌̣
+    (codes "k", 0x0328) ∷  -- ◌̨
+    (codes "r", 0x030A) ∷  -- ◌̊
+    (codes "t", 0x0361) ∷  -- ◌͡
+    (codes "u", 0x0306) ∷  -- ◌̆
+    (codes "v", 0x030C) ∷  -- ◌̌
+    (codes "~", 0x0303) ∷  -- ◌̃
     []

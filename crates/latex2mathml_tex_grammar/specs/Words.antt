@@ -61,7 +61,7 @@ abbrev pub accent_rule : List ℕ → Option ℕ → WordRule
 accent_rule name (Some accent) = IsWord (Accented accent)
 accent_rule name None = meaning_rule name (meaning_of name)
 
--- what a command is in words: one character, where it is one, or else what follows above
+-- what a command is in words: one character, where it is one, or else as above
 abbrev pub command_rule : List ℕ → Option ℕ → WordRule
 command_rule name (Some c) = IsWord (Shown (text c))
 command_rule name None = accent_rule name (entry_of_name text_accents name)
@@ -74,8 +74,8 @@ word_rule alphabet Close = EndsGroup
 word_rule alphabet (Character c) = character_rule alphabet c
 word_rule alphabet (Command name) = command_rule name (entry_of_name text_commands name)
 
--- Words so far: their elements, the last one first; whether the last one is a text; and the accent that the next character gets,
--- if there is one.
+-- Words so far: their elements, the last one first; whether the last one is a text; and the accent that the next character
+-- gets, if there is one.
 pub record Words : Type 0 where
   pub elements : List Element
   pub ends_in_text : Bool
