@@ -1,5 +1,5 @@
 -- How rules, operands and words begin with the unit that was taken.
-use Rattle.std.proofs.Common.{◌≡◌, ℕ, ◌+◌, ◌≤◌, suc, false, true, List, [], ◌∷◌, ◌++◌, Option, Some, option_map, reverse, sum_by, refl, sym, ap, ◌∙◌, subst, arith}
+use Rattle.std.proofs.Common.{◌≡◌, ℕ, ◌+◌, ◌≤◌, suc, false, true, List, [], ◌∷◌, ◌++◌, Option, None, Some, option_map, reverse, sum_by, refl, sym, ap, ◌∙◌, subst, arith}
 use Rattle.std.proofs.lemmas.{List.reverse-append, List.Sums.sum_by_push}
 use Rattle.std.specs.Char.{is_ascii_digit}
 use Rattle.latex2mathml_elements.specs.Element.{Element}
