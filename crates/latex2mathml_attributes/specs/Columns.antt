@@ -4,6 +4,7 @@ use Rattle.latex2mathml_elements.specs.Columns as defined
 use Rattle.latex2mathml_elements.specs.Lines as lines
 use Rattle.latex2mathml_elements.specs.Print.{alignment_style, alignment_text, spacing_style}
 use Rattle.latex2mathml_attributes.specs.Lines.{line_of}
+use Rattle.latex2mathml_attributes.specs.declared.columns.TheConstants.{MOST_COLUMNS}
 use Rattle.latex2mathml_attributes.specs.declared.columns.Alignment.{Alignment}
 use Rattle.latex2mathml_attributes.specs.declared.columns.Alignment.TheVariants as alignment
 use Rattle.latex2mathml_attributes.specs.declared.columns.Column.{Column}
@@ -67,12 +68,12 @@ columns_with kind.Listed line listed = defined.Listed line listed
 abbrev pub columns_of : Columns → defined.Columns
 columns_of c = columns_with c.kind (line_of c.before) (map listed_of (take c.len c.listed))
 
--- the columns are a list of fewer than 16
+-- the columns are a list, and more can be listed
 abbrev pub has_room : defined.Columns → Bool
-has_room (defined.Listed line columns) = nat_lt (length columns) 16
+has_room (defined.Listed line columns) = nat_lt (length columns) MOST_COLUMNS
 has_room columns = false
 
 -- one more column, if there is room
 abbrev pub listed_behind : defined.Column → defined.Columns → defined.Columns
-listed_behind column (defined.Listed line columns) = defined.Listed line (if nat_lt (length columns) 16 then columns ++ column ∷ [] else columns)
+listed_behind column (defined.Listed line columns) = defined.Listed line (if nat_lt (length columns) MOST_COLUMNS then columns ++ column ∷ [] else columns)
 listed_behind column columns = columns

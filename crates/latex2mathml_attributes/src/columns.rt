@@ -9,6 +9,9 @@ ghost use Rattle.latex2mathml_attributes.specs.Lines.{line_of};
 use crate::line::Line;
 use std::alloc::AllocError;
 
+/// How many columns can be listed.
+pub const MOST_COLUMNS: usize = 32;
+
 /// How the cells of a column are aligned.
 #[derive(Debug, Clone, Copy)]
 pub enum Alignment {
@@ -57,7 +60,7 @@ pub struct Columns {
     /// What is drawn before the first listed column.
     before: Line,
     /// An array and its length, since parts are copied, and a list that allocates cannot be.
-    listed: [ListedColumn; 16],
+    listed: [ListedColumn; MOST_COLUMNS],
     len: u8,
 }
 
@@ -184,7 +187,7 @@ impl Columns {
         ensures { columns_of result ≡ Listed NoLine (unlined RightAligned ∷ unlined Centered
             ∷ unlined LeftAligned ∷ []) }
     {
-        let mut listed = [ListedColumn::Centered; 16];
+        let mut listed = [ListedColumn::Centered; MOST_COLUMNS];
         listed[0] = ListedColumn::RightAligned;
         listed[2] = ListedColumn::LeftAligned;
         Columns {
@@ -202,19 +205,19 @@ impl Columns {
         Columns {
             kind: Kind::Listed,
             before,
-            listed: [ListedColumn::Centered; 16],
+            listed: [ListedColumn::Centered; MOST_COLUMNS],
             len: 0,
         }
     }
 
-    /// Adds a column to the listed ones, of which there can be 16. Returns whether there is room, and changes nothing if there
-    /// is none. Columns that are not a list have no room.
+    /// Adds a column to the listed ones. Returns whether there is room, and changes nothing if there is none. Columns that are
+    /// not a list have no room.
     pub fn push(&mut self, column: ListedColumn) -> bool
         ensures columns { columns_of self.new
             ≡ listed_behind (listed_of column) (columns_of self.old) }
         ensures room { result ≡ has_room (columns_of self.old) }
     {
-        if !matches!(self.kind, Kind::Listed) || self.len >= 16 {
+        if !matches!(self.kind, Kind::Listed) || self.len as usize >= MOST_COLUMNS {
             return false;
         }
         self.listed[self.len as usize] = column;
@@ -263,7 +266,7 @@ impl Columns {
         }
         let len = self.len as usize;
         let mut place = 0;
-        'columns: while place < len && place < 16 {
+        'columns: while place < len && place < MOST_COLUMNS {
             if self.listed[place].line().is_drawn() {
                 return true;
             }

@@ -4,8 +4,8 @@ use Rattle.std.proofs.lemmas.Bool.{cases_Bool}
 use Rattle.std.specs.{Char.is_ascii_alphabetic, Char.is_ascii_digit, Str.byte, Str.bytes_eq}
 use Rattle.latex2mathml_elements.specs.Element.{Element}
 use Rattle.latex2mathml_elements.specs.Columns.{Columns}
-use Rattle.latex2mathml_tex_grammar.specs.Environments.{Environment, Bracket, NoBracket, Position, Alignment, columns_of, environment_of}
-use Rattle.latex2mathml_tex_grammar.specs.Scanning.{Spot, Argument, Name, ColumnList, Number, ColorName, InLength, AtBracket, AtUnit, BeforeLengthInBraces}
+use Rattle.latex2mathml_tex_grammar.specs.Environments.{Environment, Bracket, NoBracket, Position, Alignment, columns_of, written_out, environment_of}
+use Rattle.latex2mathml_tex_grammar.specs.Scanning.{Spot, Argument, Name, ColumnList, RepeatedColumns, Number, ColorName, InLength, AtBracket, AtUnit, BeforeLengthInBraces}
 use Rattle.latex2mathml_tex_grammar.specs.Tables.{Lines}
 use Rattle.latex2mathml_tex_grammar.specs.{Commands.meaning_of, Commands.symbol_of, Delimiters.delimiter_of, Makes.Core, Makes.Outline, Refusal.Refusal, Rows.Row, Rows.Operand, Symbols.Alphabet, Symbols.Style, Symbols.Symbol, Words.Words}
 use Rattle.latex2mathml_tex_grammar.specs.Meaning.{Meaning, takes_words, Shows, FunctionName, Dots, Spacing, Styled, Words as TakesWordsIn, Fraction, Root, Accent, Brace, Stack, StackedRelation, OperatorName, Negation, Slash, Sized, Left, Middle, Right, Limits, NoLimits, Classed, Changes, BeginTable, EndTable, LineBreak, Substack, Skip, SkipInBraces, Boxed, Smash, ContinuedFraction, GeneralFraction, Choice, Raise, InColor, Highlight, Rectangle, Arrow}
@@ -240,8 +240,9 @@ listed_too p q c name e signs = either (nat_le (length (columns_of signs)) most_
 
 argument_too : {at : Standing} (p q : ℕ) (c : Context) (name : List ℕ) (e : Environment) (argument : Option Argument) → AlikeRules at at (argument_rule p c name e argument) (argument_rule q c name e argument)
 argument_too p q c name e None = rows_of_too p q c name e _
-argument_too p q c name e (Some ColumnList) = scanned_too (λ signs. listed_too p q c name e signs)
+argument_too p q c name e (Some ColumnList) = scanned_too (λ signs. listed_too p q c name e (written_out signs))
 argument_too p q c name e (Some Number) = scanned_too (λ number. rows_of_too p q c name e _)
+argument_too p q c name e (Some RepeatedColumns) = rows_of_too p q c name e _
 argument_too p q c name e (Some Name) = rows_of_too p q c name e _
 argument_too p q c name e (Some ColorName) = rows_of_too p q c name e _
 

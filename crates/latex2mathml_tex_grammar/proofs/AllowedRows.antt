@@ -5,10 +5,10 @@ use Rattle.std.specs.{Bool.⊤, Char.encode_utf8, List.list_all, Str.bytes_eq, S
 use Rattle.latex2mathml_elements.specs.Characters.{IsAllowed, HasAllowedTexts, EachTextOf, EachTextOfCells, EachTextOfRows}
 use Rattle.latex2mathml_elements.specs.{Columns.Columns, Columns.Centered, Columns.LeftAligned, Columns.RightAligned, Columns.Alike, Columns.Listed, Tables.are_line, Tables.cells_behind, Tables.cells_in, Lines.Line, Lines.NoLine, Lines.OneLine, Lines.TwoLines, Lines.Dashes, Lines.is_drawn, Tables.is_line as is_row_line, Tables.line_of, Tables.rows_behind}
 use Rattle.latex2mathml_elements.specs.Element.{Mrow, Msqrt, Mstyle, Mpadded, Mphantom, Element, Elements, Rows, token, space, rectangle, container, pair, triple, table, more, none}
-use Rattle.latex2mathml_tex_grammar.specs.Environments.{columns_of, line_at, Environment, Bracket, NoBracket, Position, Alignment, environments, entry_environment, environment_of}
+use Rattle.latex2mathml_tex_grammar.specs.Environments.{columns_of, line_at, written_out, Environment, Bracket, NoBracket, Position, Alignment, environments, entry_environment, environment_of}
 use Rattle.latex2mathml_tex_grammar.specs.{Rows.row_element, Symbols.Style}
 use Rattle.latex2mathml_tex_grammar.specs.Rules.{Context, ended_table, rows_rule, most_columns, listed_rule, argument_rule, bracket_rule, environment_rule}
-use Rattle.latex2mathml_tex_grammar.specs.Scanning.{Argument, Name, ColumnList, Number, ColorName, Deed, Passes, Adds, Ends, Leaves, Misses, Refuses, Spot, deed, done, may_end, found_at_end, with_character, Found, Given, Missing, scan, behind_found, past, past_break, BeforeStar, BeforeLength, BeforeRow}
+use Rattle.latex2mathml_tex_grammar.specs.Scanning.{Argument, Name, ColumnList, RepeatedColumns, Number, ColorName, Deed, Passes, Adds, Ends, Leaves, Misses, Refuses, Spot, deed, done, may_end, found_at_end, with_character, Found, Given, Missing, scan, behind_found, past, past_break, BeforeStar, BeforeLength, BeforeRow}
 use Rattle.latex2mathml_tex_grammar.specs.RowLines.{lined}
 use Rattle.latex2mathml_tex_grammar.specs.Tables.{Lines, a_row, with_last, rows_onto, between_any, a_table}
 use Rattle.latex2mathml_tex_grammar.specs.Refusal.{Refusal}
@@ -114,8 +114,9 @@ listed_allowed place c name e signs h = of_either IsAllowedRule (nat_le (length 
 
 argument_allowed : (place : ℕ) (c : Context) (name : List ℕ) (e : Environment) (argument : Option Argument) → are_allowed_delimiters e.delimiters ≡ true → IsAllowedRule (argument_rule place c name e argument)
 argument_allowed place c name e None h = rows_rule_allowed place c name e e.columns h
-argument_allowed place c name e (Some ColumnList) h = λ letters. listed_allowed place c name e letters h
+argument_allowed place c name e (Some ColumnList) h = λ signs. listed_allowed place c name e (written_out signs) h
 argument_allowed place c name e (Some Number) h = λ number. rows_rule_allowed place c name e e.columns h
+argument_allowed place c name e (Some RepeatedColumns) h = rows_rule_allowed place c name e e.columns h
 argument_allowed place c name e (Some Name) h = rows_rule_allowed place c name e e.columns h
 argument_allowed place c name e (Some ColorName) h = rows_rule_allowed place c name e e.columns h
 

@@ -5,7 +5,7 @@ use Rattle.std.specs.{Char.encode_utf8, Str.byte}
 use Rattle.latex2mathml_tex_grammar.specs.{Commands.command_entries, Commands.meaning_of, CommandsFromM.commands_from_m, CommandsUpToL.commands_up_to_l}
 use Rattle.latex2mathml_tex_grammar.specs.Meaning.{takes_words}
 use Rattle.latex2mathml_tex_grammar.specs.Refusal.{UnknownColumn, Refusal}
-use Rattle.latex2mathml_tex_grammar.specs.Scanning.{Name, ColumnList, Number, ColorName, Spot, BeforeArgument, InArgument, BeforeGap, InGap, BeforeBrace, BeforePosition, InPosition, BehindPosition, BeforeStar, BehindStar, BeforeLength, BeforeLengthInBraces, InLength, BehindSign, InNumber, InDecimals, BehindLetter, BehindLength, AtBracket, AtBrace, AtUnit, BeforeRow, Deed, Passes, Adds, Ends, Leaves, Misses, Refuses, deed, done, is_line, may_end, found_at_end, with_character, Found, Given, Missing, scan, behind_found, past, past_break, past_gap}
+use Rattle.latex2mathml_tex_grammar.specs.Scanning.{Name, ColumnList, RepeatedColumns, Number, ColorName, Spot, BeforeArgument, InArgument, BeforeGap, InGap, BeforeTimes, InTimes, BeforeRepeated, BeforeBrace, BeforePosition, InPosition, BehindPosition, BeforeStar, BehindStar, BeforeLength, BeforeLengthInBraces, InLength, BehindSign, InNumber, InDecimals, BehindLetter, BehindLength, AtBracket, AtBrace, AtUnit, BeforeRow, Deed, Passes, Adds, Ends, Leaves, Misses, Refuses, deed, done, is_line, may_end, found_at_end, with_character, Found, Given, Missing, scan, behind_found, past, past_break, past_gap}
 use Rattle.latex2mathml_tex_grammar.specs.Spacing.{Standing, standing_behind, AreAlike, both_end, both_stop, same_piece, space_before, space_behind}
 use Rattle.latex2mathml_tex_grammar.specs.Units.{Piece, Space, Open, Close, Command, Character, Unit, Units, Next}
 use Rattle.latex2mathml_tex_grammar.proofs.{OneList.is_byte, Plain.TakesNone, Plain.takes_none, Plain.open_plain, Plain.close_plain, Plain.is_named}
@@ -26,10 +26,14 @@ no_dollar_taken : (spot : Spot) → takes (deed spot (Character (byte "$"))) ≡
 no_dollar_taken (BeforeArgument a) = refl
 no_dollar_taken (InArgument Name) = refl
 no_dollar_taken (InArgument ColumnList) = refl
+no_dollar_taken (InArgument RepeatedColumns) = refl
 no_dollar_taken (InArgument Number) = refl
 no_dollar_taken (InArgument ColorName) = refl
-no_dollar_taken BeforeGap = refl
-no_dollar_taken (InGap n) = refl
+no_dollar_taken (BeforeGap a) = refl
+no_dollar_taken (InGap a n) = refl
+no_dollar_taken BeforeTimes = refl
+no_dollar_taken (InTimes n) = refl
+no_dollar_taken BeforeRepeated = refl
 no_dollar_taken BeforeBrace = refl
 no_dollar_taken BeforePosition = refl
 no_dollar_taken InPosition = refl
@@ -100,14 +104,18 @@ taken_unless true x y none h = cc
 taken_unless false x y none h = refl
 
 command_taken : (spot : Spot) (name : List ℕ) → takes (deed spot (Command name)) ≡ true → TakesNone name
-command_taken (InGap n) name h = taken_unless (takes_words (meaning_of name)) (Refuses UnknownColumn) (Passes (InGap n)) refl h
+command_taken (InGap a n) name h = taken_unless (takes_words (meaning_of name)) (Refuses UnknownColumn) (Passes (InGap a n)) refl h
 command_taken BeforeRow name h = line_plain name (taken_if (is_line name) (Passes BeforeRow) Leaves refl h)
 command_taken (BeforeArgument a) name h = cc
 command_taken (InArgument Name) name h = cc
 command_taken (InArgument ColumnList) name h = cc
+command_taken (InArgument RepeatedColumns) name h = cc
 command_taken (InArgument Number) name h = cc
 command_taken (InArgument ColorName) name h = cc
-command_taken BeforeGap name h = cc
+command_taken (BeforeGap a) name h = cc
+command_taken BeforeTimes name h = cc
+command_taken (InTimes n) name h = cc
+command_taken BeforeRepeated name h = cc
 command_taken BeforeBrace name h = cc
 command_taken BeforePosition name h = cc
 command_taken InPosition name h = cc

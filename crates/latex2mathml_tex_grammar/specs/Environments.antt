@@ -1,10 +1,33 @@
 -- The environments: each is a table. A name is its bytes.
-use Rattle.std.specs.Prelude.{ℕ, ◌==◌, ◌||◌, Bool, true, false, List, [], ◌∷◌, Option, Some, None, codes, if◌then◌else◌}
-use Rattle.std.specs.{Str.byte, Str.bytes_eq}
+use Rattle.std.specs.Prelude.{ℕ, ◌+◌, ◌-◌, ◌*◌, ◌==◌, ◌||◌, Bool, true, false, List, [], ◌∷◌, ◌++◌, Option, Some, None, codes, if◌then◌else◌}
+use Rattle.std.specs.{List.after_first, List.before_first, List.repeat, Str.byte, Str.bytes_eq}
 use Rattle.latex2mathml_elements.specs.Columns.{Centered, LeftAligned, RightAligned, Dense, SpaceAround, Column, unlined, Columns, Alike, InPairs, Listed}
 use Rattle.latex2mathml_elements.specs.Lines.{Line, NoLine, OneLine, TwoLines, Dashes}
 use Rattle.latex2mathml_tex_grammar.specs.Scanning.{Argument, ColumnList, Number}
 use Rattle.latex2mathml_tex_grammar.specs.Symbols.{Style, InDisplay, InText, InScript}
+
+-- Columns
+
+-- the number of these digits, of which there are at most two
+abbrev pub number_of : List ℕ → ℕ
+number_of [] = 0
+number_of (c ∷ []) = c - byte "0"
+number_of (c ∷ d ∷ more) = 10 * (c - byte "0") + (d - byte "0")
+
+-- a number, and the signs after a brace, which are repeated so many times
+abbrev pub repeated : List ℕ → List ℕ
+repeated cs = repeat (number_of (before_first (λ c. c == byte "{") cs)) (after_first (λ c. c == byte "{") cs)
+
+-- signs of columns with all repetitions written out, as `ccc` instead of `*3{c}`. A repetition goes up to a closing brace.
+abbrev mutual
+  pub written_out : List ℕ → List ℕ
+  written_out [] = []
+  written_out (c ∷ cs) = if c == byte "*" then repeated (before_first (λ d. d == byte "}") cs) ++ written_behind cs else c ∷ written_out cs
+
+  -- those after that brace
+  pub written_behind : List ℕ → List ℕ
+  written_behind [] = []
+  written_behind (c ∷ cs) = if c == byte "}" then written_out cs else written_behind cs
 
 -- whether a sign among columns is a line
 abbrev pub is_line_sign : ℕ → Bool
@@ -38,6 +61,8 @@ column_of c line = record {
 abbrev pub columns_of : List ℕ → List Column
 columns_of [] = []
 columns_of (c ∷ cs) = if is_line_sign c then columns_of cs else column_of c (line_at cs) ∷ columns_of cs
+
+-- Environments
 
 -- what may be in brackets after the name of an environment
 pub data Bracket : Type 0 where

@@ -2,6 +2,7 @@ pub mod Alphabets
 pub mod Arguments
 pub mod Atoms
 pub mod Colors
+pub mod ColumnExamples
 pub mod Commands
 pub mod CommandsFromM
 pub mod CommandsUpToL

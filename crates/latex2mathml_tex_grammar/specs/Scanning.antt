@@ -12,6 +12,8 @@ pub data Argument : Type 0 where
   Name : Argument
   -- the columns of a table
   ColumnList : Argument
+  -- among them, columns that are repeated
+  RepeatedColumns : Argument
   -- a number
   Number : Argument
   -- the name of a color
@@ -29,8 +31,13 @@ pub data Spot : Type 0 where
   BeforeArgument : Argument → Spot
   InArgument : Argument → Spot
   -- in columns: before the brace of what is between two, or of the width of one; and within it, in this many more braces
-  BeforeGap : Spot
-  InGap : ℕ → Spot
+  BeforeGap : Argument → Spot
+  InGap : Argument → ℕ → Spot
+  -- in columns, after a star: before the brace of the number, in the number after this many digits, and before the brace of
+  -- the columns that are repeated
+  BeforeTimes : Spot
+  InTimes : ℕ → Spot
+  BeforeRepeated : Spot
   -- before a brace, which is all that is taken
   BeforeBrace : Spot
   -- before a letter in brackets, which says how a table is placed in its line
@@ -92,17 +99,22 @@ name_deed c = if c == byte "$" then Misses else Adds c (InArgument Name)
 
 -- a column on the left, in the middle, or on the right, or a line, which may be dashed; a column that has a width is on the left, and its width is
 -- ignored
-abbrev pub column_deed : ℕ → Deed
-column_deed c =
-    if c == byte "l" || c == byte "c" || c == byte "r" || c == byte "|" || c == byte ":" then Adds c (InArgument ColumnList)
-    else if c == byte "p" || c == byte "m" || c == byte "b" then Adds (byte "l") BeforeGap
-    else if c == byte "@" then Passes BeforeGap
+abbrev pub column_deed : Argument → ℕ → Deed
+column_deed a c =
+    if c == byte "l" || c == byte "c" || c == byte "r" || c == byte "|" || c == byte ":" then Adds c (InArgument a)
+    else if c == byte "p" || c == byte "m" || c == byte "b" then Adds (byte "l") (BeforeGap a)
+    else if c == byte "@" then Passes (BeforeGap a)
     else Refuses UnknownColumn
+
+-- a column, or the star before columns that are repeated
+abbrev pub listed_deed : ℕ → Deed
+listed_deed c = if c == byte "*" then Adds c BeforeTimes else column_deed ColumnList c
 
 -- a character in an argument
 abbrev pub character_deed : Argument → ℕ → Deed
 character_deed Name c = name_deed c
-character_deed ColumnList c = column_deed c
+character_deed ColumnList c = listed_deed c
+character_deed RepeatedColumns c = column_deed RepeatedColumns c
 character_deed Number c = adds_if (is_ascii_digit c) c (InArgument Number)
 character_deed ColorName c = adds_if (is_ascii_alphanumeric c || c == byte "#") c (InArgument ColorName)
 
@@ -110,13 +122,22 @@ character_deed ColorName c = adds_if (is_ascii_alphanumeric c || c == byte "#") 
 abbrev pub other_deed : Argument → Deed
 other_deed Name = Misses
 other_deed ColumnList = Refuses UnknownColumn
+other_deed RepeatedColumns = Refuses UnknownColumn
 other_deed Number = Misses
 other_deed ColorName = Misses
+
+-- a brace ends the argument; the one that ends repeated columns is kept, and other columns may follow
+abbrev pub closing_deed : Argument → Deed
+closing_deed Name = Ends
+closing_deed ColumnList = Ends
+closing_deed RepeatedColumns = Adds (byte "}") (InArgument ColumnList)
+closing_deed Number = Ends
+closing_deed ColorName = Ends
 
 -- a unit in an argument, which a brace ends
 abbrev pub argument_deed : Argument → Piece → Deed
 argument_deed a (Character c) = character_deed a c
-argument_deed a Close = Ends
+argument_deed a Close = closing_deed a
 argument_deed a Open = other_deed a
 argument_deed a Space = other_deed a
 argument_deed a (Command name) = other_deed a
@@ -126,17 +147,27 @@ abbrev pub most_braces : ℕ
 most_braces = 100
 
 -- where the unit after a closing brace is: the brace closes the innermost open one, or else ends what is in braces among columns
-abbrev pub behind_brace : ℕ → Spot
-behind_brace zero = InArgument ColumnList
-behind_brace (suc n) = InGap n
+abbrev pub behind_brace : Argument → ℕ → Spot
+behind_brace a zero = InArgument a
+behind_brace a (suc n) = InGap a n
 
 -- what is in braces among columns is ignored; words, and formulas in words, are refused there
-abbrev pub gap_deed : ℕ → Piece → Deed
-gap_deed n Open = if nat_lt n most_braces then Passes (InGap (n + 1)) else Refuses UnknownColumn
-gap_deed n Close = Passes (behind_brace n)
-gap_deed n (Command name) = if takes_words (meaning_of name) then Refuses UnknownColumn else Passes (InGap n)
-gap_deed n (Character c) = if c == byte "$" then Refuses UnknownColumn else Passes (InGap n)
-gap_deed n Space = Passes (InGap n)
+abbrev pub gap_deed : Argument → ℕ → Piece → Deed
+gap_deed a n Open = if nat_lt n most_braces then Passes (InGap a (n + 1)) else Refuses UnknownColumn
+gap_deed a n Close = Passes (behind_brace a n)
+gap_deed a n (Command name) = if takes_words (meaning_of name) then Refuses UnknownColumn else Passes (InGap a n)
+gap_deed a n (Character c) = if c == byte "$" then Refuses UnknownColumn else Passes (InGap a n)
+gap_deed a n Space = Passes (InGap a n)
+
+-- how many digits the number of repetitions may have
+abbrev pub most_digits : ℕ
+most_digits = 2
+
+-- a unit in the number of repetitions, after this many digits
+abbrev pub times_deed : ℕ → Piece → Deed
+times_deed n (Character c) = if is_ascii_digit c && nat_lt n most_digits then Adds c (InTimes (n + 1)) else Refuses UnknownColumn
+times_deed n Close = if n == 0 then Refuses UnknownColumn else Passes BeforeRepeated
+times_deed n piece = Refuses UnknownColumn
 
 -- one deed for an opening brace, the other for any other unit
 abbrev pub brace_deed : Deed → Deed → Piece → Deed
@@ -250,8 +281,11 @@ row_deed piece = Leaves
 abbrev pub deed_there : Spot → Piece → Deed
 deed_there (BeforeArgument a) piece = brace_deed (Passes (InArgument a)) Misses piece
 deed_there (InArgument a) piece = argument_deed a piece
-deed_there BeforeGap piece = brace_deed (Passes (InGap 0)) (Refuses UnknownColumn) piece
-deed_there (InGap n) piece = gap_deed n piece
+deed_there (BeforeGap a) piece = brace_deed (Passes (InGap a 0)) (Refuses UnknownColumn) piece
+deed_there (InGap a n) piece = gap_deed a n piece
+deed_there BeforeTimes piece = brace_deed (Passes (InTimes 0)) (Refuses UnknownColumn) piece
+deed_there (InTimes n) piece = times_deed n piece
+deed_there BeforeRepeated piece = brace_deed (Adds (byte "{") (InArgument RepeatedColumns)) (Refuses UnknownColumn) piece
 deed_there BeforeBrace piece = brace_deed Ends Misses piece
 deed_there BeforeStar piece = star_deed piece
 deed_there BehindStar piece = Leaves

@@ -1,6 +1,6 @@
 //! Laws of the definitions.
 ghost use Rattle.std.specs.Str.{chars};
-ghost use Rattle.latex2mathml_tex_grammar.specs.{DefinitionLaws.HaveOneTableOrRefusal, ExpansionExamples.AreExpansionExamples};
+ghost use Rattle.latex2mathml_tex_grammar.specs.{ColumnExamples.AreColumnExamples, DefinitionLaws.HaveOneTableOrRefusal, ExpansionExamples.AreExpansionExamples};
 ghost use Rattle.latex2mathml_tex_grammar.specs.ExpansionLaws.{AddsNothing, AreBetweenBraces, AreExpanded, HaveOneExpansion, HaveOneTable, IsSpacePassed};
 ghost use Rattle.latex2mathml_tex_grammar.specs.{Examples.AreUnitsOfExamples, Laws.AreTablesSorted, Laws.HasOneListOfUnits, Laws.HaveOneOutcome, Laws.HaveOneReading, Laws.AreMacrosTheirNames, Laws.IsSpaceNothing, Laws.ReadingsAreAllowed, SpacingExamples.AreSpacingExamples};
 
@@ -92,6 +92,11 @@ pub fn groups()
 /// says of each of these, it says of each unit of the expansion.
 pub fn expansion_adds_nothing()
     ensures { AddsNothing }
+{}
+
+/// What the definitions say of columns that are repeated, in some texts.
+pub fn columns_of_examples()
+    ensures { AreColumnExamples }
 {}
 
 /// What the definitions say of the expansion of some texts.

@@ -28,3 +28,4 @@ pub mod Turning
 pub mod TurningForms
 pub mod UsualLookups
 pub mod Whole
+pub mod WrittenOut

@@ -5,6 +5,7 @@ use Rattle.std.specs.Str.{bytes_eq}
 use Rattle.latex2mathml_elements.specs.Columns.{Column, Columns, Listed}
 use Rattle.latex2mathml_attributes.specs.Columns.{has_room, listed_behind}
 use Rattle.latex2mathml_tex_grammar.specs.Environments.{column_of, columns_of, entry_environment, is_line_sign, line_at}
+use Rattle.latex2mathml_tex_grammar.specs.Rules.{most_columns}
 use Rattle.latex2mathml_tex_units.specs.{Environments.entry_of, Environments.environment_of, declared.environments.Environment.Environment}
 
 pub entry_found : (es : List Environment) (name : List ℕ) (d : Environment) → (length es == 0) ≡ false → bytes_eq (get_or es 0 d).name.now name ≡ true → entry_environment (map entry_of es) name ≡ Some (environment_of (get_or es 0 d))
@@ -22,16 +23,16 @@ pub record AreListed (columns : Columns) (rest signs : List ℕ) : Type 0 where
   pub so_far : List Column
   pub listed : columns ≡ Listed (line_at signs) so_far
   pub all : so_far ++ columns_of rest ≡ columns_of signs
-  pub few : length so_far ≤ 16
+  pub few : length so_far ≤ most_columns
 
 pub none_listed : (columns : Columns) (signs : List ℕ) → columns ≡ Listed (line_at signs) [] → AreListed columns signs signs
 none_listed columns signs is = record { so_far = []; listed = is; all = refl; few = omega arith }
 
-pub all_listed : (columns : Columns) (rest signs : List ℕ) → (length rest == 0) ≡ true → AreListed columns rest signs → (nat_le (length (columns_of signs)) 16 ≡ true) × (columns ≡ Listed (line_at signs) (columns_of signs))
+pub all_listed : (columns : Columns) (rest signs : List ℕ) → (length rest == 0) ≡ true → AreListed columns rest signs → (nat_le (length (columns_of signs)) most_columns ≡ true) × (columns ≡ Listed (line_at signs) (columns_of signs))
 all_listed columns [] signs none h =
     let same : h.so_far ≡ columns_of signs = sym (append-nil h.so_far) ∙ h.all in
-    let few : nat_le (length h.so_far) 16 ≡ true = grind (arith, nat_tests, h.few) in
-    (ap (λ l. nat_le (length l) 16) (sym same) ∙ few, h.listed ∙ ap (Listed (line_at signs)) same)
+    let few : nat_le (length h.so_far) most_columns ≡ true = grind (arith, nat_tests, h.few) in
+    (ap (λ l. nat_le (length l) most_columns) (sym same) ∙ few, h.listed ∙ ap (Listed (line_at signs)) same)
 all_listed columns (c ∷ cs) signs none h = (grind (arith, nat_tests, none), grind (arith, nat_tests, none))
 
 line_next : (c : ℕ) (cs : List ℕ) → is_line_sign c ≡ true → columns_of (c ∷ cs) ≡ columns_of cs
@@ -49,18 +50,18 @@ line_passed columns (c ∷ cs) signs some is h = record {
   few = h.few;
 }
 
-pub too_many : (columns : Columns) (rest signs : List ℕ) → (length rest == 0) ≡ false → is_line_sign (get_or rest 0 0) ≡ false → has_room columns ≡ false → AreListed columns rest signs → nat_le (length (columns_of signs)) 16 ≡ false
+pub too_many : (columns : Columns) (rest signs : List ℕ) → (length rest == 0) ≡ false → is_line_sign (get_or rest 0 0) ≡ false → has_room columns ≡ false → AreListed columns rest signs → nat_le (length (columns_of signs)) most_columns ≡ false
 too_many columns [] signs some is full h = cc
 too_many columns (c ∷ cs) signs some is full h =
-    let no_room : nat_lt (length h.so_far) 16 ≡ false = ap has_room (sym h.listed) ∙ full in
+    let no_room : nat_lt (length h.so_far) most_columns ≡ false = ap has_room (sym h.listed) ∙ full in
     let all = ap (λ l. h.so_far ++ l) (sym (column_next c cs is)) ∙ h.all in
-    ap (λ l. nat_le (length l) 16) (sym all) ∙ grind (arith, nat_tests, length-append {A = Column}, no_room)
+    ap (λ l. nat_le (length l) most_columns) (sym all) ∙ grind (arith, nat_tests, length-append {A = Column}, no_room)
 
 pub column_listed : (before after : Columns) (rest signs : List ℕ) → (length rest == 0) ≡ false → is_line_sign (get_or rest 0 0) ≡ false → has_room before ≡ true → after ≡ listed_behind (column_of (get_or rest 0 0) (line_at (drop 1 rest))) before → AreListed before rest signs → AreListed after (drop 1 rest) signs
 column_listed before after [] signs some is room put h = cc
 column_listed before after (c ∷ cs) signs some is room put h =
     let column = column_of c (line_at cs) in
-    let less : nat_lt (length h.so_far) 16 ≡ true = ap has_room (sym h.listed) ∙ room in
+    let less : nat_lt (length h.so_far) most_columns ≡ true = ap has_room (sym h.listed) ∙ room in
     let longer : listed_behind column (Listed (line_at signs) h.so_far) ≡ Listed (line_at signs) (h.so_far ++ column ∷ []) = ap (λ (b : Bool). Listed (line_at signs) (if b then h.so_far ++ column ∷ [] else h.so_far)) less in
     record {
       so_far = h.so_far ++ column ∷ [];

@@ -14,6 +14,7 @@ use Rattle.latex2mathml_tex_units.specs.declared.scanning.Spot.TheVariants as sp
 abbrev pub argument_of : Argument → scanning.Argument
 argument_of argument.Name = scanning.Name
 argument_of argument.ColumnList = scanning.ColumnList
+argument_of argument.RepeatedColumns = scanning.RepeatedColumns
 argument_of argument.Number = scanning.Number
 argument_of argument.ColorName = scanning.ColorName
 
@@ -25,8 +26,11 @@ length_end_of length_end.AtUnit = scanning.AtUnit
 abbrev pub spot_of : Spot → scanning.Spot
 spot_of (spot.BeforeArgument a) = scanning.BeforeArgument (argument_of a)
 spot_of (spot.InArgument a) = scanning.InArgument (argument_of a)
-spot_of spot.BeforeGap = scanning.BeforeGap
-spot_of (spot.InGap n) = scanning.InGap n
+spot_of (spot.BeforeGap a) = scanning.BeforeGap (argument_of a)
+spot_of (spot.InGap a n) = scanning.InGap (argument_of a) n
+spot_of spot.BeforeTimes = scanning.BeforeTimes
+spot_of (spot.InTimes n) = scanning.InTimes n
+spot_of spot.BeforeRepeated = scanning.BeforeRepeated
 spot_of spot.BeforeBrace = scanning.BeforeBrace
 spot_of spot.BeforePosition = scanning.BeforePosition
 spot_of spot.InPosition = scanning.InPosition

@@ -63,7 +63,7 @@ pub enum TexErrorKind {
     OtherName,
     /// Something among the columns of an `array` or a `subarray` that is not a column.
     UnknownColumn,
-    /// An `array` or a `subarray` with more than 16 columns.
+    /// An `array` or a `subarray` with more than 32 columns.
     TooManyColumns,
     /// A character that has no meaning in a formula.
     MisplacedCharacter(char),
@@ -133,7 +133,7 @@ impl fmt::Display for TexErrorKind {
             TexErrorKind::EndWithoutBegin => "\\end without \\begin",
             TexErrorKind::OtherName => "\\end has another name than \\begin",
             TexErrorKind::UnknownColumn => "unknown column",
-            TexErrorKind::TooManyColumns => "more than 16 columns",
+            TexErrorKind::TooManyColumns => "more than 32 columns",
             TexErrorKind::MisplacedCharacter(c) => return write_character(
                 *c,
                 " has no meaning here",

@@ -5,6 +5,7 @@
 #![tactic(auto)]
 
 pub mod braces;
+mod columns;
 pub mod delimiters;
 pub mod dots;
 pub mod environments;
@@ -14,6 +15,7 @@ pub mod lexer;
 pub mod macros;
 pub mod passing;
 pub mod position;
+pub mod repetitions;
 mod row_lines;
 pub mod scanning;
 pub mod unit;

@@ -2,18 +2,16 @@
 //! where a unit is. White space is ignored.
 ghost use Rattle.std.specs.Prelude.{◌≡◌, ℕ, [], IsFalse, Some};
 ghost use Rattle.latex2mathml_tex_grammar.specs.Refusal.{refusal_at};
-ghost use Rattle.latex2mathml_tex_grammar.specs.{Commands.meaning_of, Meaning.takes_words};
 ghost use Rattle.latex2mathml_tex_grammar.specs.Scanning;
 ghost use Rattle.latex2mathml_tex_grammar.specs.Scanning.{past, scan};
 ghost use Rattle.latex2mathml_tex_grammar.specs.Units.{End, Next, Stop, Units, unit};
 ghost use Rattle.latex2mathml_tex_units.specs.{Errors.kind_of_error, Taking.kind_of, Taking.piece_of};
 ghost use Rattle.latex2mathml_tex_units.specs.Scans.{IsFound, argument_of, deed_of, length_end_of, spot_of};
 
+use crate::columns::{column_deed, gap_deed, times_deed};
 use crate::error::{TexError, TexErrorKind};
 use crate::row_lines::is_line;
 use crate::unit::{Fault, Piece};
-use latex2mathml_tex_commands::commands;
-use latex2mathml_tex_commands::meaning::Meaning;
 
 /// What follows `\begin` and the like in braces.
 #[derive(Clone, Copy)]
@@ -22,6 +20,8 @@ pub enum Argument {
     Name,
     /// The columns of a table.
     ColumnList,
+    /// Among them, columns that are repeated.
+    RepeatedColumns,
     /// A number.
     Number,
     /// The name of a color.
@@ -43,9 +43,15 @@ pub enum Spot {
     BeforeArgument(Argument),
     InArgument(Argument),
     /// In columns, before the braces that say what is between two of them, or how wide one is.
-    BeforeGap,
+    BeforeGap(Argument),
     /// Within this many such braces.
-    InGap(u8),
+    InGap(Argument, u8),
+    /// In columns, before the braces that say how often some are repeated.
+    BeforeTimes,
+    /// In that number, after so many digits.
+    InTimes(u8),
+    /// Before the braces around the columns that are repeated.
+    BeforeRepeated,
     /// Before a brace, which is all that is taken.
     BeforeBrace,
     /// A letter in brackets that gives the position of a table in its line.
@@ -97,24 +103,14 @@ fn passes_if(test: bool, spot: Spot) -> Deed
     }
 }
 
-fn column_deed(c: char) -> Deed
-    ensures { deed_of result ≡ Scanning.column_deed c }
-{
-    match c {
-        'l' | 'c' | 'r' | '|' | ':' => Deed::Adds(c, Spot::InArgument(Argument::ColumnList)),
-        'p' | 'm' | 'b' => Deed::Adds('l', Spot::BeforeGap),
-        '@' => Deed::Passes(Spot::BeforeGap),
-        _ => Deed::Refuses,
-    }
-}
-
 fn character_deed(argument: Argument, c: char) -> Deed
     ensures { deed_of result ≡ Scanning.character_deed (argument_of argument) c }
 {
     match argument {
         Argument::Name if c == '$' => Deed::Misses,
         Argument::Name => Deed::Adds(c, Spot::InArgument(Argument::Name)),
-        Argument::ColumnList => column_deed(c),
+        Argument::ColumnList if c == '*' => Deed::Adds(c, Spot::BeforeTimes),
+        Argument::ColumnList | Argument::RepeatedColumns => column_deed(argument, c),
         Argument::Number => adds_if(c.is_ascii_digit(), c, Spot::InArgument(Argument::Number)),
         Argument::ColorName if c.is_ascii_alphanumeric() || c == '#' => {
             Deed::Adds(c, Spot::InArgument(Argument::ColorName))
@@ -129,40 +125,14 @@ fn argument_deed(argument: Argument, piece: Piece) -> Deed
 {
     match piece {
         Piece::Character(c) => character_deed(argument, c),
-        Piece::Close => Deed::Ends,
+        Piece::Close => match argument {
+            Argument::RepeatedColumns => Deed::Adds('}', Spot::InArgument(Argument::ColumnList)),
+            _ => Deed::Ends,
+        },
         Piece::Open | Piece::Space | Piece::Command(_) => match argument {
-            Argument::ColumnList => Deed::Refuses,
+            Argument::ColumnList | Argument::RepeatedColumns => Deed::Refuses,
             Argument::Name | Argument::Number | Argument::ColorName => Deed::Misses,
         },
-    }
-}
-
-fn takes_words(name: &str) -> bool
-    ensures { result ≡ takes_words (meaning_of name.now) }
-{
-    matches!(commands::look_up(name), Some(Meaning::Words(_)))
-}
-
-/// Returns the spot after the brace that closes the innermost of `depth` braces or, if there are none, those among columns.
-fn behind_brace(depth: u8) -> Spot
-    ensures { spot_of result ≡ Scanning.behind_brace depth }
-{
-    if depth == 0 {
-        return Spot::InArgument(Argument::ColumnList);
-    }
-    Spot::InGap(depth - 1)
-}
-
-/// Returns what a unit does in braces among columns, within `depth` more braces. More than a hundred are refused.
-fn gap_deed(depth: u8, piece: Piece) -> Deed
-    ensures { deed_of result ≡ Scanning.gap_deed depth (piece_of piece.entry) }
-{
-    match piece {
-        Piece::Open if depth < 100 => Deed::Passes(Spot::InGap(depth + 1)),
-        Piece::Open | Piece::Character('$') => Deed::Refuses,
-        Piece::Close => Deed::Passes(behind_brace(depth)),
-        Piece::Command(name) if takes_words(name) => Deed::Refuses,
-        Piece::Command(_) | Piece::Character(_) | Piece::Space => Deed::Passes(Spot::InGap(depth)),
     }
 }
 
@@ -356,8 +326,19 @@ impl Spot {
                 )
             }
             Spot::InArgument(argument) => argument_deed(argument, piece),
-            Spot::BeforeGap => brace_deed(Deed::Passes(Spot::InGap(0)), Deed::Refuses, piece),
-            Spot::InGap(depth) => gap_deed(depth, piece),
+            Spot::BeforeGap(argument) => {
+                brace_deed(Deed::Passes(Spot::InGap(argument, 0)), Deed::Refuses, piece)
+            }
+            Spot::InGap(argument, depth) => gap_deed(argument, depth, piece),
+            Spot::BeforeTimes => {
+                brace_deed(Deed::Passes(Spot::InTimes(0)), Deed::Refuses, piece)
+            }
+            Spot::InTimes(count) => times_deed(count, piece),
+            Spot::BeforeRepeated => brace_deed(
+                Deed::Adds('{', Spot::InArgument(Argument::RepeatedColumns)),
+                Deed::Refuses,
+                piece,
+            ),
             Spot::BeforeBrace => brace_deed(Deed::Ends, Deed::Misses, piece),
             Spot::BeforeStar => star_deed(piece),
             Spot::BehindStar => Deed::Leaves,

@@ -16,10 +16,10 @@ use crate::parse::{Parser, State};
 use latex2mathml_attributes::columns::{Alignment, Columns, ListedColumn};
 use latex2mathml_attributes::line::Line;
 use latex2mathml_tex_atoms::atoms::Context;
-use latex2mathml_tex_units::environments;
 use latex2mathml_tex_units::environments::{Bracket, Environment};
 use latex2mathml_tex_units::error::TexErrorKind;
 use latex2mathml_tex_units::scanning::{Argument, Spot};
+use latex2mathml_tex_units::{environments, repetitions};
 use std::alloc::AllocError;
 
 impl<'a> Parser<'a> {
@@ -155,7 +155,7 @@ impl<'a> Parser<'a> {
         match argument {
             Argument::ColumnList => self.begin_listed(environment, place, context, next),
             Argument::Number => self.begin_numbered(environment, place, context, next),
-            Argument::Name | Argument::ColorName => {
+            Argument::RepeatedColumns | Argument::Name | Argument::ColorName => {
                 self.begin_rows(
                     environment,
                     environment.layout.columns(),
@@ -209,15 +209,16 @@ impl<'a> Parser<'a> {
         ensures holds { LeadsOn
             (BeginsIn context (takes_found (BeforeArgument ColumnList) place
             (λ signs. listed_rule place (context_of context) environment.now.name.now
-            (environment_of environment.now) signs)) 0)
+            (environment_of environment.now) (Environments.written_out signs))) 0)
             self.old self.new next.new result }
         ensures step { Advances 13 self.old self.new next.new result }
     {
         let spot = Spot::BeforeArgument(Argument::ColumnList);
-        let Some(signs) = self.take_text(place, spot)? else {
+        let Some(text) = self.take_text(place, spot)? else {
             *next = State::Refused;
             return Ok(());
         };
+        let signs = repetitions::written_out(self.alloc, text)?;
         let Some(columns) = listed(signs.as_str()) else {
             *next = self.refuse(TexErrorKind::TooManyColumns, place);
             return Ok(());

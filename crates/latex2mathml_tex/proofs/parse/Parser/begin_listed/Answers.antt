@@ -17,8 +17,8 @@ returns-in_default-clause-holds c = λ s g.
     let p = c.args.self.now in
     let q = c.take_text.new.self in
     let e = c.args.environment.now in
-    let none = took_none string_bytes c.args.place (BeforeArgument ColumnList) p q _ c.in_default.is c.in_ok-signs.ensures in
-    text_refused p q c.args.place (BeforeArgument ColumnList) s 0 (λ signs. listed_rule c.args.place (context_of c.args.context) e.name.now (environment_of e) signs) none g.style g.leads
+    let none = took_none string_bytes c.args.place (BeforeArgument ColumnList) p q _ c.in_default.is c.in_ok-text.ensures in
+    text_refused p q c.args.place (BeforeArgument ColumnList) s 0 (λ text. listed_rule c.args.place (context_of c.args.context) e.name.now (environment_of e) (grammar.written_out text)) none g.style g.leads
 
 pub returns-in_default-listed-clause-holds : goal.returns-in_default-listed-clause-holds
 returns-in_default-listed-clause-holds c = λ s g.
@@ -26,20 +26,22 @@ returns-in_default-listed-clause-holds c = λ s g.
     let q = c.take_text.new.self in
     let e = c.args.environment.now in
     let place = c.args.place in
-    let signs = string_bytes c.in-Some.signs in
-    let took = took_some string_bytes place (BeforeArgument ColumnList) p q _ c.in-Some.signs c.in-Some.is c.in_ok-signs.ensures in
-    let rule : List ℕ → Rule = λ signs. listed_rule place (context_of c.args.context) e.name.now (environment_of e) signs in
-    let many = ap (λ k. nat_le (length (grammar.columns_of k)) most_columns) (sym c.as_str.ensures.value) ∙ c.in_default-listed.ensures in
+    let text = string_bytes c.in-Some.text in
+    let signs = grammar.written_out text in
+    let took = took_some string_bytes place (BeforeArgument ColumnList) p q _ c.in-Some.text c.in-Some.is c.in_ok-text.ensures in
+    let rule : List ℕ → Rule = λ text. listed_rule place (context_of c.args.context) e.name.now (environment_of e) (grammar.written_out text) in
+    let written : c.as_str.result.now ≡ signs = c.as_str.ensures.value ∙ c.in_ok-signs.ensures in
+    let many = ap (λ k. nat_le (length (grammar.columns_of k)) most_columns) (sym written) ∙ c.in_default-listed.ensures in
     let r = refusal_at TooManyColumns place in
     let k = subst (λ b. RuleLeads (if b then rows_rule place (context_of c.args.context) e.name.now (environment_of e) (Listed (grammar.line_at signs) (grammar.columns_of signs)) else refuses r) (CoreMade (level 0 s p)) (left_of q)) many (found rule took.1 g.leads) in
-    refused_behind p q place (BeforeArgument ColumnList) signs took c.refuse.new.self c.refuse.result _ c.refuse.ensures.parser c.refuse.ensures.state s 0 r refl g.style (core_refuses r (level 0 s p) (refused k))
+    refused_behind p q place (BeforeArgument ColumnList) text took c.refuse.new.self c.refuse.result _ c.refuse.ensures.parser c.refuse.ensures.state s 0 r refl g.style (core_refuses r (level 0 s p) (refused k))
 
 pub returns-in_default-listed-clause-step : goal.returns-in_default-listed-clause-step
 returns-in_default-listed-clause-step c =
     let p = c.args.self.now in
     let q = c.take_text.new.self in
-    let took = took_some string_bytes c.args.place (BeforeArgument ColumnList) p q _ c.in-Some.signs c.in-Some.is c.in_ok-signs.ensures in
-    refused_behind_step p q c.args.place (BeforeArgument ColumnList) (string_bytes c.in-Some.signs) took c.refuse.new.self c.refuse.result _ c.refuse.ensures.parser c.refuse.ensures.state c.requires.begin.elements
+    let took = took_some string_bytes c.args.place (BeforeArgument ColumnList) p q _ c.in-Some.text c.in-Some.is c.in_ok-text.ensures in
+    refused_behind_step p q c.args.place (BeforeArgument ColumnList) (string_bytes c.in-Some.text) took c.refuse.new.self c.refuse.result _ c.refuse.ensures.parser c.refuse.ensures.state c.requires.begin.elements
 
 pub returns-clause-holds : goal.returns-clause-holds
 returns-clause-holds c = λ s g.
@@ -47,12 +49,14 @@ returns-clause-holds c = λ s g.
     let q = c.take_text.new.self in
     let e = c.args.environment.now in
     let place = c.args.place in
-    let signs = string_bytes c.in-Some.signs in
-    let took = took_some string_bytes place (BeforeArgument ColumnList) p q _ c.in-Some.signs c.in-Some.is c.in_ok-signs.ensures in
-    let rule : List ℕ → Rule = λ signs. listed_rule place (context_of c.args.context) e.name.now (environment_of e) signs in
-    let few = ap (λ k. nat_le (length (grammar.columns_of k)) most_columns) (sym c.as_str.ensures.value) ∙ c.in-Some-listed.ensures.0 in
-    let own : columns_of c.in-Some-listed.columns ≡ Listed (grammar.line_at signs) (grammar.columns_of signs) = c.in-Some-listed.ensures.1 ∙ ap (λ k. Listed (grammar.line_at k) (grammar.columns_of k)) c.as_str.ensures.value in
-    let begins = text_taken p q place (BeforeArgument ColumnList) signs took s c.args.context rule g in
+    let text = string_bytes c.in-Some.text in
+    let signs = grammar.written_out text in
+    let took = took_some string_bytes place (BeforeArgument ColumnList) p q _ c.in-Some.text c.in-Some.is c.in_ok-text.ensures in
+    let rule : List ℕ → Rule = λ text. listed_rule place (context_of c.args.context) e.name.now (environment_of e) (grammar.written_out text) in
+    let written : c.as_str.result.now ≡ signs = c.as_str.ensures.value ∙ c.in_ok-signs.ensures in
+    let few = ap (λ k. nat_le (length (grammar.columns_of k)) most_columns) (sym written) ∙ c.in-Some-listed.ensures.0 in
+    let own : columns_of c.in-Some-listed.columns ≡ Listed (grammar.line_at signs) (grammar.columns_of signs) = c.in-Some-listed.ensures.1 ∙ ap (λ k. Listed (grammar.line_at k) (grammar.columns_of k)) written in
+    let begins = text_taken p q place (BeforeArgument ColumnList) text took s c.args.context rule g in
     let rows = subst (λ b. BeginsIn c.args.context (if b then rows_rule place (context_of c.args.context) e.name.now (environment_of e) (Listed (grammar.line_at signs) (grammar.columns_of signs)) else refuses (refusal_at TooManyColumns place)) 0 s q) few begins in
     c.begin_rows.ensures.holds s (subst (λ k. BeginsIn c.args.context (rows_rule place (context_of c.args.context) e.name.now (environment_of e) k) 0 s q) (sym own) rows)
 
@@ -60,5 +64,5 @@ pub returns-clause-step : goal.returns-clause-step
 returns-clause-step c =
     let p = c.args.self.now in
     let q = c.take_text.new.self in
-    let took = took_some string_bytes c.args.place (BeforeArgument ColumnList) p q _ c.in-Some.signs c.in-Some.is c.in_ok-signs.ensures in
-    text_step p q c.args.place (BeforeArgument ColumnList) (string_bytes c.in-Some.signs) took 12 c.begin_rows.new.self c.begin_rows.new.next c.begin_rows.result (omega arith) c.begin_rows.ensures.step
+    let took = took_some string_bytes c.args.place (BeforeArgument ColumnList) p q _ c.in-Some.text c.in-Some.is c.in_ok-text.ensures in
+    text_step p q c.args.place (BeforeArgument ColumnList) (string_bytes c.in-Some.text) took 12 c.begin_rows.new.self c.begin_rows.new.next c.begin_rows.result (omega arith) c.begin_rows.ensures.step
