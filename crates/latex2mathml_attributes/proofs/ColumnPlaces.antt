@@ -1,9 +1,9 @@
 -- The columns that the code finds are those of the definitions.
 use Rattle.std.proofs.Common.{◌≡◌, ℕ, zero, suc, ◌%◌, ◌<◌, ◌≤◌, Bool, false, ◌||◌, List, [], ◌∷◌, drop, length, map, take, refl, sym, ap, ◌∙◌, arith}
 use Rattle.std.proofs.Math.ListN.{get_or}
-use Rattle.latex2mathml_elements.specs.Columns.{Centered, RightAligned, SecondOfPair, Unspaced, SpaceBefore, InPairs, Listed, any_lined, column_at, spaced, unlined}
+use Rattle.latex2mathml_elements.specs.Columns.{Centered, Column, RightAligned, SecondOfPair, Unspaced, SpaceBefore, InPairs, Listed, any_lined, column_at, spaced, unlined}
 use Rattle.latex2mathml_elements.specs.Lines.{Line, NoLine, is_drawn}
-use Rattle.latex2mathml_attributes.specs.{Columns.behind_line, Columns.line_before, Columns.listed_of, declared.columns.ListedColumn.ListedColumn as Own}
+use Rattle.latex2mathml_attributes.specs.{Columns.behind_line, Columns.line_before}
 
 -- Pairs
 
@@ -26,15 +26,15 @@ none_before : (k : ℕ) → line_before NoLine k ≡ NoLine
 none_before zero = refl
 none_before (suc k) = refl
 
-pub listed_there : (line : Line) (cs : List Own) (len k : ℕ) (d : Own) → k < len → k < length cs → behind_line (line_before line k) (listed_of (get_or cs k d)) ≡ column_at (Listed line (map listed_of (take len cs))) k
+pub listed_there : (line : Line) (cs : List Column) (len k : ℕ) (d : Column) → k < len → k < length cs → behind_line (line_before line k) (get_or cs k d) ≡ column_at (Listed line (take len cs)) k
 listed_there line [] len k d h i = absurd (omega arith)
 listed_there line (c ∷ cs) zero k d h i = absurd (omega arith)
 listed_there line (c ∷ cs) (suc len) zero d h i = refl
 listed_there line (c ∷ cs) (suc len) (suc k) d h i =
-    ap (λ l. behind_line l (listed_of (get_or cs k d))) (sym (none_before k)) ∙ listed_there NoLine cs len k d (omega arith) (omega arith)
+    ap (λ l. behind_line l (get_or cs k d)) (sym (none_before k)) ∙ listed_there NoLine cs len k d (omega arith) (omega arith)
 
 -- a place after the listed columns
-pub none_behind : (line : Line) (cs : List Own) (len k : ℕ) → len ≤ k → column_at (Listed line (map listed_of (take len cs))) k ≡ unlined Centered
+pub none_behind : (line : Line) (cs : List Column) (len k : ℕ) → len ≤ k → column_at (Listed line (take len cs)) k ≡ unlined Centered
 none_behind line [] zero k h = refl
 none_behind line [] (suc len) k h = refl
 none_behind line (c ∷ cs) zero k h = refl
@@ -42,7 +42,7 @@ none_behind line (c ∷ cs) (suc len) zero h = absurd (omega arith)
 none_behind line (c ∷ cs) (suc len) (suc k) h = none_behind NoLine cs len k (omega arith)
 
 -- a place beyond the room for listed columns
-pub none_beyond : (line : Line) (cs : List Own) (len k : ℕ) → length cs ≤ k → column_at (Listed line (map listed_of (take len cs))) k ≡ unlined Centered
+pub none_beyond : (line : Line) (cs : List Column) (len k : ℕ) → length cs ≤ k → column_at (Listed line (take len cs)) k ≡ unlined Centered
 none_beyond line [] zero k h = refl
 none_beyond line [] (suc len) k h = refl
 none_beyond line (c ∷ cs) zero k h = refl
@@ -51,16 +51,16 @@ none_beyond line (c ∷ cs) (suc len) (suc k) h = none_beyond NoLine cs len k (o
 
 -- Lines next to columns
 
-pub line_among : (cs : List Own) (len k : ℕ) (d : Own) (b : Bool) → k < len → is_drawn (listed_of d).after ≡ false → is_drawn (listed_of (get_or cs k d)).after ≡ b → any_lined (drop k (map listed_of (take len cs))) ≡ (b || any_lined (drop (suc k) (map listed_of (take len cs))))
+pub line_among : (cs : List Column) (len k : ℕ) (d : Column) (b : Bool) → k < len → is_drawn d.after ≡ false → is_drawn (get_or cs k d).after ≡ b → any_lined (drop k (take len cs)) ≡ (b || any_lined (drop (suc k) (take len cs)))
 line_among [] zero k d b h none e = absurd (omega arith)
 line_among [] (suc len) zero d b h none e = (let is : b ≡ false = sym e ∙ none in rw is refl)
 line_among [] (suc len) (suc k) d b h none e = (let is : b ≡ false = sym e ∙ none in rw is refl)
 line_among (c ∷ cs) zero k d b h none e = absurd (omega arith)
-line_among (c ∷ cs) (suc len) zero d b h none e = ap (λ k. k || any_lined (map listed_of (take len cs))) e
+line_among (c ∷ cs) (suc len) zero d b h none e = ap (λ k. k || any_lined (take len cs)) e
 line_among (c ∷ cs) (suc len) (suc k) d b h none e = line_among cs len k d b (omega arith) none e
 
 -- after all columns there is none
-pub none_lined : (cs : List Own) (len k : ℕ) → len ≤ k → any_lined (drop k (map listed_of (take len cs))) ≡ false
+pub none_lined : (cs : List Column) (len k : ℕ) → len ≤ k → any_lined (drop k (take len cs)) ≡ false
 none_lined [] zero zero h = refl
 none_lined [] zero (suc k) h = refl
 none_lined [] (suc len) zero h = absurd (omega arith)
@@ -70,7 +70,7 @@ none_lined (c ∷ cs) zero (suc k) h = refl
 none_lined (c ∷ cs) (suc len) zero h = absurd (omega arith)
 none_lined (c ∷ cs) (suc len) (suc k) h = none_lined cs len k (omega arith)
 
-pub none_lined_beyond : (cs : List Own) (len k : ℕ) → length cs ≤ k → any_lined (drop k (map listed_of (take len cs))) ≡ false
+pub none_lined_beyond : (cs : List Column) (len k : ℕ) → length cs ≤ k → any_lined (drop k (take len cs)) ≡ false
 none_lined_beyond [] zero zero h = refl
 none_lined_beyond [] zero (suc k) h = refl
 none_lined_beyond [] (suc len) zero h = refl

@@ -1,5 +1,5 @@
 -- The columns of the code, as values of the definitions.
-use Rattle.std.specs.Prelude.{ℕ, zero, suc, Bool, false, nat_lt, List, [], ◌∷◌, ◌++◌, codes, length, map, take, if◌then◌else◌}
+use Rattle.std.specs.Prelude.{ℕ, zero, suc, ◌==◌, ◌%◌, ◌/◌, Bool, false, nat_lt, List, [], ◌∷◌, ◌++◌, codes, length, map, take, if◌then◌else◌}
 use Rattle.latex2mathml_elements.specs.Columns as defined
 use Rattle.latex2mathml_elements.specs.Lines as lines
 use Rattle.latex2mathml_elements.specs.Print.{alignment_style, alignment_text, spacing_style}
@@ -39,6 +39,33 @@ listed_of listed.RightAlignedBeforeLine = before_line defined.RightAligned lines
 listed_of listed.RightAlignedBeforeTwoLines = before_line defined.RightAligned lines.TwoLines
 listed_of listed.RightAlignedBeforeDashes = before_line defined.RightAligned lines.Dashes
 
+-- the column of a number
+abbrev pub numbered : ℕ → defined.Column
+numbered n =
+    if n == 1 then listed_of listed.CenteredBeforeLine
+    else if n == 2 then listed_of listed.CenteredBeforeTwoLines
+    else if n == 3 then listed_of listed.CenteredBeforeDashes
+    else if n == 4 then listed_of listed.LeftAligned
+    else if n == 5 then listed_of listed.LeftAlignedBeforeLine
+    else if n == 6 then listed_of listed.LeftAlignedBeforeTwoLines
+    else if n == 7 then listed_of listed.LeftAlignedBeforeDashes
+    else if n == 8 then listed_of listed.RightAligned
+    else if n == 9 then listed_of listed.RightAlignedBeforeLine
+    else if n == 10 then listed_of listed.RightAlignedBeforeTwoLines
+    else if n == 11 then listed_of listed.RightAlignedBeforeDashes
+    else listed_of listed.Centered
+
+-- the columns of the two halves of a byte
+abbrev pub earlier : ℕ → defined.Column
+earlier byte = numbered (byte % 16)
+
+abbrev pub later : ℕ → defined.Column
+later byte = numbered (byte / 16)
+
+-- the columns of an array: those of the lower halves of its bytes, and then those of the upper halves
+abbrev pub columns_in : List ℕ → List defined.Column
+columns_in bytes = map earlier bytes ++ map later bytes
+
 -- a column with this line before it
 abbrev pub behind_line : lines.Line → defined.Column → defined.Column
 behind_line line c = record c { before = line }
@@ -66,7 +93,7 @@ columns_with kind.InPairs line listed = defined.InPairs
 columns_with kind.Listed line listed = defined.Listed line listed
 
 abbrev pub columns_of : Columns → defined.Columns
-columns_of c = columns_with c.kind (line_of c.before) (map listed_of (take c.len c.listed))
+columns_of c = columns_with c.kind (line_of c.before) (take c.len (columns_in c.listed))
 
 -- the columns are a list, and more can be listed
 abbrev pub has_room : defined.Columns → Bool

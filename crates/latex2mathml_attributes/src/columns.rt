@@ -1,9 +1,9 @@
 //! The columns of tables.
-ghost use Rattle.std.specs.Prelude.{◌≡◌, ◌∷◌, ◌++◌, [], OnOk, string_bytes};
+ghost use Rattle.std.specs.Prelude.{◌≡◌, ◌<◌, ◌∷◌, ◌++◌, [], OnOk, get_or, string_bytes};
 ghost use Rattle.latex2mathml_elements.specs.Lines.{NoLine};
 ghost use Rattle.latex2mathml_elements.specs.Print.{cell_tag};
 ghost use Rattle.latex2mathml_elements.specs.Columns.{Alike, Centered, InPairs, LeftAligned, Listed, RightAligned, are_lined, column_at, unlined};
-ghost use Rattle.latex2mathml_attributes.specs.Columns.{alignment_of, behind_line, cell_start, column_of, columns_of, has_room, line_before, listed_behind, listed_of};
+ghost use Rattle.latex2mathml_attributes.specs.Columns.{alignment_of, behind_line, cell_start, column_of, columns_of, columns_in, has_room, line_before, listed_behind, listed_of, numbered};
 ghost use Rattle.latex2mathml_attributes.specs.Lines.{line_of};
 
 use crate::line::Line;
@@ -22,8 +22,7 @@ pub enum Alignment {
     Dense,
 }
 
-/// How the cells of a listed column are aligned, and what is drawn after it. A byte has all of it, since arrays of columns are
-/// copied.
+/// How the cells of a listed column are aligned, and what is drawn after it.
 #[derive(Debug, Clone, Copy)]
 pub enum ListedColumn {
     Centered,
@@ -59,8 +58,9 @@ pub struct Columns {
     kind: Kind,
     /// What is drawn before the first listed column.
     before: Line,
-    /// An array and its length, since parts are copied, and a list that allocates cannot be.
-    listed: [ListedColumn; MOST_COLUMNS],
+    /// The numbers of the listed columns, in an array, since parts are copied, and a list that allocates cannot be. A byte has
+    /// that of a column and, in its upper half, that of the column which is sixteen columns later.
+    listed: [u8; 16],
     len: u8,
 }
 
@@ -72,6 +72,47 @@ enum Kind {
 }
 
 impl ListedColumn {
+    /// Returns its number.
+    fn number(self) -> u8
+        ensures column { numbered result ≡ listed_of self }
+        ensures half { result < 16 }
+    {
+        match self {
+            ListedColumn::Centered => 0,
+            ListedColumn::CenteredBeforeLine => 1,
+            ListedColumn::CenteredBeforeTwoLines => 2,
+            ListedColumn::CenteredBeforeDashes => 3,
+            ListedColumn::LeftAligned => 4,
+            ListedColumn::LeftAlignedBeforeLine => 5,
+            ListedColumn::LeftAlignedBeforeTwoLines => 6,
+            ListedColumn::LeftAlignedBeforeDashes => 7,
+            ListedColumn::RightAligned => 8,
+            ListedColumn::RightAlignedBeforeLine => 9,
+            ListedColumn::RightAlignedBeforeTwoLines => 10,
+            ListedColumn::RightAlignedBeforeDashes => 11,
+        }
+    }
+
+    /// Returns the column of this number.
+    fn numbered(number: u8) -> ListedColumn
+        ensures { listed_of result ≡ numbered number }
+    {
+        match number {
+            1 => ListedColumn::CenteredBeforeLine,
+            2 => ListedColumn::CenteredBeforeTwoLines,
+            3 => ListedColumn::CenteredBeforeDashes,
+            4 => ListedColumn::LeftAligned,
+            5 => ListedColumn::LeftAlignedBeforeLine,
+            6 => ListedColumn::LeftAlignedBeforeTwoLines,
+            7 => ListedColumn::LeftAlignedBeforeDashes,
+            8 => ListedColumn::RightAligned,
+            9 => ListedColumn::RightAlignedBeforeLine,
+            10 => ListedColumn::RightAlignedBeforeTwoLines,
+            11 => ListedColumn::RightAlignedBeforeDashes,
+            _ => ListedColumn::Centered,
+        }
+    }
+
     /// Returns what is drawn after the column.
     fn line(self) -> Line
         ensures { line_of result ≡ (listed_of self).after }
@@ -187,15 +228,11 @@ impl Columns {
         ensures { columns_of result ≡ Listed NoLine (unlined RightAligned ∷ unlined Centered
             ∷ unlined LeftAligned ∷ []) }
     {
-        let mut listed = [ListedColumn::Centered; MOST_COLUMNS];
-        listed[0] = ListedColumn::RightAligned;
-        listed[2] = ListedColumn::LeftAligned;
-        Columns {
-            kind: Kind::Listed,
-            before: Line::Nothing,
-            listed,
-            len: 3,
-        }
+        let mut columns = Columns::none(Line::Nothing);
+        let _ = columns.push(ListedColumn::RightAligned);
+        let _ = columns.push(ListedColumn::Centered);
+        let _ = columns.push(ListedColumn::LeftAligned);
+        columns
     }
 
     /// Returns an empty list of columns, with this line before the first. The listed columns are followed by centered ones.
@@ -205,7 +242,7 @@ impl Columns {
         Columns {
             kind: Kind::Listed,
             before,
-            listed: [ListedColumn::Centered; MOST_COLUMNS],
+            listed: [0; 16],
             len: 0,
         }
     }
@@ -220,24 +257,43 @@ impl Columns {
         if !matches!(self.kind, Kind::Listed) || self.len as usize >= MOST_COLUMNS {
             return false;
         }
-        self.listed[self.len as usize] = column;
+        let number = column.number();
+        let place = self.len as usize;
+        if place < 16 {
+            self.listed[place] = number;
+        } else {
+            let before = place - 16;
+            self.listed[before] = self.listed[before] % 16 + 16 * number;
+        }
         self.len += 1;
         true
+    }
+
+    /// Returns the column at this place in the array, or a centered one if the place is beyond it.
+    fn listed_at(&self, place: usize) -> ListedColumn
+        ensures { listed_of result ≡ get_or (columns_in self.now.listed) place (unlined Centered) }
+    {
+        if place < 16 {
+            return ListedColumn::numbered(self.listed[place] % 16);
+        }
+        if place < MOST_COLUMNS {
+            return ListedColumn::numbered(self.listed[place - 16] / 16);
+        }
+        ListedColumn::Centered
     }
 
     /// Returns the column that follows `place` others.
     pub fn column_at(&self, place: usize) -> Column
         ensures { column_of result ≡ column_at (columns_of self.now) place }
     {
-        let listed = self.listed.as_slice();
         match self.kind {
             Kind::Alike(alignment) if place == 0 => Column::First(alignment),
             Kind::Alike(alignment) => Column::Later(alignment),
             Kind::InPairs if place == 0 => Column::First(Alignment::RightAligned),
             Kind::InPairs if place % 2 == 0 => Column::Later(Alignment::RightAligned),
             Kind::InPairs => Column::SecondOfPair,
-            Kind::Listed if place < listed.len() && place < self.len as usize => {
-                Column::Listed(self.line_before(place), listed[place])
+            Kind::Listed if place < MOST_COLUMNS && place < self.len as usize => {
+                Column::Listed(self.line_before(place), self.listed_at(place))
             }
             Kind::Listed => Column::Listed(Line::Nothing, ListedColumn::Centered),
         }
@@ -267,7 +323,7 @@ impl Columns {
         let len = self.len as usize;
         let mut place = 0;
         'columns: while place < len && place < MOST_COLUMNS {
-            if self.listed[place].line().is_drawn() {
+            if self.listed_at(place).line().is_drawn() {
                 return true;
             }
             place += 1;

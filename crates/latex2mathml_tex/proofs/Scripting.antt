@@ -4,7 +4,7 @@ use Rattle.std.proofs.lemmas.List.{length-drop}
 use Rattle.std.specs.Option.{is_some}
 use Rattle.latex2mathml_elements.specs.Element.{Element}
 use Rattle.latex2mathml_tex_grammar.specs.Atoms.{Atom, Before, Kind, atom, element_there}
-use Rattle.latex2mathml_tex_grammar.specs.Makes.{Scripts, are_stacked, base_there, fixed_base, is_high, scripted, scripted_atom, scripted_kind, superscript, with_scripts}
+use Rattle.latex2mathml_tex_grammar.specs.Makes.{Scripts, are_stacked, base_there, before_base, fixed_base, is_high, scripted, scripted_atom, scripted_kind, superscript, with_scripts}
 use Rattle.latex2mathml_tex_grammar.specs.Meaning.{LimitPlace}
 use Rattle.latex2mathml_tex_grammar.specs.Symbols.{Style}
 use Rattle.latex2mathml_tex_atoms.proofs.Shaping.{length_changed}
@@ -100,7 +100,7 @@ module _ (scripts whole : CodeScripts) (xs ys : List Element) (same : scripts_wi
 
   -- the base adapted to what precedes it
   abbrev adapted : Style → Before → Kind → Element → Element
-  adapted style before kind x = fixed_base (limit_place_of whole.limits) (element_there style true before kind x)
+  adapted style before kind x = fixed_base (limit_place_of whole.limits) (element_there style true (before_base kind before) kind x)
 
   abbrev fixed : Style → Before → Kind → List Element
   fixed style before kind = changed_at (adapted style before kind) (script_count whole) ys

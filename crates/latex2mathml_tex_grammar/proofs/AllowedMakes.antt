@@ -8,7 +8,7 @@ use Rattle.latex2mathml_elements.specs.Element.{Mi, Mn, Mo, Mtext, Element, toke
 use Rattle.latex2mathml_elements.proofs.{Characters.allowed_both, Characters.allowed_char, Characters.allowed_plain, Characters.plain_is_allowed, Plain.IsPlain, Plain.is_plain}
 use Rattle.latex2mathml_tex_grammar.specs.Alphabets.{in_alphabet}
 use Rattle.latex2mathml_tex_grammar.specs.Atoms.{Atom, Kind, SignOf, PlusOrMinus, Plain, UprightLetters, FunctionWord, Blank, Divider, Before, begins_group, begins_operand, as_prefix, as_infix, without_space, without_space_before, led, leads_operator, leads_relation, tight, as_ordinary, element_there, is_parted, lone_sign, element_as}
-use Rattle.latex2mathml_tex_grammar.specs.Makes.{text, letter, upright_letter, number, symbol, struck, classed, on_side, accent, brace, stack, in_style, fenced, fraction_element, fraction, lowered_divider, lowered, between_delimiters, Scripts, primes_text, prime_mark, behind_primes, superscript, are_stacked, fixed_base, with_scripts, base_there, scripted_atom, scripted}
+use Rattle.latex2mathml_tex_grammar.specs.Makes.{text, letter, upright_letter, number, symbol, struck, classed, on_side, accent, brace, stack, in_style, fenced, fraction_element, fraction, lowered_divider, lowered, between_delimiters, Scripts, primes_text, prime_mark, behind_primes, superscript, are_stacked, fixed_base, with_scripts, before_base, base_there, scripted_atom, scripted}
 use Rattle.latex2mathml_tex_grammar.specs.Meaning.{FractionRule, Bar, NoBar, Braced, Bracketed, Bare, LimitPlace, Beside, ByStyle, Movable, Stacked}
 use Rattle.latex2mathml_tex_grammar.specs.Rows.{Row, Operand, Joining, ToWord, ToRelations, Apart, as_base, is_spaced, isolated, lone, is_empty, join, parted, put, row_element, single, with_atom, empty_row}
 use Rattle.latex2mathml_tex_grammar.specs.Symbols.{Class, Ordinary, Operator, Binary, Relation, Opening, Closing, Punctuation, Inner, Style, InDisplay, InText, InScript, Alphabet, Upright, Italic, Bold, BoldItalic, DoubleStruck, Fraktur, Calligraphic, SansSerif, Monospace, Symbol, Letter, UprightLetter, Sign, BigOperator, Integral}
@@ -339,11 +339,11 @@ with_scripts_allowed false base (Some below) (Some above) h k i = (h, k, i)
 scripted_atom_allowed : (style : Style) (before : Before) (base : Atom) (scripts : Scripts) (below above : Option Element) → IsAllowedAtom base → IsAllowedElement below → IsAllowedElement above → IsAllowedAtom (scripted_atom style before base scripts below above)
 scripted_atom_allowed style before base scripts None None h k i = h
 scripted_atom_allowed style before base scripts (Some below) None h k i =
-    with_scripts_allowed (are_stacked style scripts.limits) _ (Some below) None (fixed_base_allowed scripts.limits (base_there style before base) (element_there_allowed style true before base.kind base.element h)) k i
+    with_scripts_allowed (are_stacked style scripts.limits) _ (Some below) None (fixed_base_allowed scripts.limits (base_there style before base) (element_there_allowed style true (before_base base.kind before) base.kind base.element h)) k i
 scripted_atom_allowed style before base scripts None (Some above) h k i =
-    with_scripts_allowed (are_stacked style scripts.limits) _ None (Some above) (fixed_base_allowed scripts.limits (base_there style before base) (element_there_allowed style true before base.kind base.element h)) k i
+    with_scripts_allowed (are_stacked style scripts.limits) _ None (Some above) (fixed_base_allowed scripts.limits (base_there style before base) (element_there_allowed style true (before_base base.kind before) base.kind base.element h)) k i
 scripted_atom_allowed style before base scripts (Some below) (Some above) h k i =
-    with_scripts_allowed (are_stacked style scripts.limits) _ (Some below) (Some above) (fixed_base_allowed scripts.limits (base_there style before base) (element_there_allowed style true before base.kind base.element h)) k i
+    with_scripts_allowed (are_stacked style scripts.limits) _ (Some below) (Some above) (fixed_base_allowed scripts.limits (base_there style before base) (element_there_allowed style true (before_base base.kind before) base.kind base.element h)) k i
 
 pub scripted_allowed : (style : Style) (before : Before) (base : Atom) (scripts : Scripts) → IsAllowedAtom base → AreAllowedScripts scripts → IsAllowedAtom (scripted style before base scripts)
 scripted_allowed style before base scripts h k =

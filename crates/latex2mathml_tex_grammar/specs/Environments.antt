@@ -24,7 +24,7 @@ abbrev mutual
   written_out [] = []
   written_out (c ∷ cs) = if c == byte "*" then repeated (before_first (λ d. d == byte "}") cs) ++ written_behind cs else c ∷ written_out cs
 
-  -- those after that brace
+  -- the same for what is after that brace
   pub written_behind : List ℕ → List ℕ
   written_behind [] = []
   written_behind (c ∷ cs) = if c == byte "}" then written_out cs else written_behind cs

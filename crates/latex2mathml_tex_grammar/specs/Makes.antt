@@ -6,7 +6,7 @@ use Rattle.latex2mathml_elements.specs.Element.{Mi, Mn, Mo, Mrow, Msqrt, Mstyle,
 use Rattle.latex2mathml_elements.specs.Extents.{wide}
 use Rattle.latex2mathml_tex_grammar.specs.{Alphabets.in_alphabet, Rows.Row, Rows.Operand, Rows.lone, Rows.row_element}
 use Rattle.latex2mathml_elements.specs.{Extents.wide, Groups.grouped}
-use Rattle.latex2mathml_tex_grammar.specs.Atoms.{Atom, Kind, SignOf, PlusOrMinus, Plain, UprightLetters, FunctionWord, Blank, Divider, Before, atom, element_there}
+use Rattle.latex2mathml_tex_grammar.specs.Atoms.{Atom, Kind, SignOf, PlusOrMinus, Plain, UprightLetters, FunctionWord, Blank, Divider, After, Before, Nothing, atom, element_there}
 use Rattle.latex2mathml_tex_grammar.specs.Meaning.{FractionRule, Bar, NoBar, Braced, Bracketed, Bare, LimitPlace, Beside, ByStyle, Movable, Stacked, Box, Phantom, PhantomWidth, PhantomHeight, Smashed, WithoutHeight, WithoutDepth, OverRight, OverLeft, OverBoth, Frame, StrikeUp, StrikeDown, StrikeTwice, Raised, Colored, OnColor}
 use Rattle.latex2mathml_tex_grammar.specs.Symbols.{Class, Ordinary, Operator, Binary, Relation, Opening, Closing, Punctuation, Inner, Style, InDisplay, InText, InScript, Alphabet, Upright, Symbol, Letter, UprightLetter, Sign, BigOperator, Integral}
 
@@ -464,9 +464,15 @@ scripted_kind (SignOf class) = Plain class
 scripted_kind PlusOrMinus = Plain Binary
 scripted_kind kind = no_letters kind
 
+-- what precedes a base: an operator that begins a group is as at the beginning of a formula
+abbrev pub before_base : Kind → Before → Before
+before_base (SignOf Operator) Nothing = After Opening
+before_base (Plain Operator) Nothing = After Opening
+before_base kind before = before
+
 -- the element of a base after what precedes the atom: a sign is the first element of what its scripts are beside
 abbrev pub base_there : Style → Before → Atom → Element
-base_there style before base = element_there style true before base.kind base.element
+base_there style before base = element_there style true (before_base base.kind before) base.kind base.element
 
 -- Whether an atom with scripts is higher than a letter, by whether a part of it is, or is above or below it. In scripts it always is.
 abbrev pub is_high : Style → Bool → Bool

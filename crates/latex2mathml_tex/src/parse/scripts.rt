@@ -22,7 +22,7 @@ use latex2mathml_builder::builder::Builder;
 use latex2mathml_tex_atoms::atoms::{Before, Context, Core, Kind, Scripts};
 use latex2mathml_tex_atoms::shapes::{fix_limits, put_primes, put_row};
 use latex2mathml_tex_atoms::signs::adapt;
-use latex2mathml_tex_commands::meaning::{LimitPlace, Style};
+use latex2mathml_tex_commands::meaning::{Class, LimitPlace, Style};
 use latex2mathml_tex_units::error::TexErrorKind;
 use latex2mathml_tex_units::unit::{Next, Piece};
 use std::alloc::AllocError;
@@ -279,16 +279,29 @@ fn with_primes(builder: &mut Builder, scripts: Scripts) -> Result<Scripts, Alloc
     })
 }
 
+/// Returns what precedes a base: an operator that begins a group is as at the beginning of a formula.
+fn before_base(kind: Kind, before: Before) -> Before
+    ensures { before_of result ≡ Makes.before_base (kind_of kind) (before_of before) }
+{
+    match (kind, before) {
+        (Kind::SignOf(Class::Operator) | Kind::Plain(Class::Operator), Before::Nothing) => {
+            Before::After(Class::Opening)
+        }
+        _ => before,
+    }
+}
+
 /// Adapts the base of these scripts to what precedes it. A sign is the first element of what its scripts are beside. The browser
 /// must not move the limits if they are to stay.
 fn adapt_base(builder: &mut Builder, style: Style, before: Before, kind: Kind, scripts: Scripts)
     ensures { elements_in builder.new
         ≡ changed_at (λ x. Makes.fixed_base (limit_place_of scripts.limits)
-        (Atoms.element_there (style_of style) true (before_of before) (kind_of kind) x))
+        (Atoms.element_there (style_of style) true
+        (Makes.before_base (kind_of kind) (before_of before)) (kind_of kind) x))
         (script_count scripts) (elements_in builder.old) }
 {
     let depth = scripts.count();
-    adapt(builder, depth, style, true, before, kind);
+    adapt(builder, depth, style, true, before_base(kind, before), kind);
     if let LimitPlace::Stacked = scripts.limits {
         fix_limits(builder, depth);
     }
