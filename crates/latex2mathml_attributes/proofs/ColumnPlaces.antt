@@ -1,5 +1,5 @@
 -- The columns that the code finds are those of the definitions.
-use Rattle.std.proofs.Common.{◌≡◌, ℕ, zero, suc, ◌%◌, ◌<◌, ◌≤◌, Bool, false, ◌||◌, List, [], ◌∷◌, drop, length, map, take, refl, sym, ap, ◌∙◌, arith}
+use Rattle.std.proofs.Common.{◌≡◌, ℕ, zero, suc, ◌%◌, ◌<◌, ◌≤◌, Bool, false, ◌||◌, List, [], ◌∷◌, drop, length, take, refl, sym, ap, ◌∙◌, arith}
 use Rattle.std.proofs.Math.ListN.{get_or}
 use Rattle.latex2mathml_elements.specs.Columns.{Centered, Column, RightAligned, SecondOfPair, Unspaced, SpaceBefore, InPairs, Listed, any_lined, column_at, spaced, unlined}
 use Rattle.latex2mathml_elements.specs.Lines.{Line, NoLine, is_drawn}

@@ -1,15 +1,12 @@
 -- Words that a text makes longer.
-use Rattle.std.proofs.Common.{◌≡◌, ℕ, ◌+◌, ◌<◌, ◌≤◌, Bool, false, true, zero, suc, List, [], ◌∷◌, ◌++◌, Option, Some, None, length, take, drop, refl, sym, ap, ◌∙◌, arith}
+use Rattle.std.proofs.Common.{◌≡◌, ℕ, ◌+◌, ◌<◌, Bool, false, true, zero, suc, List, [], ◌∷◌, length, take, drop, refl, arith}
 use Rattle.latex2mathml_elements.specs.{Attributes.plain, Element.Element, Element.Mtext, Element.token}
 use Rattle.latex2mathml_builder.specs.Stacks.{is_token, lengthened}
 use Rattle.latex2mathml_tex_grammar.specs.Makes.{text}
-use Rattle.latex2mathml_tex_grammar.specs.Words as words
-use Rattle.latex2mathml_tex_grammar.specs.Words.{with_text, with_character}
-use Rattle.latex2mathml_tex_atoms.specs.Models.{words_with}
+use Rattle.latex2mathml_tex_grammar.specs.Words.{with_text}
 use Rattle.latex2mathml_tex_atoms.specs.Wording as wording
 use Rattle.latex2mathml_tex_atoms.specs.Wording.{Replaced}
 use Rattle.latex2mathml_tex_atoms.specs.declared.atoms.Words.{Words}
-use Rattle.std.proofs.lemmas.List.{append_assoc}
 
 -- A text after words
 

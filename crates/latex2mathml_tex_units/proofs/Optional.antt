@@ -5,10 +5,9 @@ use Rattle.std.proofs.lemmas.List.{drop_more, length-map, map-append}
 use Rattle.std.specs.Prelude.{if◌then◌else◌}
 use Rattle.std.specs.Str.{byte}
 use Rattle.latex2mathml_tex_grammar.specs.Arguments.{between_brackets, closes_last, ends_brackets, is_character, is_group, with_first, without_braces}
-use Rattle.latex2mathml_tex_grammar.specs.Reading.{Outcome}
 use Rattle.latex2mathml_tex_grammar.specs.Units as units
 use Rattle.latex2mathml_tex_grammar.specs.Units.{Units, Next}
-use Rattle.latex2mathml_tex_units.specs.{Taking.piece_of, Taking.unit_of, declared.unit.Unit.Unit, declared.unit.Piece.Piece}
+use Rattle.latex2mathml_tex_units.specs.{Taking.piece_of, Taking.unit_of, declared.unit.Unit.Unit}
 use Rattle.latex2mathml_tex_units.specs.declared.unit.Piece.TheVariants as piece
 use Rattle.latex2mathml_tex_units.proofs.Grouping.{no_brace, with_all, with_all-push}
 

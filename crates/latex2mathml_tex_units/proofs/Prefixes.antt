@@ -1,5 +1,5 @@
 -- Words that may precede definitions, and are passed over.
-use Rattle.std.proofs.Common.{◌≡◌, ◌∙◌, ◌||◌, ℕ, suc, ◌<◌, ◌≤◌, Bool, true, false, Some, None, inl, inr, refl, sym, ap, subst, arith}
+use Rattle.std.proofs.Common.{◌≡◌, ◌∙◌, ◌||◌, ◌<◌, ◌≤◌, Bool, true, false, Some, None, inl, inr, refl, sym, ap, subst, arith}
 use Rattle.std.proofs.lemmas.Bool.{cases_Bool}
 use Rattle.std.specs.Prelude.{if◌then◌else◌}
 use Rattle.latex2mathml_tex_grammar.specs.{DefinitionTexts.is_prefix, DefinitionTexts.past_prefixes, Macros.count, Next.is_space_piece, Next.past_space}

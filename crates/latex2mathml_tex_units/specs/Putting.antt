@@ -3,7 +3,7 @@ use Rattle.std.specs.Prelude.{◌≡◌, ℕ, ◌+◌, ◌<◌, Bool, true, fals
 use Rattle.latex2mathml_tex_grammar.specs.{Expansion.Turn, Expansion.Turns, Expansion.Fails, Macros.Table, Macros.before, Macros.put, Macros.put_part, Refusal.refusal_at}
 use Rattle.latex2mathml_tex_grammar.specs.Units as units
 use Rattle.latex2mathml_tex_units.specs.{Bodies.part_of, Pending.lists_in, Pending.pending_units, Taking.kind_of}
-use Rattle.latex2mathml_tex_units.specs.declared.{macros.arguments.Arguments.Arguments, macros.halt.Halt.Halt, macros.part.Part.Part, macros.pending.Pending.Pending, unit.Unit.Unit}
+use Rattle.latex2mathml_tex_units.specs.declared.{macros.arguments.Arguments.Arguments, macros.halt.Halt.Halt, macros.part.Part.Part, macros.pending.Pending.Pending}
 use Rattle.latex2mathml_tex_units.specs.declared.macros.halt.Halt.TheVariants as halt
 
 -- whether the units were put before the others, with room for `room` units before and for `left` after

@@ -1,6 +1,5 @@
 use Rattle.std.proofs.Common.{◌∙◌, ap, refl, sym, true}
 use Rattle.latex2mathml_builder.specs.Built.{elements_in}
-use Rattle.latex2mathml_elements.specs.Element.{Element}
 use Rattle.latex2mathml_tex_grammar.specs.Atoms.{element_there}
 use Rattle.latex2mathml_tex_grammar.specs.Makes.{before_base, fixed_base}
 use Rattle.latex2mathml_tex_grammar.specs.Meaning.{Stacked}

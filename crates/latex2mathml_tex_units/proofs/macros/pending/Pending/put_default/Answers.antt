@@ -1,4 +1,4 @@
-use Rattle.std.proofs.Common.{◌≡◌, ◌+◌, ◌-◌, ◌<◌, [], length, map, arith}
+use Rattle.std.proofs.Common.{◌≡◌, ◌+◌, ◌-◌, ◌<◌, [], length, arith}
 use Rattle.latex2mathml_tex_units.specs.Pending.{pending_units}
 use Rattle.latex2mathml_tex_units.proofs.PuttingBodies.{no_room, part_put}
 use Rattle.latex2mathml_tex_units.proofs.macros.pending.Pending.put_default.Goals as goal
