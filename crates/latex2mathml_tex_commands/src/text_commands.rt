@@ -36,7 +36,7 @@ fn text_accents() -> &'static [Named]
 }
 
 #[rattlefmt::skip]
-static TEXT_COMMANDS: [Named; 42] = [
+static TEXT_COMMANDS: [Named; 53] = [
     Named { name: "#", character: '#' },
     Named { name: "$", character: '$' },
     Named { name: "%", character: '%' },
@@ -60,6 +60,8 @@ static TEXT_COMMANDS: [Named; 42] = [
     Named { name: "textbardbl", character: '‖' },
     Named { name: "textbraceleft", character: '{' },
     Named { name: "textbraceright", character: '}' },
+    Named { name: "textbullet", character: '•' },
+    Named { name: "textcent", character: '¢' },
     Named { name: "textcopyright", character: '©' },
     Named { name: "textdagger", character: '†' },
     Named { name: "textdaggerdbl", character: '‡' },
@@ -68,15 +70,24 @@ static TEXT_COMMANDS: [Named; 42] = [
     Named { name: "textellipsis", character: '…' },
     Named { name: "textemdash", character: '—' },
     Named { name: "textendash", character: '–' },
+    Named { name: "texteuro", character: '€' },
     Named { name: "textgreater", character: '>' },
     Named { name: "textless", character: '<' },
+    Named { name: "textmu", character: 'µ' },
+    Named { name: "textohm", character: 'Ω' },
+    Named { name: "textparagraph", character: '¶' },
+    Named { name: "textperiodcentered", character: '·' },
+    Named { name: "textperthousand", character: '‰' },
     Named { name: "textquotedblleft", character: '“' },
     Named { name: "textquotedblright", character: '”' },
     Named { name: "textquoteleft", character: '‘' },
     Named { name: "textquoteright", character: '’' },
     Named { name: "textregistered", character: '®' },
+    Named { name: "textsection", character: '§' },
     Named { name: "textsterling", character: '£' },
+    Named { name: "texttrademark", character: '™' },
     Named { name: "textunderscore", character: '_' },
+    Named { name: "textyen", character: '¥' },
     Named { name: "{", character: '{' },
     Named { name: "}", character: '}' },
 ];

@@ -307,6 +307,7 @@ commands_from_m =
     (codes "textrm", Words None) ∷
     (codes "textsc", Words None) ∷
     (codes "textsf", Words (Some SansSerif)) ∷
+    (codes "textsl", Words (Some Italic)) ∷
     (codes "textstyle", Changes (ToStyle InText)) ∷
     (codes "texttt", Words (Some Monospace)) ∷
     (codes "textup", Words None) ∷

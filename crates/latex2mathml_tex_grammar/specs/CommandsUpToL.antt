@@ -123,6 +123,7 @@ commands_up_to_l =
     (codes "_", Shows (Sign Ordinary 0x5F)) ∷  -- _
     (codes "a", Shows (UprightLetter 0xE5)) ∷  -- å
     (codes "acute", Accent Above 0xB4 Rigid) ∷  -- ´
+    (codes "adots", Shows (Sign Inner 0x22F0)) ∷  -- ⋰
     (codes "ae", Shows (UprightLetter 0xE6)) ∷  -- æ
     (codes "alef", Shows (UprightLetter 0x2135)) ∷  -- ℵ
     (codes "alefsym", Shows (UprightLetter 0x2135)) ∷  -- ℵ
@@ -374,6 +375,7 @@ commands_up_to_l =
     (codes "hskip", Skip) ∷
     (codes "hslash", Shows (Letter 0x210F)) ∷  -- ℏ
     (codes "hspace", SkipInBraces) ∷
+    (codes "iddots", Shows (Sign Inner 0x22F0)) ∷  -- ⋰
     (codes "iff", Shows (Sign Relation 0x27FA)) ∷  -- ⟺
     (codes "iiiint", Shows (Integral 0x2A0C)) ∷  -- ⨌
     (codes "iiint", Shows (Integral 0x222D)) ∷  -- ∭

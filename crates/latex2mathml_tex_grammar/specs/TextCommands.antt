@@ -28,6 +28,8 @@ text_commands =
     (codes "textbardbl", 0x2016) ∷  -- ‖
     (codes "textbraceleft", 0x7B) ∷  -- {
     (codes "textbraceright", 0x7D) ∷  -- }
+    (codes "textbullet", 0x2022) ∷  -- •
+    (codes "textcent", 0xA2) ∷  -- ¢
     (codes "textcopyright", 0xA9) ∷  -- ©
     (codes "textdagger", 0x2020) ∷  -- †
     (codes "textdaggerdbl", 0x2021) ∷  -- ‡
@@ -36,15 +38,24 @@ text_commands =
     (codes "textellipsis", 0x2026) ∷  -- …
     (codes "textemdash", 0x2014) ∷  -- —
     (codes "textendash", 0x2013) ∷  -- –
+    (codes "texteuro", 0x20AC) ∷  -- €
     (codes "textgreater", 0x3E) ∷  -- >
     (codes "textless", 0x3C) ∷  -- <
+    (codes "textmu", 0xB5) ∷  -- µ
+    (codes "textohm", 0x03A9) ∷  -- Ω
+    (codes "textparagraph", 0xB6) ∷  -- ¶
+    (codes "textperiodcentered", 0xB7) ∷  -- ·
+    (codes "textperthousand", 0x2030) ∷  -- ‰
     (codes "textquotedblleft", 0x201C) ∷  -- “
     (codes "textquotedblright", 0x201D) ∷  -- ”
     (codes "textquoteleft", 0x2018) ∷  -- ‘
     (codes "textquoteright", 0x2019) ∷  -- ’
     (codes "textregistered", 0xAE) ∷  -- ®
+    (codes "textsection", 0xA7) ∷  -- §
     (codes "textsterling", 0xA3) ∷  -- £
+    (codes "texttrademark", 0x2122) ∷  -- ™
     (codes "textunderscore", 0x5F) ∷  -- _
+    (codes "textyen", 0xA5) ∷  -- ¥
     (codes "{", 0x7B) ∷  -- {
     (codes "}", 0x7D) ∷  -- }
     []

@@ -28,6 +28,7 @@ usual_entries =
     (codes "Large", 0, codes "") ∷
     (codes "TeX", 0, codes "\\text{TeX}") ∷
     (codes "allowbreak", 0, codes "") ∷
+    (codes "allowdisplaybreaks", 0, codes "") ∷
     (codes "approxcolon", 0, codes "\\mathrel{\\approx:}") ∷
     (codes "approxcoloncolon", 0, codes "\\mathrel{\\approx::}") ∷
     (codes "bfseries", 0, codes "\\bf") ∷
@@ -64,6 +65,8 @@ usual_entries =
     (codes "footnotesize", 0, codes "") ∷
     (codes "global", 0, codes "") ∷
     (codes "hdots", 0, codes "\\ldots") ∷
+    (codes "hfil", 0, codes "") ∷
+    (codes "hfill", 0, codes "") ∷
     (codes "huge", 0, codes "") ∷
     (codes "idotsint", 0, codes "\\int\\cdots\\int") ∷
     (codes "iff", 0, codes "\\;\\Longleftrightarrow\\;") ∷
@@ -84,6 +87,7 @@ usual_entries =
     (codes "minuscoloncolon", 0, codes "\\mathrel{\\relbar::}") ∷
     (codes "mod", 1, codes "\\mathchoice{\\mkern18mu}{\\mkern12mu}{\\mkern12mu}{\\mkern12mu}\\mathrm{mod}\\,\\,#1") ∷
     (codes "nobreak", 0, codes "") ∷
+    (codes "noindent", 0, codes "") ∷
     (codes "nonumber", 0, codes "") ∷
     (codes "normalfont", 0, codes "") ∷
     (codes "normalsize", 0, codes "") ∷

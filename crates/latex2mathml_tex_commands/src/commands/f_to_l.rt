@@ -103,7 +103,8 @@ pub(crate) fn letter_i() -> &'static [Entry]
 }
 
 #[rattlefmt::skip]
-static LETTER_I: [Entry; 20] = [
+static LETTER_I: [Entry; 21] = [
+    Entry { name: "iddots", key: 0x6964646f74730000, meaning: Meaning::Shows(Symbol::Sign(Class::Inner, '⋰')) },
     Entry { name: "iff", key: 0x6966660000000000, meaning: Meaning::Shows(Symbol::Sign(Class::Relation, '⟺')) },
     Entry { name: "iiiint", key: 0x696969696e740000, meaning: Meaning::Shows(Symbol::Integral('⨌')) },
     Entry { name: "iiint", key: 0x6969696e74000000, meaning: Meaning::Shows(Symbol::Integral('∭')) },

@@ -18,7 +18,7 @@ pub(crate) fn letter_t() -> &'static [Entry]
 }
 
 #[rattlefmt::skip]
-static LETTER_T: [Entry; 41] = [
+static LETTER_T: [Entry; 42] = [
     Entry { name: "tan", key: 0x74616e0000000000, meaning: Meaning::FunctionName(LimitPlace::Beside, "tan") },
     Entry { name: "tanh", key: 0x74616e6800000000, meaning: Meaning::FunctionName(LimitPlace::Beside, "tanh") },
     Entry { name: "tau", key: 0x7461750000000000, meaning: Meaning::Shows(Symbol::Letter('τ')) },
@@ -32,6 +32,7 @@ static LETTER_T: [Entry; 41] = [
     Entry { name: "textrm", key: 0x74657874726d0000, meaning: Meaning::Words(None) },
     Entry { name: "textsc", key: 0x7465787473630000, meaning: Meaning::Words(None) },
     Entry { name: "textsf", key: 0x7465787473660000, meaning: Meaning::Words(Some(Alphabet::SansSerif)) },
+    Entry { name: "textsl", key: 0x74657874736c0000, meaning: Meaning::Words(Some(Alphabet::Italic)) },
     Entry { name: "textstyle", key: 0x746578747374796c, meaning: Meaning::Changes(Change::ToStyle(Style::InText)) },
     Entry { name: "texttt", key: 0x7465787474740000, meaning: Meaning::Words(Some(Alphabet::Monospace)) },
     Entry { name: "textup", key: 0x7465787475700000, meaning: Meaning::Words(None) },

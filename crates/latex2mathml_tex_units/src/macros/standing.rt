@@ -175,7 +175,7 @@ fn turns_up_to_l(first: u8, second: u8, len: usize) -> bool
         b'K' | b'T' | b'k' => second == b'e' && len == 3,
         b'L' => matches!(second, b'A' | b'a') && len == 5,
         b'a' => match second {
-            b'l' => len == 10,
+            b'l' => matches!(len, 10 | 18),
             b'p' => matches!(len, 11 | 16),
             _ => false,
         },
@@ -216,6 +216,7 @@ fn turns_up_to_l(first: u8, second: u8, len: usize) -> bool
         },
         b'h' => match second {
             b'd' => len == 5,
+            b'f' => matches!(len, 4 | 5),
             b'u' => len == 4,
             _ => false,
         },

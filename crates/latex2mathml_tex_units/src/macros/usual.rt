@@ -30,7 +30,7 @@ fn entries() -> &'static [Usual]
 
 /// An entry for each macro, in the order of their names' bytes.
 #[rattlefmt::skip]
-static ENTRIES: [Usual; 124] = [
+static ENTRIES: [Usual; 128] = [
     Usual { name: "(", arity: 0, body: "$" },
     Usual { name: ")", arity: 0, body: "$" },
     Usual { name: "*", arity: 0, body: "" },
@@ -51,6 +51,7 @@ static ENTRIES: [Usual; 124] = [
     Usual { name: "Large", arity: 0, body: "" },
     Usual { name: "TeX", arity: 0, body: "\\text{TeX}" },
     Usual { name: "allowbreak", arity: 0, body: "" },
+    Usual { name: "allowdisplaybreaks", arity: 0, body: "" },
     Usual { name: "approxcolon", arity: 0, body: "\\mathrel{\\approx:}" },
     Usual { name: "approxcoloncolon", arity: 0, body: "\\mathrel{\\approx::}" },
     Usual { name: "bfseries", arity: 0, body: "\\bf" },
@@ -87,6 +88,8 @@ static ENTRIES: [Usual; 124] = [
     Usual { name: "footnotesize", arity: 0, body: "" },
     Usual { name: "global", arity: 0, body: "" },
     Usual { name: "hdots", arity: 0, body: "\\ldots" },
+    Usual { name: "hfil", arity: 0, body: "" },
+    Usual { name: "hfill", arity: 0, body: "" },
     Usual { name: "huge", arity: 0, body: "" },
     Usual { name: "idotsint", arity: 0, body: "\\int\\cdots\\int" },
     Usual { name: "iff", arity: 0, body: "\\;\\Longleftrightarrow\\;" },
@@ -107,6 +110,7 @@ static ENTRIES: [Usual; 124] = [
     Usual { name: "minuscoloncolon", arity: 0, body: "\\mathrel{\\relbar::}" },
     Usual { name: "mod", arity: 1, body: "\\mathchoice{\\mkern18mu}{\\mkern12mu}{\\mkern12mu}{\\mkern12mu}\\mathrm{mod}\\,\\,#1" },
     Usual { name: "nobreak", arity: 0, body: "" },
+    Usual { name: "noindent", arity: 0, body: "" },
     Usual { name: "nonumber", arity: 0, body: "" },
     Usual { name: "normalfont", arity: 0, body: "" },
     Usual { name: "normalsize", arity: 0, body: "" },
