@@ -35,7 +35,6 @@ usual_entries =
     (codes "bmod", 0, codes "\\mskip5mu\\mathbin{\\operatorname{mod}}\\mskip5mu") ∷
     (codes "bra", 1, codes "\\langle #1|") ∷
     (codes "braket", 1, codes "\\langle #1\\rangle") ∷
-    (codes "cases", 1, codes "\\begin{cases}#1\\end{cases}") ∷
     (codes "centering", 0, codes "") ∷
     (codes "clap", 1, codes "\\mathclap{\\text{#1}}") ∷
     (codes "colon", 0, codes "\\mskip2mu\\mathord{:}\\mskip6mu") ∷

@@ -14,7 +14,7 @@ turns_up_to_l first second len =
     else if first == byte "L" then (second == byte "A" || second == byte "a") && len == 5
     else if first == byte "a" then (if second == byte "l" then len == 10 || len == 18 else if second == byte "p" then len == 11 || len == 16 else false)
     else if first == byte "b" then (if second == byte "f" then len == 8 else if second == byte "m" then len == 4 else if second == byte "r" then len == 3 || len == 6 else false)
-    else if first == byte "c" then (if second == byte "a" then len == 5 else if second == byte "e" then len == 9 else if second == byte "l" then len == 4 else if second == byte "o" then len == 5 || len == 7 || len == 8 || len == 10 || len == 11 || len == 13 || len == 15 || len == 16 else false)
+    else if first == byte "c" then (if second == byte "e" then len == 9 else if second == byte "l" then len == 4 else if second == byte "o" then len == 5 || len == 7 || len == 8 || len == 10 || len == 11 || len == 13 || len == 15 || len == 16 else false)
     else if first == byte "d" then (if second == byte "e" then len == 3 else if second == byte "i" then len == 12 else if second == byte "o" then len == 5 else false)
     else if first == byte "e" then (if second == byte "m" then len == 2 else if second == byte "n" then len == 10 else if second == byte "q" then len == 4 || len == 7 || len == 16 else false)
     else if first == byte "f" then (if second == byte "b" then len == 4 else if second == byte "o" then len == 12 else false)

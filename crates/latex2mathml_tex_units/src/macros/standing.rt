@@ -186,7 +186,6 @@ fn turns_up_to_l(first: u8, second: u8, len: usize) -> bool
             _ => false,
         },
         b'c' => match second {
-            b'a' => len == 5,
             b'e' => len == 9,
             b'l' => len == 4,
             b'o' => matches!(len, 5 | 7 | 8 | 10 | 11 | 13 | 15 | 16),

@@ -30,7 +30,7 @@ fn entries() -> &'static [Usual]
 
 /// An entry for each macro, in the order of their names' bytes.
 #[rattlefmt::skip]
-static ENTRIES: [Usual; 128] = [
+static ENTRIES: [Usual; 127] = [
     Usual { name: "(", arity: 0, body: "$" },
     Usual { name: ")", arity: 0, body: "$" },
     Usual { name: "*", arity: 0, body: "" },
@@ -58,7 +58,6 @@ static ENTRIES: [Usual; 128] = [
     Usual { name: "bmod", arity: 0, body: "\\mskip5mu\\mathbin{\\operatorname{mod}}\\mskip5mu" },
     Usual { name: "bra", arity: 1, body: "\\langle #1|" },
     Usual { name: "braket", arity: 1, body: "\\langle #1\\rangle" },
-    Usual { name: "cases", arity: 1, body: "\\begin{cases}#1\\end{cases}" },
     Usual { name: "centering", arity: 0, body: "" },
     Usual { name: "clap", arity: 1, body: "\\mathclap{\\text{#1}}" },
     Usual { name: "colon", arity: 0, body: "\\mskip2mu\\mathord{:}\\mskip6mu" },
