@@ -1,5 +1,5 @@
 -- The first two bytes and the lengths of the names of usual macros and of the words that begin definitions.
-use Rattle.std.specs.Prelude.{ℕ, ◌==◌, ◌&&◌, ◌||◌, Bool, nat_lt, false, if◌then◌else◌}
+use Rattle.std.specs.Prelude.{ℕ, ◌==◌, ◌&&◌, ◌||◌, Bool, nat_lt, false, List, [], ◌∷◌, if◌then◌else◌}
 use Rattle.std.specs.Str.{byte}
 
 -- whether the name of a usual macro or of such a word, which begins before m, has these first two bytes and this length
@@ -42,3 +42,8 @@ turns_from_m first second len =
 -- whether the name of a usual macro or of such a word has these first two bytes and this length
 abbrev pub is_turning_form : ℕ → ℕ → ℕ → Bool
 is_turning_form first second len = if nat_lt first (byte "m") then turns_up_to_l first second len else turns_from_m first second len
+
+-- whether a name has six bytes, of which the first and the fourth are those of `mathbb`
+abbrev pub is_like_mathbb : List ℕ → Bool
+is_like_mathbb (a ∷ b ∷ c ∷ d ∷ e ∷ f ∷ []) = a == byte "m" && d == byte "h"
+is_like_mathbb name = false

@@ -3,7 +3,7 @@ ghost use Rattle.std.specs.Prelude.{◌≡◌, ◌∷◌, ◌++◌, ℕ, IfSome,
 ghost use Rattle.std.specs.Str.{byte, chars};
 ghost use Rattle.latex2mathml_tex_grammar.specs.Units.{Spells};
 ghost use Rattle.latex2mathml_tex_grammar.specs.{Definitions.word_named, Expansion.Stands, Expansion.role_of, Macros.Table, UsualMacros.usual_macros};
-ghost use Rattle.latex2mathml_tex_units.specs.{Left.units_left, Taking.piece_of, TurningForms.is_turning_form, TurningForms.turns_from_m, TurningForms.turns_up_to_l};
+ghost use Rattle.latex2mathml_tex_units.specs.{Left.units_left, Taking.piece_of, TurningForms.is_like_mathbb, TurningForms.is_turning_form, TurningForms.turns_from_m, TurningForms.turns_up_to_l};
 ghost use Rattle.latex2mathml_tex_units.specs.Standing.{AreStanding, IsUsual, Moves};
 
 use crate::lexer::Lexer;
@@ -132,16 +132,30 @@ fn stands(usual: bool, piece: Piece) -> bool
     }
 }
 
-/// Whether a usual macro or a word that begins definitions may have this name, by its first two bytes and its length.
+/// Whether a usual macro or a word that begins definitions may have this name, by its first two bytes and its length. Those of
+/// `matrix` are also those of `mathbb` and the like, which are frequent.
 #[inline(always)]
 pub(crate) fn may_turn(name: &str) -> bool
     ensures usual { IsFalse result → usual_macros name.now ≡ None }
     ensures word { IsFalse result → word_named name.now ≡ None }
 {
     match name.as_bytes() {
-        [first, second, ..] => is_turning_form(*first, *second, name.len()),
+        [first, second, ..] => {
+            is_turning_form(*first, *second, name.len()) && !is_like_mathbb(name)
+        }
         [one] => matches!(*one, b'(' | b')' | b'*' | b'-' | b'/'),
         [] => false,
+    }
+}
+
+/// Whether the name has six bytes, of which the first and the fourth are those of `mathbb`.
+#[inline(always)]
+fn is_like_mathbb(name: &str) -> bool
+    ensures { result ≡ is_like_mathbb name.now }
+{
+    match name.as_bytes() {
+        [first, _, _, fourth, _, _] => *first == b'm' && *fourth == b'h',
+        _ => false,
     }
 }
 
