@@ -14,6 +14,8 @@ commands_from_m =
     (codes "mars", Shows (Sign Ordinary 0x2642)) ∷  -- ♂
     (codes "mathbb", Styled DoubleStruck) ∷
     (codes "mathbbm", Styled DoubleStruck) ∷
+    (codes "mathbbmss", Styled DoubleStruck) ∷
+    (codes "mathbbold", Styled DoubleStruck) ∷
     (codes "mathbf", Styled Bold) ∷
     (codes "mathbfit", Styled BoldItalic) ∷
     (codes "mathbfup", Styled Bold) ∷
@@ -35,6 +37,7 @@ commands_from_m =
     (codes "mathopen", Classed Opening) ∷
     (codes "mathord", Classed Ordinary) ∷
     (codes "mathpunct", Classed Punctuation) ∷
+    (codes "mathpzc", Styled Calligraphic) ∷
     (codes "mathrel", Classed Relation) ∷
     (codes "mathring", Accent Above 0x02DA Rigid) ∷  -- ˚
     (codes "mathrlap", Boxed OverRight) ∷
@@ -50,6 +53,7 @@ commands_from_m =
     (codes "medspace", Spacing (pos 4)) ∷
     (codes "mercury", Shows (Sign Ordinary 0x263F)) ∷  -- ☿
     (codes "mho", Shows (Sign Ordinary 0x2127)) ∷  -- ℧
+    (codes "micro", Shows (UprightLetter 0xB5)) ∷  -- µ
     (codes "mid", Shows (Sign Relation 0x2223)) ∷  -- ∣
     (codes "middle", Middle) ∷
     (codes "min", FunctionName ByStyle (codes "min")) ∷
@@ -124,9 +128,11 @@ commands_from_m =
     (codes "o", Shows (UprightLetter 0xF8)) ∷  -- ø
     (codes "odot", Shows (Sign Binary 0x2299)) ∷  -- ⊙
     (codes "oe", Shows (UprightLetter 0x0153)) ∷  -- œ
+    (codes "ohm", Shows (UprightLetter 0x03A9)) ∷  -- Ω
     (codes "oiiint", Shows (Integral 0x2230)) ∷  -- ∰
     (codes "oiint", Shows (Integral 0x222F)) ∷  -- ∯
     (codes "oint", Shows (Integral 0x222E)) ∷  -- ∮
+    (codes "ointctrclockwise", Shows (Integral 0x2233)) ∷  -- ∳
     (codes "omega", Shows (Letter 0x03C9)) ∷  -- ω
     (codes "omicron", Shows (Letter 0x03BF)) ∷  -- ο
     (codes "ominus", Shows (Sign Binary 0x2296)) ∷  -- ⊖
@@ -152,6 +158,7 @@ commands_from_m =
     (codes "parallel", Shows (Sign Relation 0x2225)) ∷  -- ∥
     (codes "partial", Shows (Sign Ordinary 0x2202)) ∷  -- ∂
     (codes "perp", Shows (Sign Relation 0x22A5)) ∷  -- ⊥
+    (codes "perthousand", Shows (Sign Ordinary 0x2030)) ∷  -- ‰
     (codes "phantom", Boxed Phantom) ∷
     (codes "phi", Shows (Letter 0x03D5)) ∷  -- ϕ
     (codes "pi", Shows (Letter 0x03C0)) ∷  -- π
@@ -394,6 +401,7 @@ commands_from_m =
     (codes "varepsilon", Shows (Letter 0x03B5)) ∷  -- ε
     (codes "varkappa", Shows (UprightLetter 0x03F0)) ∷  -- ϰ
     (codes "varnothing", Shows (Sign Ordinary 0x2205)) ∷  -- ∅
+    (codes "varointclockwise", Shows (Integral 0x2232)) ∷  -- ∲
     (codes "varphi", Shows (Letter 0x03C6)) ∷  -- φ
     (codes "varpi", Shows (Letter 0x03D6)) ∷  -- ϖ
     (codes "varpropto", Shows (Sign Relation 0x221D)) ∷  -- ∝

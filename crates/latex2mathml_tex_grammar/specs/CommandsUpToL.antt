@@ -164,6 +164,7 @@ commands_up_to_l =
     (codes "bigcap", Shows (BigOperator 0x22C2)) ∷  -- ⋂
     (codes "bigcirc", Shows (Sign Binary 0x25EF)) ∷  -- ◯
     (codes "bigcup", Shows (BigOperator 0x22C3)) ∷  -- ⋃
+    (codes "bigcupdot", Shows (BigOperator 0x2A03)) ∷  -- ⨃
     (codes "bigg", Sized VeryBig Ordinary) ∷
     (codes "biggl", Sized VeryBig Opening) ∷
     (codes "biggm", Sized VeryBig Relation) ∷
@@ -174,8 +175,10 @@ commands_up_to_l =
     (codes "bigoplus", Shows (BigOperator 0x2A01)) ∷  -- ⨁
     (codes "bigotimes", Shows (BigOperator 0x2A02)) ∷  -- ⨂
     (codes "bigr", Sized Big Closing) ∷
+    (codes "bigsqcap", Shows (BigOperator 0x2A05)) ∷  -- ⨅
     (codes "bigsqcup", Shows (BigOperator 0x2A06)) ∷  -- ⨆
     (codes "bigstar", Shows (Sign Ordinary 0x2605)) ∷  -- ★
+    (codes "bigtimes", Shows (BigOperator 0x2A09)) ∷  -- ⨉
     (codes "bigtriangledown", Shows (Sign Binary 0x25BD)) ∷  -- ▽
     (codes "bigtriangleup", Shows (Sign Binary 0x25B3)) ∷  -- △
     (codes "biguplus", Shows (BigOperator 0x2A04)) ∷  -- ⨄
@@ -252,6 +255,7 @@ commands_up_to_l =
     (codes "ctg", FunctionName Beside (codes "ctg")) ∷
     (codes "cth", FunctionName Beside (codes "cth")) ∷
     (codes "cup", Shows (Sign Binary 0x222A)) ∷  -- ∪
+    (codes "cupdot", Shows (Sign Binary 0x228D)) ∷  -- ⊍
     (codes "curlyeqprec", Shows (Sign Relation 0x22DE)) ∷  -- ⋞
     (codes "curlyeqsucc", Shows (Sign Relation 0x22DF)) ∷  -- ⋟
     (codes "curlyvee", Shows (Sign Binary 0x22CE)) ∷  -- ⋎
@@ -263,6 +267,7 @@ commands_up_to_l =
     (codes "dagger", Shows (Sign Binary 0x2020)) ∷  -- †
     (codes "daleth", Shows (UprightLetter 0x2138)) ∷  -- ℸ
     (codes "darr", Shows (Sign Relation 0x2193)) ∷  -- ↓
+    (codes "dashint", Shows (Integral 0x2A0D)) ∷  -- ⨍
     (codes "dashleftarrow", Shows (Sign Relation 0x21E0)) ∷  -- ⇠
     (codes "dashrightarrow", Shows (Sign Relation 0x21E2)) ∷  -- ⇢
     (codes "dashv", Shows (Sign Relation 0x22A3)) ∷  -- ⊣
@@ -293,6 +298,7 @@ commands_up_to_l =
     (codes "divideontimes", Shows (Sign Binary 0x22C7)) ∷  -- ⋇
     (codes "dj", Shows (UprightLetter 0x0111)) ∷  -- đ
     (codes "dot", Accent Above 0x02D9 Rigid) ∷  -- ˙
+    (codes "dotcup", Shows (Sign Binary 0x228D)) ∷  -- ⊍
     (codes "doteq", Shows (Sign Relation 0x2250)) ∷  -- ≐
     (codes "doteqdot", Shows (Sign Relation 0x2251)) ∷  -- ≑
     (codes "dotplus", Shows (Sign Binary 0x2214)) ∷  -- ∔
@@ -330,6 +336,7 @@ commands_up_to_l =
     (codes "exists", Shows (Sign Ordinary 0x2203)) ∷  -- ∃
     (codes "exp", FunctionName Beside (codes "exp")) ∷
     (codes "fallingdotseq", Shows (Sign Relation 0x2252)) ∷  -- ≒
+    (codes "fint", Shows (Integral 0x2A0D)) ∷  -- ⨍
     (codes "flat", Shows (Sign Ordinary 0x266D)) ∷  -- ♭
     (codes "forall", Shows (Sign Ordinary 0x2200)) ∷  -- ∀
     (codes "frac", Fraction Bar None) ∷

@@ -27,6 +27,7 @@ usual_entries =
     (codes "LaTeX", 0, codes "\\text{LaTeX}") ∷
     (codes "Large", 0, codes "") ∷
     (codes "TeX", 0, codes "\\text{TeX}") ∷
+    (codes "adjustlimits", 0, codes "") ∷
     (codes "allowbreak", 0, codes "") ∷
     (codes "allowdisplaybreaks", 0, codes "") ∷
     (codes "approxcolon", 0, codes "\\mathrel{\\approx:}") ∷
@@ -35,7 +36,9 @@ usual_entries =
     (codes "bmod", 0, codes "\\mskip5mu\\mathbin{\\operatorname{mod}}\\mskip5mu") ∷
     (codes "bra", 1, codes "\\langle #1|") ∷
     (codes "braket", 1, codes "\\langle #1\\rangle") ∷
+    (codes "celsius", 0, codes "\\text{\\textdegree C}") ∷
     (codes "centering", 0, codes "") ∷
+    (codes "centernot", 0, codes "\\not") ∷
     (codes "clap", 1, codes "\\mathclap{\\text{#1}}") ∷
     (codes "colon", 0, codes "\\mskip2mu\\mathord{:}\\mskip6mu") ∷
     (codes "colonapprox", 0, codes "\\mathrel{:\\approx}") ∷
@@ -69,33 +72,43 @@ usual_entries =
     (codes "huge", 0, codes "") ∷
     (codes "idotsint", 0, codes "\\int\\cdots\\int") ∷
     (codes "iff", 0, codes "\\;\\Longleftrightarrow\\;") ∷
+    (codes "ignorespaces", 0, codes "") ∷
     (codes "impliedby", 0, codes "\\;\\Longleftarrow\\;") ∷
     (codes "implies", 0, codes "\\;\\Longrightarrow\\;") ∷
     (codes "itshape", 0, codes "\\it") ∷
     (codes "ket", 1, codes "|#1\\rangle") ∷
+    (codes "ketbra", 2, codes "|#1\\rangle\\langle #2|") ∷
     (codes "label", 1, codes "") ∷
     (codes "large", 0, codes "") ∷
+    (codes "leavevmode", 0, codes "") ∷
+    (codes "lefteqn", 1, codes "\\mathrlap{\\displaystyle #1}") ∷
     (codes "leftroot", 1, codes "") ∷
     (codes "leqno", 0, codes "\\qquad\\textstyle") ∷
     (codes "llap", 1, codes "\\mathllap{\\text{#1}}") ∷
     (codes "long", 0, codes "") ∷
     (codes "lq", 0, codes "`") ∷
     (codes "mathstrut", 0, codes "\\vphantom{(}") ∷
+    (codes "mathtoolsset", 1, codes "") ∷
     (codes "matrix", 1, codes "\\begin{matrix}#1\\end{matrix}") ∷
     (codes "mdseries", 0, codes "") ∷
     (codes "minuscoloncolon", 0, codes "\\mathrel{\\relbar::}") ∷
     (codes "mod", 1, codes "\\mathchoice{\\mkern18mu}{\\mkern12mu}{\\mkern12mu}{\\mkern12mu}\\mathrm{mod}\\,\\,#1") ∷
+    (codes "nicefrac", 2, codes "#1/#2") ∷
     (codes "nobreak", 0, codes "") ∷
     (codes "noindent", 0, codes "") ∷
     (codes "nonumber", 0, codes "") ∷
     (codes "normalfont", 0, codes "") ∷
     (codes "normalsize", 0, codes "") ∷
     (codes "notag", 0, codes "") ∷
+    (codes "null", 0, codes "{}") ∷
     (codes "operatornamewithlimits", 0, codes "\\operatorname*") ∷
     (codes "pmatrix", 1, codes "\\begin{pmatrix}#1\\end{pmatrix}") ∷
     (codes "pmod", 1, codes "\\pod{\\mathrm{mod}\\mkern6mu#1}") ∷
     (codes "pod", 1, codes "\\mathchoice{\\mkern18mu}{\\mkern8mu}{\\mkern8mu}{\\mkern8mu}(#1)") ∷
+    (codes "prescript", 3, codes "{\\vphantom{#3}}^{#1}_{#2}#3") ∷
+    (codes "protect", 0, codes "") ∷
     (codes "qed", 0, codes "\\square") ∷
+    (codes "qedhere", 0, codes "\\qquad\\square") ∷
     (codes "raisebox", 2, codes "\\raisemath{#1}{\\text{#2}}") ∷
     (codes "relax", 0, codes "") ∷
     (codes "rlap", 1, codes "\\mathrlap{\\text{#1}}") ∷
@@ -103,6 +116,7 @@ usual_entries =
     (codes "rq", 0, codes "'") ∷
     (codes "scriptsize", 0, codes "") ∷
     (codes "scshape", 0, codes "") ∷
+    (codes "setlength", 2, codes "") ∷
     (codes "sffamily", 0, codes "\\sf") ∷
     (codes "sfrac", 2, codes "#1/#2") ∷
     (codes "shoveleft", 1, codes "#1") ∷
@@ -113,10 +127,15 @@ usual_entries =
     (codes "slash", 0, codes "/") ∷
     (codes "slshape", 0, codes "\\it") ∷
     (codes "small", 0, codes "") ∷
+    (codes "splitdfrac", 2, codes "\\genfrac{}{}{0pt}{0}{#1\\quad}{\\quad #2}") ∷
+    (codes "splitfrac", 2, codes "\\genfrac{}{}{0pt}{1}{#1\\quad}{\\quad #2}") ∷
     (codes "strut", 0, codes "\\vphantom{(}") ∷
     (codes "tag", 1, codes "\\qquad\\text{(#1)}") ∷
+    (codes "textsubscript", 1, codes "\\mbox{$_{\\mbox{#1}}$}") ∷
+    (codes "textsuperscript", 1, codes "\\mbox{$^{\\mbox{#1}}$}") ∷
     (codes "tiny", 0, codes "") ∷
     (codes "ttfamily", 0, codes "\\tt") ∷
+    (codes "unskip", 0, codes "") ∷
     (codes "uproot", 1, codes "") ∷
     (codes "upshape", 0, codes "") ∷
     (codes "varDelta", 0, codes "\\mathit{\\Delta}") ∷
@@ -135,6 +154,7 @@ usual_entries =
     (codes "varlimsup", 0, codes "\\operatorname*{\\overline{\\mathrm{lim}}}") ∷
     (codes "varprojlim", 0, codes "\\operatorname*{\\underleftarrow{\\mathrm{lim}}}") ∷
     (codes "vcenter", 1, codes "{#1}") ∷
+    (codes "xspace", 0, codes "") ∷
     []
 
 -- the units as a list

@@ -56,7 +56,7 @@ pub(crate) fn letter_b() -> &'static [Entry]
 }
 
 #[rattlefmt::skip]
-static LETTER_B: [Entry; 62] = [
+static LETTER_B: [Entry; 65] = [
     Entry { name: "backepsilon", key: 0x6261636b65707369, meaning: Meaning::Shows(Symbol::Sign(Class::Relation, '∍')) },
     Entry { name: "backprime", key: 0x6261636b7072696d, meaning: Meaning::Shows(Symbol::Sign(Class::Ordinary, '‵')) },
     Entry { name: "backsim", key: 0x6261636b73696d00, meaning: Meaning::Shows(Symbol::Sign(Class::Relation, '∽')) },
@@ -75,6 +75,7 @@ static LETTER_B: [Entry; 62] = [
     Entry { name: "bigcap", key: 0x6269676361700000, meaning: Meaning::Shows(Symbol::BigOperator('⋂')) },
     Entry { name: "bigcirc", key: 0x6269676369726300, meaning: Meaning::Shows(Symbol::Sign(Class::Binary, '◯')) },
     Entry { name: "bigcup", key: 0x6269676375700000, meaning: Meaning::Shows(Symbol::BigOperator('⋃')) },
+    Entry { name: "bigcupdot", key: 0x626967637570646f, meaning: Meaning::Shows(Symbol::BigOperator('⨃')) },
     Entry { name: "bigg", key: 0x6269676700000000, meaning: Meaning::Sized(Size::VeryBig, Class::Ordinary) },
     Entry { name: "biggl", key: 0x626967676c000000, meaning: Meaning::Sized(Size::VeryBig, Class::Opening) },
     Entry { name: "biggm", key: 0x626967676d000000, meaning: Meaning::Sized(Size::VeryBig, Class::Relation) },
@@ -85,8 +86,10 @@ static LETTER_B: [Entry; 62] = [
     Entry { name: "bigoplus", key: 0x6269676f706c7573, meaning: Meaning::Shows(Symbol::BigOperator('⨁')) },
     Entry { name: "bigotimes", key: 0x6269676f74696d65, meaning: Meaning::Shows(Symbol::BigOperator('⨂')) },
     Entry { name: "bigr", key: 0x6269677200000000, meaning: Meaning::Sized(Size::Big, Class::Closing) },
+    Entry { name: "bigsqcap", key: 0x6269677371636170, meaning: Meaning::Shows(Symbol::BigOperator('⨅')) },
     Entry { name: "bigsqcup", key: 0x6269677371637570, meaning: Meaning::Shows(Symbol::BigOperator('⨆')) },
     Entry { name: "bigstar", key: 0x6269677374617200, meaning: Meaning::Shows(Symbol::Sign(Class::Ordinary, '★')) },
+    Entry { name: "bigtimes", key: 0x62696774696d6573, meaning: Meaning::Shows(Symbol::BigOperator('⨉')) },
     Entry { name: "bigtriangledown", key: 0x626967747269616e, meaning: Meaning::Shows(Symbol::Sign(Class::Binary, '▽')) },
     Entry { name: "bigtriangleup", key: 0x626967747269616e, meaning: Meaning::Shows(Symbol::Sign(Class::Binary, '△')) },
     Entry { name: "biguplus", key: 0x62696775706c7573, meaning: Meaning::Shows(Symbol::BigOperator('⨄')) },

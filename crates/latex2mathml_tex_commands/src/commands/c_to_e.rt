@@ -18,7 +18,7 @@ pub(crate) fn letter_c() -> &'static [Entry]
 }
 
 #[rattlefmt::skip]
-static LETTER_C: [Entry; 50] = [
+static LETTER_C: [Entry; 51] = [
     Entry { name: "cal", key: 0x63616c0000000000, meaning: Meaning::Changes(Change::ToAlphabet(Alphabet::Calligraphic)) },
     Entry { name: "cancel", key: 0x63616e63656c0000, meaning: Meaning::Boxed(OperandBox::StrikeUp) },
     Entry { name: "cap", key: 0x6361700000000000, meaning: Meaning::Shows(Symbol::Sign(Class::Binary, '∩')) },
@@ -63,6 +63,7 @@ static LETTER_C: [Entry; 50] = [
     Entry { name: "ctg", key: 0x6374670000000000, meaning: Meaning::FunctionName(LimitPlace::Beside, "ctg") },
     Entry { name: "cth", key: 0x6374680000000000, meaning: Meaning::FunctionName(LimitPlace::Beside, "cth") },
     Entry { name: "cup", key: 0x6375700000000000, meaning: Meaning::Shows(Symbol::Sign(Class::Binary, '∪')) },
+    Entry { name: "cupdot", key: 0x637570646f740000, meaning: Meaning::Shows(Symbol::Sign(Class::Binary, '⊍')) },
     Entry { name: "curlyeqprec", key: 0x6375726c79657170, meaning: Meaning::Shows(Symbol::Sign(Class::Relation, '⋞')) },
     Entry { name: "curlyeqsucc", key: 0x6375726c79657173, meaning: Meaning::Shows(Symbol::Sign(Class::Relation, '⋟')) },
     Entry { name: "curlyvee", key: 0x6375726c79766565, meaning: Meaning::Shows(Symbol::Sign(Class::Binary, '⋎')) },
@@ -81,12 +82,13 @@ pub(crate) fn letter_d() -> &'static [Entry]
 }
 
 #[rattlefmt::skip]
-static LETTER_D: [Entry; 46] = [
+static LETTER_D: [Entry; 48] = [
     Entry { name: "dArr", key: 0x6441727200000000, meaning: Meaning::Shows(Symbol::Sign(Class::Relation, '⇓')) },
     Entry { name: "dag", key: 0x6461670000000000, meaning: Meaning::Shows(Symbol::Sign(Class::Ordinary, '†')) },
     Entry { name: "dagger", key: 0x6461676765720000, meaning: Meaning::Shows(Symbol::Sign(Class::Binary, '†')) },
     Entry { name: "daleth", key: 0x64616c6574680000, meaning: Meaning::Shows(Symbol::UprightLetter('ℸ')) },
     Entry { name: "darr", key: 0x6461727200000000, meaning: Meaning::Shows(Symbol::Sign(Class::Relation, '↓')) },
+    Entry { name: "dashint", key: 0x64617368696e7400, meaning: Meaning::Shows(Symbol::Integral('⨍')) },
     Entry { name: "dashleftarrow", key: 0x646173686c656674, meaning: Meaning::Shows(Symbol::Sign(Class::Relation, '⇠')) },
     Entry { name: "dashrightarrow", key: 0x6461736872696768, meaning: Meaning::Shows(Symbol::Sign(Class::Relation, '⇢')) },
     Entry { name: "dashv", key: 0x6461736876000000, meaning: Meaning::Shows(Symbol::Sign(Class::Relation, '⊣')) },
@@ -117,6 +119,7 @@ static LETTER_D: [Entry; 46] = [
     Entry { name: "divideontimes", key: 0x6469766964656f6e, meaning: Meaning::Shows(Symbol::Sign(Class::Binary, '⋇')) },
     Entry { name: "dj", key: 0x646a000000000000, meaning: Meaning::Shows(Symbol::UprightLetter('đ')) },
     Entry { name: "dot", key: 0x646f740000000000, meaning: Meaning::Accent(Side::Above, '˙', Stretch::Rigid) },
+    Entry { name: "dotcup", key: 0x646f746375700000, meaning: Meaning::Shows(Symbol::Sign(Class::Binary, '⊍')) },
     Entry { name: "doteq", key: 0x646f746571000000, meaning: Meaning::Shows(Symbol::Sign(Class::Relation, '≐')) },
     Entry { name: "doteqdot", key: 0x646f746571646f74, meaning: Meaning::Shows(Symbol::Sign(Class::Relation, '≑')) },
     Entry { name: "dotplus", key: 0x646f74706c757300, meaning: Meaning::Shows(Symbol::Sign(Class::Binary, '∔')) },

@@ -18,8 +18,9 @@ pub(crate) fn letter_f() -> &'static [Entry]
 }
 
 #[rattlefmt::skip]
-static LETTER_F: [Entry; 7] = [
+static LETTER_F: [Entry; 8] = [
     Entry { name: "fallingdotseq", key: 0x66616c6c696e6764, meaning: Meaning::Shows(Symbol::Sign(Class::Relation, '≒')) },
+    Entry { name: "fint", key: 0x66696e7400000000, meaning: Meaning::Shows(Symbol::Integral('⨍')) },
     Entry { name: "flat", key: 0x666c617400000000, meaning: Meaning::Shows(Symbol::Sign(Class::Ordinary, '♭')) },
     Entry { name: "forall", key: 0x666f72616c6c0000, meaning: Meaning::Shows(Symbol::Sign(Class::Ordinary, '∀')) },
     Entry { name: "frac", key: 0x6672616300000000, meaning: Meaning::Fraction(FractionRule::Bar, None) },

@@ -140,11 +140,12 @@ pub(crate) fn letter_v() -> &'static [Entry]
 }
 
 #[rattlefmt::skip]
-static LETTER_V: [Entry; 27] = [
+static LETTER_V: [Entry; 28] = [
     Entry { name: "vDash", key: 0x7644617368000000, meaning: Meaning::Shows(Symbol::Sign(Class::Relation, '⊨')) },
     Entry { name: "varepsilon", key: 0x766172657073696c, meaning: Meaning::Shows(Symbol::Letter('ε')) },
     Entry { name: "varkappa", key: 0x7661726b61707061, meaning: Meaning::Shows(Symbol::UprightLetter('ϰ')) },
     Entry { name: "varnothing", key: 0x7661726e6f746869, meaning: Meaning::Shows(Symbol::Sign(Class::Ordinary, '∅')) },
+    Entry { name: "varointclockwise", key: 0x7661726f696e7463, meaning: Meaning::Shows(Symbol::Integral('∲')) },
     Entry { name: "varphi", key: 0x7661727068690000, meaning: Meaning::Shows(Symbol::Letter('φ')) },
     Entry { name: "varpi", key: 0x7661727069000000, meaning: Meaning::Shows(Symbol::Letter('ϖ')) },
     Entry { name: "varpropto", key: 0x76617270726f7074, meaning: Meaning::Shows(Symbol::Sign(Class::Relation, '∝')) },

@@ -18,12 +18,14 @@ pub(crate) fn letter_m() -> &'static [Entry]
 }
 
 #[rattlefmt::skip]
-static LETTER_M: [Entry; 53] = [
+static LETTER_M: [Entry; 57] = [
     Entry { name: "maltese", key: 0x6d616c7465736500, meaning: Meaning::Shows(Symbol::Sign(Class::Ordinary, '✠')) },
     Entry { name: "mapsto", key: 0x6d617073746f0000, meaning: Meaning::Shows(Symbol::Sign(Class::Relation, '↦')) },
     Entry { name: "mars", key: 0x6d61727300000000, meaning: Meaning::Shows(Symbol::Sign(Class::Ordinary, '♂')) },
     Entry { name: "mathbb", key: 0x6d61746862620000, meaning: Meaning::Styled(Alphabet::DoubleStruck) },
     Entry { name: "mathbbm", key: 0x6d61746862626d00, meaning: Meaning::Styled(Alphabet::DoubleStruck) },
+    Entry { name: "mathbbmss", key: 0x6d61746862626d73, meaning: Meaning::Styled(Alphabet::DoubleStruck) },
+    Entry { name: "mathbbold", key: 0x6d61746862626f6c, meaning: Meaning::Styled(Alphabet::DoubleStruck) },
     Entry { name: "mathbf", key: 0x6d61746862660000, meaning: Meaning::Styled(Alphabet::Bold) },
     Entry { name: "mathbfit", key: 0x6d61746862666974, meaning: Meaning::Styled(Alphabet::BoldItalic) },
     Entry { name: "mathbfup", key: 0x6d61746862667570, meaning: Meaning::Styled(Alphabet::Bold) },
@@ -45,6 +47,7 @@ static LETTER_M: [Entry; 53] = [
     Entry { name: "mathopen", key: 0x6d6174686f70656e, meaning: Meaning::Classed(Class::Opening) },
     Entry { name: "mathord", key: 0x6d6174686f726400, meaning: Meaning::Classed(Class::Ordinary) },
     Entry { name: "mathpunct", key: 0x6d61746870756e63, meaning: Meaning::Classed(Class::Punctuation) },
+    Entry { name: "mathpzc", key: 0x6d617468707a6300, meaning: Meaning::Styled(Alphabet::Calligraphic) },
     Entry { name: "mathrel", key: 0x6d61746872656c00, meaning: Meaning::Classed(Class::Relation) },
     Entry { name: "mathring", key: 0x6d61746872696e67, meaning: Meaning::Accent(Side::Above, '˚', Stretch::Rigid) },
     Entry { name: "mathrlap", key: 0x6d617468726c6170, meaning: Meaning::Boxed(OperandBox::OverRight) },
@@ -60,6 +63,7 @@ static LETTER_M: [Entry; 53] = [
     Entry { name: "medspace", key: 0x6d65647370616365, meaning: Meaning::Spacing(4) },
     Entry { name: "mercury", key: 0x6d65726375727900, meaning: Meaning::Shows(Symbol::Sign(Class::Ordinary, '☿')) },
     Entry { name: "mho", key: 0x6d686f0000000000, meaning: Meaning::Shows(Symbol::Sign(Class::Ordinary, '℧')) },
+    Entry { name: "micro", key: 0x6d6963726f000000, meaning: Meaning::Shows(Symbol::UprightLetter('µ')) },
     Entry { name: "mid", key: 0x6d69640000000000, meaning: Meaning::Shows(Symbol::Sign(Class::Relation, '∣')) },
     Entry { name: "middle", key: 0x6d6964646c650000, meaning: Meaning::Middle },
     Entry { name: "min", key: 0x6d696e0000000000, meaning: Meaning::FunctionName(LimitPlace::ByStyle, "min") },
@@ -156,13 +160,15 @@ pub(crate) fn letter_o() -> &'static [Entry]
 }
 
 #[rattlefmt::skip]
-static LETTER_O: [Entry; 28] = [
+static LETTER_O: [Entry; 30] = [
     Entry { name: "o", key: 0x6f00000000000000, meaning: Meaning::Shows(Symbol::UprightLetter('ø')) },
     Entry { name: "odot", key: 0x6f646f7400000000, meaning: Meaning::Shows(Symbol::Sign(Class::Binary, '⊙')) },
     Entry { name: "oe", key: 0x6f65000000000000, meaning: Meaning::Shows(Symbol::UprightLetter('œ')) },
+    Entry { name: "ohm", key: 0x6f686d0000000000, meaning: Meaning::Shows(Symbol::UprightLetter('Ω')) },
     Entry { name: "oiiint", key: 0x6f6969696e740000, meaning: Meaning::Shows(Symbol::Integral('∰')) },
     Entry { name: "oiint", key: 0x6f69696e74000000, meaning: Meaning::Shows(Symbol::Integral('∯')) },
     Entry { name: "oint", key: 0x6f696e7400000000, meaning: Meaning::Shows(Symbol::Integral('∮')) },
+    Entry { name: "ointctrclockwise", key: 0x6f696e7463747263, meaning: Meaning::Shows(Symbol::Integral('∳')) },
     Entry { name: "omega", key: 0x6f6d656761000000, meaning: Meaning::Shows(Symbol::Letter('ω')) },
     Entry { name: "omicron", key: 0x6f6d6963726f6e00, meaning: Meaning::Shows(Symbol::Letter('ο')) },
     Entry { name: "ominus", key: 0x6f6d696e75730000, meaning: Meaning::Shows(Symbol::Sign(Class::Binary, '⊖')) },
@@ -197,10 +203,11 @@ pub(crate) fn letter_p() -> &'static [Entry]
 }
 
 #[rattlefmt::skip]
-static LETTER_P: [Entry; 25] = [
+static LETTER_P: [Entry; 26] = [
     Entry { name: "parallel", key: 0x706172616c6c656c, meaning: Meaning::Shows(Symbol::Sign(Class::Relation, '∥')) },
     Entry { name: "partial", key: 0x7061727469616c00, meaning: Meaning::Shows(Symbol::Sign(Class::Ordinary, '∂')) },
     Entry { name: "perp", key: 0x7065727000000000, meaning: Meaning::Shows(Symbol::Sign(Class::Relation, '⊥')) },
+    Entry { name: "perthousand", key: 0x70657274686f7573, meaning: Meaning::Shows(Symbol::Sign(Class::Ordinary, '‰')) },
     Entry { name: "phantom", key: 0x7068616e746f6d00, meaning: Meaning::Boxed(OperandBox::Phantom) },
     Entry { name: "phi", key: 0x7068690000000000, meaning: Meaning::Shows(Symbol::Letter('ϕ')) },
     Entry { name: "pi", key: 0x7069000000000000, meaning: Meaning::Shows(Symbol::Letter('π')) },

@@ -186,9 +186,10 @@ fn turns_up_to_l(first: u8, second: u8, len: usize) -> bool
         b'D' => second == b'e' && len == 19,
         b'E' => second == b'q' && matches!(len, 7 | 8),
         b'H' => second == b'u' && len == 4,
-        b'K' | b'T' | b'k' => second == b'e' && len == 3,
+        b'K' | b'T' => second == b'e' && len == 3,
         b'L' => matches!(second, b'A' | b'a') && len == 5,
         b'a' => match second {
+            b'd' => len == 12,
             b'l' => matches!(len, 10 | 18),
             b'p' => matches!(len, 11 | 16),
             _ => false,
@@ -200,7 +201,7 @@ fn turns_up_to_l(first: u8, second: u8, len: usize) -> bool
             _ => false,
         },
         b'c' => match second {
-            b'e' => len == 9,
+            b'e' => matches!(len, 7 | 9),
             b'l' => len == 4,
             b'o' => matches!(len, 5 | 7 | 8 | 10 | 11 | 13 | 15 | 16),
             _ => false,
@@ -236,13 +237,15 @@ fn turns_up_to_l(first: u8, second: u8, len: usize) -> bool
         b'i' => match second {
             b'd' => len == 8,
             b'f' => len == 3,
+            b'g' => len == 12,
             b'm' => matches!(len, 7 | 9),
             b't' => len == 7,
             _ => false,
         },
+        b'k' => second == b'e' && matches!(len, 3 | 6),
         b'l' => match second {
             b'a' => len == 5,
-            b'e' => matches!(len, 5 | 8),
+            b'e' => matches!(len, 5 | 7 | 8 | 10),
             b'l' | b'o' => len == 4,
             b'q' => len == 2,
             _ => false,
@@ -258,7 +261,7 @@ fn turns_from_m(first: u8, second: u8, len: usize) -> bool
 {
     match first {
         b'm' => match second {
-            b'a' => matches!(len, 6 | 9),
+            b'a' => matches!(len, 6 | 9 | 12),
             b'd' => len == 8,
             b'i' => len == 15,
             b'o' => len == 3,
@@ -266,17 +269,19 @@ fn turns_from_m(first: u8, second: u8, len: usize) -> bool
         },
         b'n' => match second {
             b'e' => len == 10,
+            b'i' => len == 8,
             b'o' => matches!(len, 5 | 7 | 8 | 10),
+            b'u' => len == 4,
             _ => false,
         },
         b'o' => second == b'p' && len == 22,
         b'p' => match second {
             b'm' => matches!(len, 4 | 7),
             b'o' => len == 3,
-            b'r' => len == 14,
+            b'r' => matches!(len, 7 | 9 | 14),
             _ => false,
         },
-        b'q' => second == b'e' && len == 3,
+        b'q' => second == b'e' && matches!(len, 3 | 7),
         b'r' => match second {
             b'a' | b'm' => len == 8,
             b'e' => matches!(len, 5 | 12),
@@ -286,25 +291,33 @@ fn turns_from_m(first: u8, second: u8, len: usize) -> bool
         },
         b's' => match second {
             b'c' => matches!(len, 7 | 10),
+            b'e' => len == 9,
             b'f' => matches!(len, 5 | 8),
             b'h' => matches!(len, 9 | 10),
             b'i' => matches!(len, 7 | 8 | 13),
             b'l' => matches!(len, 5 | 7),
             b'm' | b't' => len == 5,
+            b'p' => matches!(len, 9 | 10),
             _ => false,
         },
         b't' => match second {
             b'a' => len == 3,
+            b'e' => matches!(len, 13 | 15),
             b'i' => len == 4,
             b't' => len == 8,
             _ => false,
         },
-        b'u' => second == b'p' && matches!(len, 6 | 7),
+        b'u' => match second {
+            b'n' => len == 6,
+            b'p' => matches!(len, 6 | 7),
+            _ => false,
+        },
         b'v' => match second {
             b'a' => matches!(len, 5 | 6 | 8 | 9 | 10),
             b'c' => len == 7,
             _ => false,
         },
+        b'x' => second == b's' && len == 6,
         _ => false,
     }
 }
