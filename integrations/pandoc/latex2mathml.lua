@@ -23,10 +23,12 @@ end
 --- at a place stops early, so that the time stays linear.
 local RAW_TEX = re.compile([=[
   parts       <- {| (definition / environment / reference / command / group / comment / [^{])* |}
-  definition  <- {| {:kind: '' -> 'definition' :} {:text: { (new / def / operator) } :} |}
+  definition  <- {| {:kind: '' -> 'definition' :} {:text: { (new / def / operator / pair) } :} |}
   new         <- '\' ('newcommand' / 'renewcommand' / 'providecommand') end_of_word '*'? space name space option* group
   def         <- '\def' end_of_word space command [^{\]* group
   operator    <- '\DeclareMathOperator' end_of_word '*'? space name space group
+  pair        <- '\DeclarePairedDelimiter' end_of_word space name space delimiter space delimiter
+  delimiter   <- group / command / [^{}%s]
   environment <- {| {:kind: '' -> 'formula' :} {:text: { body } :} |}
   body        <- '\begin{' {:name: math '*'? :} '}' (!ending !another (comment / command / .))* ending
   ending      <- '\end{' =name '}'

@@ -2,10 +2,11 @@
 use Rattle.std.proofs.Common.{ℕ, zero, suc, ◌+◌, ◌≡◌, Bool, true, false, List, [], ◌∷◌, ◌++◌, length, codes, Option, Some, None, refl, subst}
 use Rattle.std.specs.Prelude.{◌-◌, take, drop, IsTrue, ⊤, nat_lt, if◌then◌else◌}
 use Rattle.std.specs.Str.{byte, bytes_eq}
+use Rattle.std.specs.List.{AllByRecursion}
 use Rattle.latex2mathml_tex_grammar.specs.Arguments.{Brace, Opening, Closing, NoBrace, brace_of, and_then, with_first, in_group, group, argument_of, argument_here, argument, arguments, ends_brackets, in_brackets, between_brackets, is_group, without_braces, bracket_here, bracket, behind_bracket, optional, or_default, arguments_with, macro_arguments}
-use Rattle.latex2mathml_tex_grammar.specs.Definitions.{Word, NewCommand, ProvideCommand, Def, DeclareOperator, Definition, is_character, sign_here, sign, digit_of, digit_found, digit_here, digit, name_in, name_read, name_of, number_closed, number_in, number_opened, number_of, numbered, parameter, parameters, argument_part, parameter_part, part_before, parts_behind, parts_of, body_read, body, default_read, default_given, default_of, is_delimited, body_in_braces, command_definition, plain_definition, operator_definition, definition_of, operator_parts, provided, behind_definition}
-use Rattle.latex2mathml_tex_grammar.specs.Expansion.{name_role, role_of, word_role, Turn, Stays, Turns, Fails, with_arguments, used, defined, turn_of, Expands, at_end, at_stop, stays, turns, fails}
-use Rattle.latex2mathml_tex_grammar.specs.ExpansionLaws.{EachPiece, EachFixed, EachOfDefault, EachInMacro, EachInTable, AddsNothing}
+use Rattle.latex2mathml_tex_grammar.specs.Definitions.{DeclareDelimiters, delimiters_definition, stretched_parts, enclosed_parts, sized_parts, Word, NewCommand, ProvideCommand, Def, DeclareOperator, Definition, is_character, sign_here, sign, digit_of, digit_found, digit_here, digit, name_in, name_read, name_of, number_closed, number_in, number_opened, number_of, numbered, parameter, parameters, argument_part, parameter_part, part_before, parts_behind, parts_of, body_read, body, default_read, default_given, default_of, is_delimited, body_in_braces, command_definition, plain_definition, operator_definition, definition_of, operator_parts, provided, behind_definition}
+use Rattle.latex2mathml_tex_grammar.specs.Expansion.{form_of, used_form, form_with, starred_form, name_role, role_of, word_role, Turn, Stays, Turns, Fails, with_arguments, used, defined, turn_of, Expands, at_end, at_stop, stays, turns, fails}
+use Rattle.latex2mathml_tex_grammar.specs.ExpansionLaws.{added_pieces, EachPiece, EachFixed, EachIfSome, EachInMacro, EachInTable, AddsNothing}
 use Rattle.latex2mathml_tex_grammar.specs.Macros.{Part, Fixed, Argument, Macro, macro_with_default, Table, with_macro, argument_at, put, before}
 use Rattle.latex2mathml_tex_grammar.specs.{Next.is_space_piece, Next.past_space, Reading.Outcome, Reading.Read, Reading.Refused, Refusal.Refusal}
 use Rattle.latex2mathml_tex_grammar.specs.Units.{Piece, Space, Open, Close, Command, Character, Unit, Units, Next, End, Stop}
@@ -210,21 +211,21 @@ module _ (P : Piece → Type 0) where
   of_braces : (place n : ℕ) (l : Units) → EachPiece P l → Passes (EachFixed P) (body_in_braces place n l)
   of_braces place n l h = of_either (Passes (EachFixed P)) (is_delimited (past_space l)) tt (of_body place n l h)
 
-  of_default_read : (place : ℕ) (parts : Option (List Part)) (l : Units) → IfParts parts → EachPiece P l → Passes (EachOfDefault P) (default_read place parts l)
+  of_default_read : (place : ℕ) (parts : Option (List Part)) (l : Units) → IfParts parts → EachPiece P l → Passes (EachIfSome P) (default_read place parts l)
   of_default_read place (Some parts) l h k = (h, k)
   of_default_read place None l h k = tt
 
-  of_default_given : (place n : ℕ) (given : Option (List Unit)) (l : Units) → IfUnits given → EachPiece P l → Passes (EachOfDefault P) (default_given place n given l)
+  of_default_given : (place n : ℕ) (given : Option (List Unit)) (l : Units) → IfUnits given → EachPiece P l → Passes (EachIfSome P) (default_given place n given l)
   of_default_given place n None l h k = (tt, k)
   of_default_given place zero (Some us) l h k = tt
   of_default_given place (suc n) (Some us) l h k = of_default_read place (parts_of 0 us) l (of_parts false 0 us h) k
 
-  of_default : (place n : ℕ) (l : Units) → EachPiece P l → Passes (EachOfDefault P) (default_of place n l)
-  of_default place n l h = after IfUnits (EachOfDefault P) (optional l) (default_given place n) (of_optional l h) (λ given m p q. of_default_given place n given m p q)
+  of_default : (place n : ℕ) (l : Units) → EachPiece P l → Passes (EachIfSome P) (default_of place n l)
+  of_default place n l h = after IfUnits (EachIfSome P) (optional l) (default_given place n) (of_optional l h) (λ given m p q. of_default_given place n given m p q)
 
-  of_macro : (default : Option (List Part)) (n : ℕ) (parts : List Part) → EachOfDefault P default → EachFixed P parts → EachInMacro P (macro_with_default default n parts)
-  of_macro None n parts h k = (k, tt)
-  of_macro (Some default) n parts h k = (k, h)
+  of_macro : (default : Option (List Part)) (n : ℕ) (parts : List Part) → EachIfSome P default → EachFixed P parts → EachInMacro P (macro_with_default default n parts)
+  of_macro None n parts h k = (k, tt, tt)
+  of_macro (Some default) n parts h k = (k, h, tt)
 
   -- a definition whose macro passes
   abbrev pub IsPassed : Definition → Type 0
@@ -234,14 +235,14 @@ module _ (P : Piece → Type 0) where
   of_command place l h =
       after Anything IsPassed (name_of place (sign (byte "*") l).1) _ (of_name place (sign (byte "*") l).1 (of_sign (byte "*") l h)) (λ name m t k.
       after Anything IsPassed (number_of place m) _ (of_number place m k) (λ n j s i.
-      after (EachOfDefault P) IsPassed (default_of place n j) _ (of_default place n j i) (λ default g d e.
+      after (EachIfSome P) IsPassed (default_of place n j) _ (of_default place n j i) (λ default g d e.
       after (EachFixed P) IsPassed (body place n g) _ (of_body place n g e) (λ parts rest p q. (of_macro default n parts d p, q)))))
 
   of_plain : (place : ℕ) (l : Units) → EachPiece P l → Passes IsPassed (plain_definition place l)
   of_plain place l h =
       after Anything IsPassed (name_of place l) _ (of_name place l h) (λ name m t k.
       after Anything IsPassed (parameters place 9 0 m) _ (of_parameters place 9 0 m k) (λ n j s i.
-      after (EachFixed P) IsPassed (body_in_braces place n j) _ (of_braces place n j i) (λ parts rest p q. ((p, tt), q))))
+      after (EachFixed P) IsPassed (body_in_braces place n j) _ (of_braces place n j i) (λ parts rest p q. ((p, tt, tt), q))))
 
   -- of the macro that is found, whichever it is
   pub of_found : (b : Bool) (m found : Macro) (x : Option Macro) → EachInMacro P m → ((y : Macro) → x ≡ Some y → EachInMacro P y) → (if b then Some m else x) ≡ Some found → EachInMacro P found
@@ -253,21 +254,62 @@ module _ (P : Piece → Type 0) where
   fixed_both (Fixed p ∷ xs) ys h k = (h.0, fixed_both xs ys h.1 k)
   fixed_both (Argument n ∷ xs) ys h k = fixed_both xs ys h k
 
-  module _ (o : P Open) (c : P Close) (name_allowed : P (Command (codes "operatorname"))) (star_allowed : P (Character (byte "*"))) where
+  module _ (added : AllByRecursion P added_pieces) where
+    opening : P Open
+    opening = added.0
+
+    closing : P Close
+    closing = added.1.0
+
     of_operator_parts : (star : Bool) (parts : List Part) → EachFixed P parts → EachFixed P (operator_parts star parts)
-    of_operator_parts true parts h = (name_allowed, (star_allowed, (o, fixed_both parts (Fixed Close ∷ []) h (c, tt))))
-    of_operator_parts false parts h = (name_allowed, (o, fixed_both parts (Fixed Close ∷ []) h (c, tt)))
+    of_operator_parts true parts h = (added.1.1.1.0, (added.1.1.0, (opening, fixed_both parts (Fixed Close ∷ []) h (closing, tt))))
+    of_operator_parts false parts h = (added.1.1.1.0, (opening, fixed_both parts (Fixed Close ∷ []) h (closing, tt)))
 
     of_operator : (place : ℕ) (l : Units) → EachPiece P l → Passes IsPassed (operator_definition place l)
     of_operator place l h =
         after Anything IsPassed (name_of place (sign (byte "*") l).1) _ (of_name place (sign (byte "*") l).1 (of_sign (byte "*") l h)) (λ name m t k.
-        after (EachFixed P) IsPassed (body place 0 m) _ (of_body place 0 m k) (λ parts rest p q. ((of_operator_parts (sign (byte "*") l).0 parts p, tt), q)))
+        after (EachFixed P) IsPassed (body place 0 m) _ (of_body place 0 m k) (λ parts rest p q. ((of_operator_parts (sign (byte "*") l).0 parts p, tt, tt), q)))
+
+    of_sized : (name : List ℕ) (parts : List Part) → P (Command name) → EachFixed P parts → EachFixed P (sized_parts name parts)
+    of_sized name parts n h = (n, (opening, fixed_both parts (Fixed Close ∷ []) h (closing, tt)))
+
+    of_enclosed : (left right : List Part) → EachFixed P left → EachFixed P right → EachFixed P (enclosed_parts left right)
+    of_enclosed left right h k =
+        fixed_both (sized_parts (codes "mathopen") left) (Argument 1 ∷ sized_parts (codes "mathclose") right) (of_sized (codes "mathopen") left added.1.1.1.1.0 h) (of_sized (codes "mathclose") right added.1.1.1.1.1.0 k)
+
+    of_stretched : (left right : List Part) → EachFixed P left → EachFixed P right → EachFixed P (stretched_parts left right)
+    of_stretched left right h k = (
+      added.1.1.1.1.0,
+      (
+        opening,
+        (
+          closing,
+          (
+            added.1.1.1.1.1.0,
+            (
+              opening,
+              (
+                added.1.1.1.1.1.1.0,
+                fixed_both left (Argument 0 ∷ Fixed (Command (codes "right")) ∷ (right ++ Fixed Close ∷ [])) h (added.1.1.1.1.1.1.1.0, fixed_both right (Fixed Close ∷ []) k (closing, tt)),
+              ),
+            ),
+          ),
+        ),
+      ),
+    )
+
+    of_delimiters : (place : ℕ) (l : Units) → EachPiece P l → Passes IsPassed (delimiters_definition place l)
+    of_delimiters place l h =
+        after Anything IsPassed (name_of place l) _ (of_name place l h) (λ name m t k.
+        after (EachFixed P) IsPassed (body place 0 m) _ (of_body place 0 m k) (λ left j p q.
+        after (EachFixed P) IsPassed (body place 0 j) _ (of_body place 0 j q) (λ right rest r s. ((of_enclosed left right p r, tt, of_stretched left right p r), s))))
 
     pub of_definition : (word : Word) (place : ℕ) (l : Units) → EachPiece P l → Passes IsPassed (definition_of word place l)
     of_definition NewCommand place l h = of_command place l h
     of_definition ProvideCommand place l h = of_command place l h
     of_definition Def place l h = of_plain place l h
     of_definition DeclareOperator place l h = of_operator place l h
+    of_definition DeclareDelimiters place l h = of_delimiters place l h
 
     in_table : (name : List ℕ) (m : Macro) (table : Table) → EachInMacro P m → EachInTable P table → EachInTable P (with_macro name m table)
     in_table name m table h t other found e = of_found (bytes_eq name other) m found (table other) h (t other) e
@@ -281,6 +323,7 @@ module _ (P : Piece → Type 0) where
     behind NewCommand d table h t = in_table d.name d.stands_for table h t
     behind Def d table h t = in_table d.name d.stands_for table h t
     behind DeclareOperator d table h t = in_table d.name d.stands_for table h t
+    behind DeclareDelimiters d table h t = in_table d.name d.stands_for table h t
 
     -- Expansion
 
@@ -311,23 +354,36 @@ module _ (P : Piece → Type 0) where
     of_or_default place default (Some us) h k = k
     of_or_default place default None h k = of_put [] place default tt h
 
-    of_arguments_with : (default : Option (List Part)) (place n : ℕ) (l : Units) → EachOfDefault P default → EachPiece P l → Passes EachList (arguments_with default place n l)
+    of_arguments_with : (default : Option (List Part)) (place n : ℕ) (l : Units) → EachIfSome P default → EachPiece P l → Passes EachList (arguments_with default place n l)
     of_arguments_with None place n l d h = of_arguments place n l h
     of_arguments_with (Some default) place n l d h =
         after IfUnits EachList (optional l) (λ given m. with_first (or_default place default given) (arguments place n m)) (of_optional l h)
         (λ given m p q. first_list (or_default place default given) (arguments place n m) (of_or_default place default given d p) (of_arguments place n m q))
 
-    of_arguments_read : (table : Table) (uses room : ℕ) (u : Unit) (m : Macro) (x : Outcome (List (List Unit))) → EachInTable P table → EachFixed P m.body → Passes EachList x → TurnPasses (with_arguments table uses room u m x)
-    of_arguments_read table uses room u m (Read args l) t b h = either (nat_lt room (length (put args u.place m.body))) _ _ _ table (before (put args u.place m.body) l) (t, of_units_before (put args u.place m.body) l (of_put args u.place m.body h.0 b) h.1)
+    of_arguments_read : (table : Table) (uses room : ℕ) (u : Unit) (parts : List Part) (x : Outcome (List (List Unit))) → EachInTable P table → EachFixed P parts → Passes EachList x → TurnPasses (with_arguments table uses room u parts x)
+    of_arguments_read table uses room u parts (Read args l) t b h = either (nat_lt room (length (put args u.place parts))) _ _ _ table (before (put args u.place parts) l) (t, of_units_before (put args u.place parts) l (of_put args u.place parts h.0 b) h.1)
       where
         either : (b : Bool) (r : Refusal) (uses room : ℕ) (table : Table) (l : Units) → EachInTable P table × EachPiece P l → TurnPasses (if b then Fails r else Turns table uses room l)
         either true r uses room table l h = tt
         either false r uses room table l h = h
-    of_arguments_read table uses room u m (Refused r) t b h = tt
+    of_arguments_read table uses room u parts (Refused r) t b h = tt
+
+    of_starred_form : (m : Macro) (parts : List Part) (found : Bool × Units) → EachInMacro P m → EachFixed P parts → EachPiece P found.1
+        → EachInMacro P (starred_form m parts found).0 × EachPiece P (starred_form m parts found).1
+    of_starred_form m parts (true, l) b s h = ((s, tt, tt), h)
+    of_starred_form m parts (false, l) b s h = (b, h)
+
+    of_form_with : (m : Macro) (starred : Option (List Part)) (l : Units) → EachInMacro P m → EachIfSome P starred → EachPiece P l
+        → EachInMacro P (form_with m starred l).0 × EachPiece P (form_with m starred l).1
+    of_form_with m (Some parts) l b s h = of_starred_form m parts (sign (byte "*") l) b s (of_sign (byte "*") l h)
+    of_form_with m None l b s h = (b, h)
+
+    of_used_form : (table : Table) (uses room : ℕ) (u : Unit) (f : Macro × Units) → EachInTable P table → EachInMacro P f.0 × EachPiece P f.1 → TurnPasses (used_form table uses room u f)
+    of_used_form table uses room u (m, l) t (b, h) = of_arguments_read table uses room u m.body (macro_arguments m u.place l) t b.0 (of_arguments_with m.default u.place m.arity l b.1 h)
 
     of_used : (table : Table) (uses room : ℕ) (u : Unit) (m : Macro) (l : Units) → EachInTable P table → EachInMacro P m → EachPiece P l → TurnPasses (used table uses room u m l)
     of_used table zero room u m l t b h = tt
-    of_used table (suc uses) room u m l t b h = of_arguments_read table uses room u m (macro_arguments m u.place l) t b.0 (of_arguments_with m.default u.place m.arity l b.1 h)
+    of_used table (suc uses) room u m l t b h = of_used_form table uses room u (form_of m l) t (of_form_with m m.starred l b b.2 h)
 
     of_defined : (table : Table) (uses room : ℕ) (word : Word) (x : Outcome Definition) → EachInTable P table → Passes IsPassed x → TurnPasses (defined table uses room word x)
     of_defined table uses room word (Read d l) t h = (behind word d table h.0 t, h.1)
@@ -357,4 +413,4 @@ module _ (P : Piece → Type 0) where
     pieces_of (fails e) t h = tt
 
 pub adds_nothing : AddsNothing
-adds_nothing = λ test table uses room l m marks t h d. pieces_of (λ p. IsTrue (test p)) marks.0 marks.1.0 marks.1.1.0 marks.1.1.1.0 d t h
+adds_nothing = λ test table uses room l m marks t h d. pieces_of (λ p. IsTrue (test p)) marks d t h

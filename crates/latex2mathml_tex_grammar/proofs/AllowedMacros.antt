@@ -1,11 +1,11 @@
 -- No macro that a text defines puts a character that XML forbids, and none of the usual ones does.
 use Rattle.std.proofs.Common.{◌≡◌, ℕ, ◌||◌, false, List, [], ◌∷◌, codes, Option, Some, None, refl, subst}
 use Rattle.std.specs.Prelude.{⊤}
-use Rattle.std.specs.{Option.unwrap_or, Str.bytes_eq, Str.chars}
+use Rattle.std.specs.{List.AllByRecursion, Option.unwrap_or, Str.bytes_eq, Str.chars}
 use Rattle.latex2mathml_elements.proofs.Characters.{allowed_plain}
 use Rattle.latex2mathml_tex_grammar.specs.DefinitionTexts.{is_prefix, past_prefixes, ReadsDefinitions, no_more, stopped, defines, no_definition, definition_refused, Defines}
 use Rattle.latex2mathml_tex_grammar.specs.Definitions.{Word, definition_of, parts_of}
-use Rattle.latex2mathml_tex_grammar.specs.ExpansionLaws.{EachFixed, EachInMacro, EachInTable}
+use Rattle.latex2mathml_tex_grammar.specs.ExpansionLaws.{EachFixed, EachInMacro, EachInTable, added_pieces}
 use Rattle.latex2mathml_tex_grammar.specs.{Cutting.units_of, Next.is_space_piece, Expansion.Expands, Macros.Part, Macros.Table}
 use Rattle.latex2mathml_tex_grammar.specs.{Reading.Outcome, Reading.Read, Reading.Refused}
 use Rattle.latex2mathml_tex_grammar.specs.Units.{Command, Unit, Units, Next, End, Stop}
@@ -28,7 +28,7 @@ body_allowed : (arity : ℕ) (text : List ℕ) → EachInMacro IsAllowedPiece (m
 body_allowed arity text =
     let units = units_of 0 (chars text) in
     let each = listed_allowed units (units_allowed (has_units 0 (chars text))) in
-    (parts_allowed (parts_of arity (listed units)) (of_parts IsAllowedPiece false arity (listed units) each), tt)
+    (parts_allowed (parts_of arity (listed units)) (of_parts IsAllowedPiece false arity (listed units) each), tt, tt)
 
 entries_allowed : (entries : List (List ℕ × ℕ × List ℕ)) → EachInTable IsAllowedPiece (entry_macro entries)
 entries_allowed [] name m e = cc
@@ -41,9 +41,10 @@ usual_allowed = entries_allowed usual_entries
 
 -- What a text defines
 
--- the pieces that definitions of operators add
-operator_name : IsAllowedPiece (Command (codes "operatorname"))
-operator_name = allowed_plain (codes "operatorname") refl
+-- the pieces that definitions add
+added_allowed : AllByRecursion IsAllowedPiece added_pieces
+added_allowed =
+    (tt, (tt, (refl, (allowed_plain (codes "operatorname") refl, (allowed_plain (codes "mathopen") refl, (allowed_plain (codes "mathclose") refl, (allowed_plain (codes "left") refl, (allowed_plain (codes "right") refl, tt))))))))
 
 prefixes_allowed : (l : Units) → AreAllowedUnits l → AreAllowedUnits (past_prefixes l)
 prefixes_allowed (Next u l) h = of_either AreAllowedUnits (is_space_piece u.piece || is_prefix u.piece) (prefixes_allowed l h.1) h
@@ -59,14 +60,14 @@ IfMacros (Read table l) = EachInTable IsAllowedPiece table
 IfMacros (Refused r) = ⊤
 
 definition_allowed : (word : Word) (place : ℕ) (l : Units) → AreAllowedUnits l → Passes IsAllowedPiece (IsPassed IsAllowedPiece) (definition_of word place l)
-definition_allowed word place l h = of_definition IsAllowedPiece tt tt operator_name refl word place l h
+definition_allowed word place l h = of_definition IsAllowedPiece added_allowed word place l h
 
 read_allowed : {table : Table} {l : Units} {o : Outcome Table} → ReadsDefinitions table l o → EachInTable IsAllowedPiece table → AreAllowedUnits l → IfMacros o
 read_allowed (no_more e) t h = t
 read_allowed (stopped e) t h = tt
 read_allowed (defines {table = table} {l = l} {m = m} {u = u} {word = word} {d = d} e w g ds) t h =
     let read = subst (Passes IsAllowedPiece (IsPassed IsAllowedPiece)) g (definition_allowed word u.place m (begun_allowed l e h).1) in
-    read_allowed ds (behind IsAllowedPiece tt tt operator_name refl word d table read.0 t) read.1
+    read_allowed ds (behind IsAllowedPiece added_allowed word d table read.0 t) read.1
 read_allowed (no_definition e w) t h = tt
 read_allowed (definition_refused e w g) t h = tt
 
@@ -75,4 +76,4 @@ macros_allowed h = read_allowed h.read usual_allowed (units_allowed h.spelled)
 
 -- the pieces of an expansion
 pub expansion_allowed : {macros : Table} {uses room : ℕ} {l m : Units} → Expands macros uses room l m → EachInTable IsAllowedPiece macros → AreAllowedUnits l → AreAllowedUnits m
-expansion_allowed e t h = pieces_of IsAllowedPiece tt tt operator_name refl e t h
+expansion_allowed e t h = pieces_of IsAllowedPiece added_allowed e t h

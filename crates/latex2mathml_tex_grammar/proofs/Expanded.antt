@@ -2,12 +2,12 @@
 use Rattle.std.proofs.Common.{ℕ, zero, suc, ◌+◌, ◌-◌, ◌≤◌, ◌≡◌, Bool, true, false, List, length, Option, Some, None, refl, ap, subst, arith}
 use Rattle.std.specs.Prelude.{⊤, nat_lt, if◌then◌else◌}
 use Rattle.std.specs.Str.{bytes_eq}
-use Rattle.latex2mathml_tex_grammar.specs.Definitions.{Word, NewCommand, ProvideCommand, Def, DeclareOperator, Definition, definition_of, provided, behind_definition}
+use Rattle.latex2mathml_tex_grammar.specs.Definitions.{DeclareDelimiters, Word, NewCommand, ProvideCommand, Def, DeclareOperator, Definition, definition_of, provided, behind_definition}
 use Rattle.latex2mathml_tex_grammar.specs.Arguments.{macro_arguments}
-use Rattle.latex2mathml_tex_grammar.specs.Expansion.{Role, Uses, Defines, Stands, name_role, role_of, Turn, Stays, Turns, Fails, replaced, with_arguments, used, defined, turn_of, turn, Expands, at_end, at_stop, stays, turns, fails}
+use Rattle.latex2mathml_tex_grammar.specs.Expansion.{form_of, used_form, Role, Uses, Defines, Stands, name_role, role_of, Turn, Stays, Turns, Fails, replaced, with_arguments, used, defined, turn_of, turn, Expands, at_end, at_stop, stays, turns, fails}
 use Rattle.latex2mathml_tex_grammar.specs.Expanding.{expansion}
 use Rattle.latex2mathml_tex_grammar.specs.ExpansionLaws.{AllStand, HaveOneExpansion, AreExpanded, IsSpacePassed}
-use Rattle.latex2mathml_tex_grammar.specs.Macros.{Macro, Table, with_macro, put, before, count}
+use Rattle.latex2mathml_tex_grammar.specs.Macros.{Part, Macro, Table, with_macro, put, before, count}
 use Rattle.latex2mathml_tex_grammar.specs.{Reading.Outcome, Reading.Read, Reading.Refused, Refusal.Refusal, Refusal.TooManyExpansions, Refusal.refusal_at}
 use Rattle.latex2mathml_tex_grammar.specs.Units.{Piece, Space, Open, Close, Command, Character, Unit, Units, Next, End, Stop}
 use Rattle.latex2mathml_tex_grammar.proofs.Expanding.{expands_once, is_expanded, Shrinks, turn_shrinks}
@@ -29,13 +29,16 @@ no_stay_either false r table uses room l e = cc
 no_stay : (table : Table) (uses room : ℕ) (u : Unit) (us : List Unit) (l : Units) → replaced table uses room u us l ≡ Stays → ⊥
 no_stay table uses room u us l e = no_stay_either (nat_lt room (length us)) (refusal_at TooManyExpansions u.place) table uses (room - length us) (before us l) e
 
-no_stay_arguments : (table : Table) (uses room : ℕ) (u : Unit) (m : Macro) (o : Outcome (List (List Unit))) → with_arguments table uses room u m o ≡ Stays → ⊥
-no_stay_arguments table uses room u m (Read args l) e = no_stay table uses room u (put args u.place m.body) l e
-no_stay_arguments table uses room u m (Refused r) e = cc
+no_stay_arguments : (table : Table) (uses room : ℕ) (u : Unit) (parts : List Part) (o : Outcome (List (List Unit))) → with_arguments table uses room u parts o ≡ Stays → ⊥
+no_stay_arguments table uses room u parts (Read args l) e = no_stay table uses room u (put args u.place parts) l e
+no_stay_arguments table uses room u parts (Refused r) e = cc
+
+no_stay_form : (table : Table) (uses room : ℕ) (u : Unit) (f : Macro × Units) → used_form table uses room u f ≡ Stays → ⊥
+no_stay_form table uses room u (m, l) e = no_stay_arguments table uses room u m.body (macro_arguments m u.place l) e
 
 no_stay_used : (table : Table) (uses room : ℕ) (u : Unit) (m : Macro) (l : Units) → used table uses room u m l ≡ Stays → ⊥
 no_stay_used table zero room u m l e = cc
-no_stay_used table (suc uses) room u m l e = no_stay_arguments table uses room u m (macro_arguments m u.place l) e
+no_stay_used table (suc uses) room u m l e = no_stay_form table uses room u (form_of m l) e
 
 no_stay_defined : (table : Table) (uses room : ℕ) (word : Word) (o : Outcome Definition) → defined table uses room word o ≡ Stays → ⊥
 no_stay_defined table uses room word (Read d l) e = cc
@@ -67,6 +70,7 @@ grows ProvideCommand d table = provided_grows d (table d.name) table
 grows NewCommand d table = with_macro_grows d.name d.stands_for table
 grows Def d table = with_macro_grows d.name d.stands_for table
 grows DeclareOperator d table = with_macro_grows d.name d.stands_for table
+grows DeclareDelimiters d table = with_macro_grows d.name d.stands_for table
 
 name_stands : (old new : Option Macro) (name : List ℕ) → (new ≡ None → old ≡ None) → name_role new name ≡ Stands → name_role old name ≡ Stands
 name_stands None new name h e = name_free new name e
@@ -95,17 +99,20 @@ GrowsBy table Stays = ⊤
 GrowsBy table (Turns next uses room l) = Grows table next
 GrowsBy table (Fails r) = ⊤
 
-arguments_grow : (table : Table) (uses room : ℕ) (u : Unit) (m : Macro) (o : Outcome (List (List Unit))) → GrowsBy table (with_arguments table uses room u m o)
-arguments_grow table uses room u m (Read args l) = grows_either (nat_lt room (length (put args u.place m.body))) table uses _ _ _
+arguments_grow : (table : Table) (uses room : ℕ) (u : Unit) (parts : List Part) (o : Outcome (List (List Unit))) → GrowsBy table (with_arguments table uses room u parts o)
+arguments_grow table uses room u parts (Read args l) = grows_either (nat_lt room (length (put args u.place parts))) table uses _ _ _
   where
     grows_either : (b : Bool) (table : Table) (uses room : ℕ) (r : Refusal) (l : Units) → GrowsBy table (if b then Fails r else Turns table uses room l)
     grows_either true table uses room r l = tt
     grows_either false table uses room r l = λ name e. e
-arguments_grow table uses room u m (Refused r) = tt
+arguments_grow table uses room u parts (Refused r) = tt
+
+form_grows : (table : Table) (uses room : ℕ) (u : Unit) (f : Macro × Units) → GrowsBy table (used_form table uses room u f)
+form_grows table uses room u (m, l) = arguments_grow table uses room u m.body (macro_arguments m u.place l)
 
 used_grows : (table : Table) (uses room : ℕ) (u : Unit) (m : Macro) (l : Units) → GrowsBy table (used table uses room u m l)
 used_grows table zero room u m l = tt
-used_grows table (suc uses) room u m l = arguments_grow table uses room u m (macro_arguments m u.place l)
+used_grows table (suc uses) room u m l = form_grows table uses room u (form_of m l)
 
 defined_grows : (table : Table) (uses room : ℕ) (word : Word) (o : Outcome Definition) → GrowsBy table (defined table uses room word o)
 defined_grows table uses room word (Read d l) = grows word d table
@@ -158,3 +165,4 @@ space_passed = record { behind_word = passed; before_argument = λ place n u l e
     passed ProvideCommand place u l e = rw e refl
     passed Def place u l e = rw e refl
     passed DeclareOperator place u l e = rw e refl
+    passed DeclareDelimiters place u l e = rw e refl

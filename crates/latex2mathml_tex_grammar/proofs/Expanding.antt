@@ -5,12 +5,12 @@ use Rattle.std.specs.Prelude.{⊤, nat_lt}
 use Rattle.latex2mathml_tex_grammar.specs.Arguments.{macro_arguments}
 use Rattle.latex2mathml_tex_grammar.specs.Definitions.{Word, Definition, definition_of}
 use Rattle.latex2mathml_tex_grammar.specs.Expanding.{turned, expansion_within, expansion}
-use Rattle.latex2mathml_tex_grammar.specs.Expansion.{Role, Uses, Defines, Stands, role_of, Turn, Stays, Turns, Fails, replaced, with_arguments, used, defined, turn_of, turn, Expands, at_end, at_stop, stays, turns, fails}
-use Rattle.latex2mathml_tex_grammar.specs.Macros.{Macro, Table, put, count}
+use Rattle.latex2mathml_tex_grammar.specs.Expansion.{form_of, used_form, Role, Uses, Defines, Stands, role_of, Turn, Stays, Turns, Fails, replaced, with_arguments, used, defined, turn_of, turn, Expands, at_end, at_stop, stays, turns, fails}
+use Rattle.latex2mathml_tex_grammar.specs.Macros.{Part, Macro, Table, put, count}
 use Rattle.latex2mathml_tex_grammar.specs.{Reading.Outcome, Reading.Read, Reading.Refused, Refusal.Refusal}
 use Rattle.latex2mathml_tex_grammar.specs.Units.{Unit, Units, Next, End, Stop}
 use Rattle.latex2mathml_tex_grammar.proofs.Choices.{of_chosen}
-use Rattle.latex2mathml_tex_grammar.proofs.Shrinking.{Leaves, macro_arguments_leave, definition_leaves, count-before}
+use Rattle.latex2mathml_tex_grammar.proofs.Shrinking.{Leaves, form_leaves, macro_arguments_leave, definition_leaves, count-before}
 
 -- what is expanded instead, with what can still be put, is at most n units
 abbrev pub Shrinks : ℕ → Turn → Type 0
@@ -23,13 +23,16 @@ replaced_shrinks n table uses room u us l h = of_chosen (Shrinks n) (nat_lt room
     let fits : length us ≤ room = grind (arith, nat_tests) in
     omega (arith, h, fits, count-before us l))
 
-with_arguments_shrinks : (n k : ℕ) (table : Table) (uses room : ℕ) (u : Unit) (m : Macro) (o : Outcome (List (List Unit))) → Leaves k o → k + room ≤ n → Shrinks n (with_arguments table uses room u m o)
-with_arguments_shrinks n k table uses room u m (Read args l) left h = replaced_shrinks n table uses room u (put args u.place m.body) l (omega (arith, left, h))
-with_arguments_shrinks n k table uses room u m (Refused r) left h = tt
+with_arguments_shrinks : (n k : ℕ) (table : Table) (uses room : ℕ) (u : Unit) (parts : List Part) (o : Outcome (List (List Unit))) → Leaves k o → k + room ≤ n → Shrinks n (with_arguments table uses room u parts o)
+with_arguments_shrinks n k table uses room u parts (Read args l) left h = replaced_shrinks n table uses room u (put args u.place parts) l (omega (arith, left, h))
+with_arguments_shrinks n k table uses room u parts (Refused r) left h = tt
+
+form_shrinks : (n : ℕ) (table : Table) (uses room : ℕ) (u : Unit) (f : Macro × Units) → count f.1 + room ≤ n → Shrinks n (used_form table uses room u f)
+form_shrinks n table uses room u (m, l) h = with_arguments_shrinks n (count l) table uses room u m.body (macro_arguments m u.place l) (macro_arguments_leave m u.place l) h
 
 used_shrinks : (table : Table) (uses room : ℕ) (u : Unit) (m : Macro) (l : Units) → Shrinks (count l + room) (used table uses room u m l)
 used_shrinks table zero room u m l = tt
-used_shrinks table (suc uses) room u m l = with_arguments_shrinks (count l + room) (count l) table uses room u m (macro_arguments m u.place l) (macro_arguments_leave m u.place l) (omega arith)
+used_shrinks table (suc uses) room u m l = form_shrinks (count l + room) table uses room u (form_of m l) (omega (arith, form_leaves m l))
 
 defined_shrinks : (n k : ℕ) (table : Table) (uses room : ℕ) (word : Word) (o : Outcome Definition) → Leaves k o → k + room ≤ n → Shrinks n (defined table uses room word o)
 defined_shrinks n k table uses room word (Read d l) left h = omega (arith, left, h)

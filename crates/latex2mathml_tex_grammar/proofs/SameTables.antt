@@ -3,10 +3,10 @@ use Rattle.std.proofs.Common.{ℕ, zero, suc, ◌+◌, ◌-◌, ◌≡◌, Bool,
 use Rattle.std.specs.Prelude.{nat_lt, if◌then◌else◌}
 use Rattle.std.specs.Str.{bytes_eq}
 use Rattle.latex2mathml_tex_grammar.specs.Arguments.{macro_arguments}
-use Rattle.latex2mathml_tex_grammar.specs.Definitions.{Word, NewCommand, ProvideCommand, Def, DeclareOperator, Definition, definition_of, provided, behind_definition}
+use Rattle.latex2mathml_tex_grammar.specs.Definitions.{DeclareDelimiters, Word, NewCommand, ProvideCommand, Def, DeclareOperator, Definition, definition_of, provided, behind_definition}
 use Rattle.latex2mathml_tex_grammar.specs.Expanding.{turned, expansion_within, expansion}
-use Rattle.latex2mathml_tex_grammar.specs.Expansion.{Role, Uses, Defines, Stands, name_role, role_of, Turn, Turns, Fails, with_arguments, used, defined, turn_of}
-use Rattle.latex2mathml_tex_grammar.specs.Macros.{Macro, SameMacros, Table, with_macro, put, before, count}
+use Rattle.latex2mathml_tex_grammar.specs.Expansion.{form_of, used_form, Role, Uses, Defines, Stands, name_role, role_of, Turn, Turns, Fails, with_arguments, used, defined, turn_of}
+use Rattle.latex2mathml_tex_grammar.specs.Macros.{Part, Macro, SameMacros, Table, with_macro, put, before, count}
 use Rattle.latex2mathml_tex_grammar.specs.{Reading.Outcome, Reading.Read, Reading.Refused, Refusal.Refusal, Refusal.TooManyExpansions, Refusal.refusal_at}
 use Rattle.latex2mathml_tex_grammar.specs.Units.{Piece, Space, Open, Close, Command, Character, Unit, Units, Next, End, Stop}
 
@@ -24,6 +24,7 @@ behind_same ProvideCommand d t v h = provided_same d (t d.name) (v d.name) t v (
 behind_same NewCommand d t v h = with_macro_same d.name d.stands_for t v h
 behind_same Def d t v h = with_macro_same d.name d.stands_for t v h
 behind_same DeclareOperator d t v h = with_macro_same d.name d.stands_for t v h
+behind_same DeclareDelimiters d t v h = with_macro_same d.name d.stands_for t v h
 
 role_same : (p : Piece) (t v : Table) → SameMacros t v → role_of t p ≡ role_of v p
 role_same (Command name) t v h = ap (λ found. name_role found name) (h name)
@@ -45,15 +46,19 @@ either_same : (n : ℕ) (t v : Table) (uses room uses_left room_left : ℕ) (u :
 either_same n t v uses room uses_left room_left u l m true r more h = refl
 either_same n t v uses room uses_left room_left u l m false r more h = more t v uses_left room_left m h
 
-arguments_same : (n : ℕ) (t v : Table) (uses room uses_left : ℕ) (u : Unit) (l : Units) (m : Macro) (o : Outcome (List (List Unit))) → SameFrom n → SameMacros t v
-    → SameTurns n t v uses room u l (with_arguments t uses_left room u m o) (with_arguments v uses_left room u m o)
-arguments_same n t v uses room uses_left u l m (Read args rest) more h =
-    either_same n t v uses room uses_left (room - length (put args u.place m.body)) u l (before (put args u.place m.body) rest) (nat_lt room (length (put args u.place m.body))) (refusal_at TooManyExpansions u.place) more h
-arguments_same n t v uses room uses_left u l m (Refused r) more h = refl
+arguments_same : (n : ℕ) (t v : Table) (uses room uses_left : ℕ) (u : Unit) (l : Units) (parts : List Part) (o : Outcome (List (List Unit))) → SameFrom n → SameMacros t v
+    → SameTurns n t v uses room u l (with_arguments t uses_left room u parts o) (with_arguments v uses_left room u parts o)
+arguments_same n t v uses room uses_left u l parts (Read args rest) more h =
+    either_same n t v uses room uses_left (room - length (put args u.place parts)) u l (before (put args u.place parts) rest) (nat_lt room (length (put args u.place parts))) (refusal_at TooManyExpansions u.place) more h
+arguments_same n t v uses room uses_left u l parts (Refused r) more h = refl
+
+form_same : (n : ℕ) (t v : Table) (uses room uses_left : ℕ) (u : Unit) (l : Units) (f : Macro × Units) → SameFrom n → SameMacros t v
+    → SameTurns n t v uses room u l (used_form t uses_left room u f) (used_form v uses_left room u f)
+form_same n t v uses room uses_left u l (m, k) more h = arguments_same n t v uses room uses_left u l m.body (macro_arguments m u.place k) more h
 
 used_same : (n : ℕ) (t v : Table) (uses room : ℕ) (u : Unit) (l : Units) (m : Macro) → SameFrom n → SameMacros t v → SameTurns n t v uses room u l (used t uses room u m l) (used v uses room u m l)
 used_same n t v zero room u l m more h = refl
-used_same n t v (suc uses) room u l m more h = arguments_same n t v (suc uses) room uses u l m (macro_arguments m u.place l) more h
+used_same n t v (suc uses) room u l m more h = form_same n t v (suc uses) room uses u l (form_of m l) more h
 
 defined_same : (n : ℕ) (t v : Table) (uses room : ℕ) (u : Unit) (l : Units) (word : Word) (o : Outcome Definition) → SameFrom n → SameMacros t v → SameTurns n t v uses room u l (defined t uses room word o) (defined v uses room word o)
 defined_same n t v uses room u l word (Read d rest) more h = more (behind_definition word d t) (behind_definition word d v) uses room rest (behind_same word d t v h)

@@ -3,11 +3,12 @@ use Rattle.std.proofs.Common.{ℕ, zero, suc, ◌+◌, ◌≤◌, ◌≡◌, Boo
 use Rattle.std.specs.Prelude.{⊤}
 use Rattle.std.specs.Str.{byte}
 use Rattle.latex2mathml_tex_grammar.specs.Arguments.{Brace, Opening, Closing, NoBrace, brace_of, and_then, with_first, in_group, group, argument_of, argument_here, argument, arguments, is_character, ends_brackets, in_brackets, between_brackets, without_braces, bracket_here, bracket, behind_bracket, optional, or_default, arguments_with, macro_arguments}
-use Rattle.latex2mathml_tex_grammar.specs.Definitions.{Word, NewCommand, ProvideCommand, Def, DeclareOperator, sign_here, sign, digit_of, digit_found, digit_here, digit, name_in, name_read, name_of, number_closed, number_in, number_opened, number_of, numbered, parameter, parameters, parts_of, body_read, body, default_read, default_given, default_of, is_delimited, body_in_braces, command_definition, plain_definition, operator_definition, definition_of}
+use Rattle.latex2mathml_tex_grammar.specs.Definitions.{DeclareDelimiters, delimiters_definition, Word, NewCommand, ProvideCommand, Def, DeclareOperator, sign_here, sign, digit_of, digit_found, digit_here, digit, name_in, name_read, name_of, number_closed, number_in, number_opened, number_of, numbered, parameter, parameters, parts_of, body_read, body, default_read, default_given, default_of, is_delimited, body_in_braces, command_definition, plain_definition, operator_definition, definition_of}
 use Rattle.latex2mathml_tex_grammar.specs.Macros.{Part, Macro, count, before}
 use Rattle.latex2mathml_tex_grammar.specs.{Next.is_space_piece, Next.past_space, Reading.Outcome, Reading.Read, Reading.Refused}
 use Rattle.latex2mathml_tex_grammar.specs.Units.{Unit, Units, Next, End, Stop}
 use Rattle.latex2mathml_tex_grammar.proofs.Choices.{of_either}
+use Rattle.latex2mathml_tex_grammar.specs.Expansion.{starred_form, form_with, form_of}
 
 -- the outcome leaves at most n units
 abbrev pub Leaves : {A : Type 0} → ℕ → Outcome A → Type 0
@@ -106,6 +107,17 @@ sign_here_leaves c (Stop r) = omega arith
 sign_leaves : (c : ℕ) (l : Units) → count (sign c l).1 ≤ count l
 sign_leaves c l = omega (arith, sign_here_leaves c (past_space l), count-past_space l)
 
+starred_form_leaves : (m : Macro) (parts : List Part) (found : Bool × Units) → count (starred_form m parts found).1 ≤ count found.1
+starred_form_leaves m parts (true, l) = omega arith
+starred_form_leaves m parts (false, l) = omega arith
+
+form_with_leaves : (m : Macro) (starred : Option (List Part)) (l : Units) → count (form_with m starred l).1 ≤ count l
+form_with_leaves m (Some parts) l = omega (arith, starred_form_leaves m parts (sign (byte "*") l), sign_leaves (byte "*") l)
+form_with_leaves m None l = omega arith
+
+pub form_leaves : (m : Macro) (l : Units) → count (form_of m l).1 ≤ count l
+form_leaves m l = form_with_leaves m m.starred l
+
 digit_found_leaves : (d : Option ℕ) (u : Unit) (l : Units) → count (digit_found d u l).1 ≤ suc (count l)
 digit_found_leaves (Some d) u l = omega arith
 digit_found_leaves None u l = omega arith
@@ -189,6 +201,12 @@ plain_leaves place l =
     leaves_after (count l) (parameters place 9 0 m) _ (parameters_leave (count l) place 9 0 m h) (λ n k i.
     leaves_after (count l) (body_in_braces place n k) _ (leaves_more (count k) _ (body_in_braces place n k) i (body_in_braces_leaves place n k)) (λ parts rest j. j)))
 
+delimiters_leave : (place : ℕ) (l : Units) → Leaves (count l) (delimiters_definition place l)
+delimiters_leave place l =
+    leaves_after (count l) (name_of place l) _ (name_leaves place l) (λ name m h.
+    leaves_after (count l) (body place 0 m) _ (leaves_more (count m) _ (body place 0 m) h (body_leaves place 0 m)) (λ left k i.
+    leaves_after (count l) (body place 0 k) _ (leaves_more (count k) _ (body place 0 k) i (body_leaves place 0 k)) (λ right rest j. j)))
+
 operator_leaves : (place : ℕ) (l : Units) → Leaves (count l) (operator_definition place l)
 operator_leaves place l =
     let starred = sign_leaves (byte "*") l in
@@ -200,6 +218,7 @@ definition_leaves NewCommand place l = command_leaves place l
 definition_leaves ProvideCommand place l = command_leaves place l
 definition_leaves Def place l = plain_leaves place l
 definition_leaves DeclareOperator place l = operator_leaves place l
+definition_leaves DeclareDelimiters place l = delimiters_leave place l
 
 pub count-before : (us : List Unit) (l : Units) → count (before us l) ≡ length us + count l
 count-before [] l = omega arith

@@ -5,7 +5,7 @@ use Rattle.std.specs.Prelude.{ℕ, zero, suc, ◌+◌, ◌-◌, Bool, true, fals
 use Rattle.std.specs.{Char.is_ascii_digit, Str.byte, Str.bytes_eq}
 pub use Rattle.latex2mathml_tex_grammar.specs.Arguments.{is_character}
 use Rattle.latex2mathml_tex_grammar.specs.Arguments.{NoBrace, Brace, brace_of, argument, optional, and_then}
-use Rattle.latex2mathml_tex_grammar.specs.Macros.{Part, Fixed, Argument, Macro, macro, macro_with_default, Table, with_macro}
+use Rattle.latex2mathml_tex_grammar.specs.Macros.{Part, Fixed, Argument, Macro, macro, macro_of_parts, macro_with_default, Table, with_macro}
 use Rattle.latex2mathml_tex_grammar.specs.{Next.is_space_piece, Next.past_space, Reading.Outcome, Reading.Read, Reading.Refused}
 use Rattle.latex2mathml_tex_grammar.specs.Refusal.{MissingMacroName, WrongParameters, DelimitedArgument, UnknownParameter, refusal_at}
 use Rattle.latex2mathml_tex_grammar.specs.Units.{Piece, Open, Close, Command, Character, Unit, Units, Next, End, Stop}
@@ -20,6 +20,8 @@ pub data Word : Type 0 where
   Def : Word
   -- `\DeclareMathOperator`
   DeclareOperator : Word
+  -- `\DeclarePairedDelimiter`
+  DeclareDelimiters : Word
 
 -- the word that has this name, if one does
 abbrev pub word_named : List ℕ → Option Word
@@ -30,6 +32,7 @@ word_named name =
     else if bytes_eq name (codes "def") then Some Def
     else if bytes_eq name (codes "gdef") then Some Def
     else if bytes_eq name (codes "DeclareMathOperator") then Some DeclareOperator
+    else if bytes_eq name (codes "DeclarePairedDelimiter") then Some DeclareDelimiters
     else None
 
 -- what is defined
@@ -218,6 +221,25 @@ operator_parts star parts =
     starred true = Fixed (Character (byte "*")) ∷ []
     starred false = []
 
+-- a command with this name, and in braces a delimiter of the size that the first argument says
+abbrev pub sized_parts : List ℕ → List Part → List Part
+sized_parts name delimiter = Fixed (Command name) ∷ Fixed Open ∷ Argument 0 ∷ (delimiter ++ Fixed Close ∷ [])
+
+-- what is between delimiters whose size the first argument says
+abbrev pub enclosed_parts : List Part → List Part → List Part
+enclosed_parts left right = sized_parts (codes "mathopen") left ++ Argument 1 ∷ sized_parts (codes "mathclose") right
+
+-- what is between delimiters that are as high as it. As a whole, it has the space of an opening and of a closing delimiter.
+abbrev pub stretched_parts : List Part → List Part → List Part
+stretched_parts left right =
+    Fixed (Command (codes "mathopen")) ∷ Fixed Open ∷ Fixed Close ∷ Fixed (Command (codes "mathclose")) ∷ Fixed Open
+    ∷ Fixed (Command (codes "left")) ∷ (left ++ Argument 0 ∷ Fixed (Command (codes "right")) ∷ (right ++ Fixed Close ∷ []))
+
+-- what the name of a pair of delimiters means: with a star they stretch, and without one they have the usual size, or the one
+-- that is given in brackets
+abbrev pub delimiters_macro : List Part → List Part → Macro
+delimiters_macro left right = macro_of_parts (Some (stretched_parts left right)) (Some []) 1 (enclosed_parts left right)
+
 -- the word that a piece is
 abbrev pub word_of : Piece → Option Word
 word_of (Command name) = word_named name
@@ -247,12 +269,20 @@ operator_definition place l =
     and_then (body place 0 m) (λ parts rest.
     Read (definition name (macro 0 (operator_parts (sign (byte "*") l).0 parts))) rest))
 
+-- what follows `\DeclarePairedDelimiter`: a name, and both delimiters
+abbrev pub delimiters_definition : ℕ → Units → Outcome Definition
+delimiters_definition place l =
+    and_then (name_of place l) (λ name m.
+    and_then (body place 0 m) (λ left k.
+    and_then (body place 0 k) (λ right rest. Read (definition name (delimiters_macro left right)) rest)))
+
 -- the definition after a word at this place
 abbrev pub definition_of : Word → ℕ → Units → Outcome Definition
 definition_of NewCommand place l = command_definition place l
 definition_of ProvideCommand place l = command_definition place l
 definition_of Def place l = plain_definition place l
 definition_of DeclareOperator place l = operator_definition place l
+definition_of DeclareDelimiters place l = delimiters_definition place l
 
 -- The macros that hold after a definition
 
@@ -267,3 +297,4 @@ behind_definition ProvideCommand d table = provided d (table d.name) table
 behind_definition NewCommand d table = with_macro d.name d.stands_for table
 behind_definition Def d table = with_macro d.name d.stands_for table
 behind_definition DeclareOperator d table = with_macro d.name d.stands_for table
+behind_definition DeclareDelimiters d table = with_macro d.name d.stands_for table

@@ -83,31 +83,74 @@ delimiter_characters =
 -- the commands that have a negated sign of their own
 unfoldable pub negated_commands : List (List ℕ × ℕ)
 negated_commands =
+    (codes "Harr", 0x21CE) ∷  -- ⇎
+    (codes "Larr", 0x21CD) ∷  -- ⇍
+    (codes "Leftarrow", 0x21CD) ∷  -- ⇍
+    (codes "Leftrightarrow", 0x21CE) ∷  -- ⇎
+    (codes "Lrarr", 0x21CE) ∷  -- ⇎
+    (codes "Rarr", 0x21CF) ∷  -- ⇏
+    (codes "Rightarrow", 0x21CF) ∷  -- ⇏
+    (codes "Vdash", 0x22AE) ∷  -- ⊮
     (codes "approx", 0x2249) ∷  -- ≉
+    (codes "asymp", 0x226D) ∷  -- ≭
     (codes "cong", 0x2247) ∷  -- ≇
     (codes "equiv", 0x2262) ∷  -- ≢
     (codes "exist", 0x2204) ∷  -- ∄
     (codes "exists", 0x2204) ∷  -- ∄
     (codes "ge", 0x2271) ∷  -- ≱
     (codes "geq", 0x2271) ∷  -- ≱
+    (codes "gets", 0x219A) ∷  -- ↚
+    (codes "gt", 0x226F) ∷  -- ≯
+    (codes "gtrless", 0x2279) ∷  -- ≹
+    (codes "gtrsim", 0x2275) ∷  -- ≵
+    (codes "hArr", 0x21CE) ∷  -- ⇎
+    (codes "harr", 0x21AE) ∷  -- ↮
     (codes "in", 0x2209) ∷  -- ∉
     (codes "isin", 0x2209) ∷  -- ∉
+    (codes "lArr", 0x21CD) ∷  -- ⇍
+    (codes "larr", 0x219A) ∷  -- ↚
     (codes "le", 0x2270) ∷  -- ≰
+    (codes "leftarrow", 0x219A) ∷  -- ↚
+    (codes "leftrightarrow", 0x21AE) ∷  -- ↮
     (codes "leq", 0x2270) ∷  -- ≰
+    (codes "lessgtr", 0x2278) ∷  -- ≸
+    (codes "lesssim", 0x2274) ∷  -- ≴
+    (codes "lrArr", 0x21CE) ∷  -- ⇎
+    (codes "lrarr", 0x21AE) ∷  -- ↮
+    (codes "lt", 0x226E) ∷  -- ≮
     (codes "mid", 0x2224) ∷  -- ∤
     (codes "models", 0x22AD) ∷  -- ⊭
     (codes "ni", 0x220C) ∷  -- ∌
+    (codes "owns", 0x220C) ∷  -- ∌
     (codes "parallel", 0x2226) ∷  -- ∦
     (codes "prec", 0x2280) ∷  -- ⊀
+    (codes "preccurlyeq", 0x22E0) ∷  -- ⋠
+    (codes "rArr", 0x21CF) ∷  -- ⇏
+    (codes "rarr", 0x219B) ∷  -- ↛
+    (codes "rightarrow", 0x219B) ∷  -- ↛
+    (codes "shortmid", 0x2224) ∷  -- ∤
+    (codes "shortparallel", 0x2226) ∷  -- ∦
     (codes "sim", 0x2241) ∷  -- ≁
+    (codes "simeq", 0x2244) ∷  -- ≄
+    (codes "sqsubseteq", 0x22E2) ∷  -- ⋢
+    (codes "sqsupseteq", 0x22E3) ∷  -- ⋣
     (codes "sub", 0x2284) ∷  -- ⊄
     (codes "sube", 0x2288) ∷  -- ⊈
     (codes "subset", 0x2284) ∷  -- ⊄
     (codes "subseteq", 0x2288) ∷  -- ⊈
     (codes "succ", 0x2281) ∷  -- ⊁
+    (codes "succcurlyeq", 0x22E1) ∷  -- ⋡
     (codes "supe", 0x2289) ∷  -- ⊉
     (codes "supset", 0x2285) ∷  -- ⊅
     (codes "supseteq", 0x2289) ∷  -- ⊉
+    (codes "thickapprox", 0x2249) ∷  -- ≉
+    (codes "thicksim", 0x2241) ∷  -- ≁
+    (codes "to", 0x219B) ∷  -- ↛
+    (codes "trianglelefteq", 0x22EC) ∷  -- ⋬
+    (codes "trianglerighteq", 0x22ED) ∷  -- ⋭
+    (codes "vDash", 0x22AD) ∷  -- ⊭
+    (codes "vartriangleleft", 0x22EA) ∷  -- ⋪
+    (codes "vartriangleright", 0x22EB) ∷  -- ⋫
     (codes "vdash", 0x22AC) ∷  -- ⊬
     []
 
@@ -117,6 +160,47 @@ negated_characters =
     (0x3C, 0x226E) ∷  -- ≮
     (0x3D, 0x2260) ∷  -- ≠
     (0x3E, 0x226F) ∷  -- ≯
+    (0x2190, 0x219A) ∷  -- ↚
+    (0x2192, 0x219B) ∷  -- ↛
+    (0x2194, 0x21AE) ∷  -- ↮
+    (0x21D0, 0x21CD) ∷  -- ⇍
+    (0x21D2, 0x21CF) ∷  -- ⇏
+    (0x21D4, 0x21CE) ∷  -- ⇎
+    (0x2203, 0x2204) ∷  -- ∄
+    (0x2208, 0x2209) ∷  -- ∉
+    (0x220B, 0x220C) ∷  -- ∌
+    (0x2223, 0x2224) ∷  -- ∤
+    (0x2225, 0x2226) ∷  -- ∦
+    (0x223C, 0x2241) ∷  -- ≁
+    (0x2243, 0x2244) ∷  -- ≄
+    (0x2245, 0x2247) ∷  -- ≇
+    (0x2248, 0x2249) ∷  -- ≉
+    (0x224D, 0x226D) ∷  -- ≭
+    (0x2261, 0x2262) ∷  -- ≢
+    (0x2264, 0x2270) ∷  -- ≰
+    (0x2265, 0x2271) ∷  -- ≱
+    (0x2272, 0x2274) ∷  -- ≴
+    (0x2273, 0x2275) ∷  -- ≵
+    (0x2276, 0x2278) ∷  -- ≸
+    (0x2277, 0x2279) ∷  -- ≹
+    (0x227A, 0x2280) ∷  -- ⊀
+    (0x227B, 0x2281) ∷  -- ⊁
+    (0x227C, 0x22E0) ∷  -- ⋠
+    (0x227D, 0x22E1) ∷  -- ⋡
+    (0x2282, 0x2284) ∷  -- ⊄
+    (0x2283, 0x2285) ∷  -- ⊅
+    (0x2286, 0x2288) ∷  -- ⊈
+    (0x2287, 0x2289) ∷  -- ⊉
+    (0x2291, 0x22E2) ∷  -- ⋢
+    (0x2292, 0x22E3) ∷  -- ⋣
+    (0x22A2, 0x22AC) ∷  -- ⊬
+    (0x22A8, 0x22AD) ∷  -- ⊭
+    (0x22A9, 0x22AE) ∷  -- ⊮
+    (0x22AB, 0x22AF) ∷  -- ⊯
+    (0x22B2, 0x22EA) ∷  -- ⋪
+    (0x22B3, 0x22EB) ∷  -- ⋫
+    (0x22B4, 0x22EC) ∷  -- ⋬
+    (0x22B5, 0x22ED) ∷  -- ⋭
     []
 
 -- the character of the entry with this name, where there is one

@@ -1,9 +1,10 @@
 -- Expansion: what units become when the macros that they use are replaced and the definitions among them are taken. What is
 -- refused ends the units, as does what is not a unit.
-use Rattle.std.specs.Prelude.{◌≡◌, ℕ, zero, suc, ◌-◌, nat_lt, List, length, Option, Some, None, if◌then◌else◌}
+use Rattle.std.specs.Prelude.{◌≡◌, ℕ, zero, suc, ◌-◌, Bool, true, false, nat_lt, List, length, Option, Some, None, if◌then◌else◌}
+use Rattle.std.specs.Str.{byte}
 use Rattle.latex2mathml_tex_grammar.specs.Arguments.{macro_arguments}
-use Rattle.latex2mathml_tex_grammar.specs.Definitions.{Word, word_named, Definition, definition_of, behind_definition}
-use Rattle.latex2mathml_tex_grammar.specs.Macros.{Macro, Table, put, before}
+use Rattle.latex2mathml_tex_grammar.specs.Definitions.{Word, word_named, Definition, sign, definition_of, behind_definition}
+use Rattle.latex2mathml_tex_grammar.specs.Macros.{Part, Macro, macro, Table, put, before}
 use Rattle.latex2mathml_tex_grammar.specs.Reading.{Outcome, Read, Refused}
 use Rattle.latex2mathml_tex_grammar.specs.Refusal.{TooManyExpansions, Refusal, refusal_at}
 use Rattle.latex2mathml_tex_grammar.specs.Units.{Piece, Command, Unit, Units, Next, End, Stop}
@@ -56,15 +57,34 @@ replaced table uses room u us l =
     if nat_lt room (length us) then Fails (refusal_at TooManyExpansions u.place)
     else Turns table uses (room - length us) (before us l)
 
--- what becomes of the use of a macro, by the outcome of its arguments
-abbrev pub with_arguments : Table → ℕ → ℕ → Unit → Macro → Outcome (List (List Unit)) → Turn
-with_arguments table uses room u m (Read args l) = replaced table uses room u (put args u.place m.body) l
-with_arguments table uses room u m (Refused r) = Fails r
+-- The macro that is used, and the units after its name, and after its star if it takes one
+
+-- with a star, if one was found
+abbrev pub starred_form : Macro → List Part → Bool × Units → Macro × Units
+starred_form m body (true, l) = (macro m.arity body, l)
+starred_form m body (false, l) = (m, l)
+
+-- with a star, if it means something else with one, and one comes next
+abbrev pub form_with : Macro → Option (List Part) → Units → Macro × Units
+form_with m (Some body) l = starred_form m body (sign (byte "*") l)
+form_with m None l = (m, l)
+
+abbrev pub form_of : Macro → Units → Macro × Units
+form_of m l = form_with m m.starred l
+
+-- what becomes of the use of a macro with this body, by the outcome of its arguments
+abbrev pub with_arguments : Table → ℕ → ℕ → Unit → List Part → Outcome (List (List Unit)) → Turn
+with_arguments table uses room u body (Read args l) = replaced table uses room u (put args u.place body) l
+with_arguments table uses room u body (Refused r) = Fails r
+
+-- what becomes of the use of a macro, by what is used
+abbrev pub used_form : Table → ℕ → ℕ → Unit → Macro × Units → Turn
+used_form table uses room u (m, l) = with_arguments table uses room u m.body (macro_arguments m u.place l)
 
 -- what becomes of the use of a macro, which is refused if no more can be used
 abbrev pub used : Table → ℕ → ℕ → Unit → Macro → Units → Turn
 used table zero room u m l = Fails (refusal_at TooManyExpansions u.place)
-used table (suc uses) room u m l = with_arguments table uses room u m (macro_arguments m u.place l)
+used table (suc uses) room u m l = used_form table uses room u (form_of m l)
 
 -- what becomes of the word of a definition, by the outcome of the definition that follows it
 abbrev pub defined : Table → ℕ → ℕ → Word → Outcome Definition → Turn

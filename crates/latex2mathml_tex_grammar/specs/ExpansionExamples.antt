@@ -3,11 +3,11 @@ use Rattle.std.specs.Prelude.{ℕ, List, codes}
 use Rattle.std.specs.Str.{byte}
 use Rattle.latex2mathml_tex_grammar.specs.{Cutting.units_of, Expansion.Expands, UsualMacros.usual_macros}
 use Rattle.latex2mathml_tex_grammar.specs.Refusal.{MissingArgument, TooManyExpansions, refusal_at}
-use Rattle.latex2mathml_tex_grammar.specs.Units.{Open, Command, Character, Units, Next, End, Stop, unit}
+use Rattle.latex2mathml_tex_grammar.specs.Units.{Open, Close, Command, Character, Units, Next, End, Stop, unit}
 
--- the text expands to these units, where only the usual macros hold, four macros can be used and ten units can be put
+-- the text expands to these units, where only the usual macros hold, four macros can be used and twelve units can be put
 abbrev pub ExpandsTo : List ℕ → Units → Type 0
-ExpandsTo text units = Expands usual_macros 4 10 (units_of 0 text) units
+ExpandsTo text units = Expands usual_macros 4 12 (units_of 0 text) units
 
 -- the units that some texts expand to
 pub record AreExpansionExamples : Type 0 where
@@ -22,3 +22,11 @@ pub record AreExpansionExamples : Type 0 where
       (Next (unit (Character (byte "x")) 11) (Next (unit (Character (byte "x")) 11) (Next (unit (Character (byte "x")) 11) (Next (unit (Character (byte "x")) 11) (Stop (refusal_at TooManyExpansions 11))))))
   -- and so is one that lacks an argument
   pub lacking : ExpandsTo (codes "{\\bra}") (Next (unit Open 0) (Stop (refusal_at MissingArgument 1)))
+  -- with a star, a pair of delimiters stretches
+  pub starred : ExpandsTo (codes "\\DeclarePairedDelimiter\\n()\\n*x")
+      (Next (unit (Command (codes "mathopen")) 27) (Next (unit Open 27) (Next (unit Close 27) (Next (unit (Command (codes "mathclose")) 27) (Next (unit Open 27)
+      (Next (unit (Command (codes "left")) 27) (Next (unit (Character (byte "(")) 27) (Next (unit (Character (byte "x")) 30) (Next (unit (Command (codes "right")) 27) (Next (unit (Character (byte ")")) 27) (Next (unit Close 27) (End 31))))))))))))
+  -- without one, it has the usual size
+  pub unstarred : ExpandsTo (codes "\\DeclarePairedDelimiter\\n()\\n x")
+      (Next (unit (Command (codes "mathopen")) 27) (Next (unit Open 27) (Next (unit (Character (byte "(")) 27) (Next (unit Close 27) (Next (unit (Character (byte "x")) 30)
+      (Next (unit (Command (codes "mathclose")) 27) (Next (unit Open 27) (Next (unit (Character (byte ")")) 27) (Next (unit Close 27) (End 31))))))))))

@@ -57,24 +57,30 @@ EachFixed P [] = ⊤
 EachFixed P (Fixed p ∷ parts) = P p × EachFixed P parts
 EachFixed P (Argument k ∷ parts) = EachFixed P parts
 
--- each fixed piece of a default passes, if there is one
-abbrev pub EachOfDefault : (Piece → Type 0) → Option (List Part) → Type 0
-EachOfDefault P (Some parts) = EachFixed P parts
-EachOfDefault P None = ⊤
+-- each fixed piece passes, if there are parts
+abbrev pub EachIfSome : (Piece → Type 0) → Option (List Part) → Type 0
+EachIfSome P (Some parts) = EachFixed P parts
+EachIfSome P None = ⊤
 
 -- each fixed piece of a macro passes
 abbrev pub EachInMacro : (Piece → Type 0) → Macro → Type 0
-EachInMacro P m = EachFixed P m.body × EachOfDefault P m.default
+EachInMacro P m = EachFixed P m.body × EachIfSome P m.default × EachIfSome P m.starred
 
 -- each fixed piece of the macros passes
 abbrev pub EachInTable : (Piece → Type 0) → Table → Type 0
 EachInTable P table = (name : List ℕ) (m : Macro) → table name ≡ Some m → EachInMacro P m
 
+-- the pieces that a definition of an operator or of delimiters adds
+abbrev pub added_pieces : List Piece
+added_pieces =
+    Open ∷ Close ∷ Character (byte "*") ∷ Command (codes "operatorname")
+    ∷ Command (codes "mathopen") ∷ Command (codes "mathclose") ∷ Command (codes "left") ∷ Command (codes "right") ∷ []
+
 -- What holds of each piece of the units and of the macros holds of each piece of the expansion, if it holds of the pieces
--- that a definition of an operator adds.
+-- that definitions add.
 abbrev pub AddsNothing : Type 0
 AddsNothing = (test : Piece → Bool) (table : Table) (uses room : ℕ) (l m : Units)
-    → AllByRecursion (λ p. IsTrue (test p)) (Open ∷ Close ∷ Command (codes "operatorname") ∷ Character (byte "*") ∷ [])
+    → AllByRecursion (λ p. IsTrue (test p)) added_pieces
     → EachInTable (λ p. IsTrue (test p)) table
     → EachPiece (λ p. IsTrue (test p)) l
     → Expands table uses room l m

@@ -12,24 +12,26 @@ pub data Part : Type 0 where
 
 -- what arguments a macro takes, and what replaces it
 pub record Macro : Type 0 where
-  -- the default of its first argument, if that one can be left out
+  -- what replaces it if a star follows, where that is something else: it takes no star otherwise
+  pub starred : Option (List Part)
+  -- the default of its first argument, if that one can be left out. With a star, there is no such argument.
   pub default : Option (List Part)
   -- how many other arguments it takes
   pub arity : ℕ
   pub body : List Part
 
--- a macro of its three parts
-abbrev pub macro_of_parts : Option (List Part) → ℕ → List Part → Macro
-macro_of_parts default arity body = record { default = default; arity = arity; body = body }
+-- a macro of its four parts
+abbrev pub macro_of_parts : Option (List Part) → Option (List Part) → ℕ → List Part → Macro
+macro_of_parts starred default arity body = record { starred = starred; default = default; arity = arity; body = body }
 
--- a macro of which no argument can be left out
+-- a macro of which no argument can be left out, and which takes no star
 abbrev pub macro : ℕ → List Part → Macro
-macro arity body = macro_of_parts None arity body
+macro arity body = macro_of_parts None None arity body
 
 -- a macro of this many arguments, the first of which can be left out if it has a default
 abbrev pub macro_with_default : Option (List Part) → ℕ → List Part → Macro
 macro_with_default None n body = macro n body
-macro_with_default (Some default) n body = macro_of_parts (Some default) (n - 1) body
+macro_with_default (Some default) n body = macro_of_parts None (Some default) (n - 1) body
 
 -- the macros that hold: what each name means, where it is the name of one. A name is its bytes, without the backslash.
 abbrev pub Table : Type 0

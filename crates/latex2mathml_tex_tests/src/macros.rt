@@ -37,7 +37,7 @@ fn expect_drawn_as(
 }
 
 /// Definitions, a formula that uses them, and one that is drawn like it.
-static USES: [(&str, &str, &str); 5] = [
+static USES: [(&str, &str, &str); 7] = [
     ("\\newcommand{\\R}{\\mathbb{R}}", "\\R^2", "\\mathbb{R}^2"),
     (
         "\\def\\norm#1{\\lVert #1\\rVert}",
@@ -49,6 +49,16 @@ static USES: [(&str, &str, &str); 5] = [
         "\\DeclareMathOperator*{\\argmax}{arg\\,max}",
         "\\argmax_x",
         "\\operatorname*{arg\\,max}_x",
+    ),
+    (
+        "\\DeclarePairedDelimiter{\\norm}{\\lVert}{\\rVert}",
+        "\\norm{x}+\\norm[\\big]{y}",
+        "\\lVert x\\rVert+\\mathopen{\\big\\lVert}y\\mathclose{\\big\\rVert}",
+    ),
+    (
+        "\\DeclarePairedDelimiter\\p()",
+        "f\\p*{\\frac ab}",
+        "f\\mathopen{}\\mathclose{\\left(\\frac ab\\right)}",
     ),
     (
         "% none\n",

@@ -3,6 +3,7 @@ pub mod Bodies
 pub mod Bracing
 pub mod DefinedTables
 pub mod DefinitionTexts
+pub mod Forms
 pub mod Grouping
 pub mod Hexadecimal
 pub mod Letters

@@ -38,6 +38,7 @@ defined_anew word.ProvideCommand d t h name = absurd (h refl)
 defined_anew word.NewCommand d t h name = refl
 defined_anew word.Def d t h name = refl
 defined_anew word.DeclareOperator d t h name = refl
+defined_anew word.DeclareDelimiters d t h name = refl
 
 pub left_there : (d : Definition) (found : Option Macro) (t : Table) → is_some found ≡ true → (name : List ℕ) → t name ≡ provided d found t name
 left_there d (Some m) t e name = refl

@@ -1,5 +1,5 @@
 -- The bodies of macros, and macros.
-use Rattle.std.specs.Prelude.{ℕ, List, map, option_map, Vec}
+use Rattle.std.specs.Prelude.{ℕ, List, Option, Some, None, map, option_map, Vec}
 use Rattle.std.specs.Global.{Global}
 use Rattle.latex2mathml_tex_grammar.specs.Macros as macros
 use Rattle.latex2mathml_tex_units.specs.{Taking.piece_of, declared.macros.part.Macro.Macro, declared.macros.part.Part.Part, declared.macros.usual.Usual.Usual}
@@ -13,7 +13,12 @@ abbrev pub parts_in : Vec Part Global → List macros.Part
 parts_in v = map part_of v.items
 
 abbrev pub macro_of : Macro → macros.Macro
-macro_of m = macros.macro_of_parts (option_map parts_in m.default) m.arity (parts_in m.body)
+macro_of m = macros.macro_of_parts (option_map parts_in m.starred) (option_map parts_in m.default) m.arity (parts_in m.body)
+
+-- the macro that is used, where this body was found for a star
+abbrev pub form_in : Macro → Option (List Part) → macros.Macro
+form_in m (Some body) = macros.macro m.arity (map part_of body)
+form_in m None = macro_of m
 
 -- an entry of the table of usual macros
 abbrev pub entry_of : Usual → List ℕ × ℕ × List ℕ

@@ -7,7 +7,7 @@ abbrev pub turns_up_to_l : ℕ → ℕ → ℕ → Bool
 turns_up_to_l first second len =
     if first == byte "B" then (if second == byte "b" then len == 4 else if second == byte "r" then len == 3 else false)
     else if first == byte "C" then second == byte "o" && (len == 7 || len == 8 || len == 11)
-    else if first == byte "D" then second == byte "e" && len == 19
+    else if first == byte "D" then second == byte "e" && (len == 19 || len == 22)
     else if first == byte "E" then second == byte "q" && (len == 7 || len == 8)
     else if first == byte "H" then second == byte "u" && len == 4
     else if first == byte "K" || first == byte "T" then second == byte "e" && len == 3

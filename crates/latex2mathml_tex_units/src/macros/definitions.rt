@@ -1,6 +1,6 @@
 //! Definitions of macros.
 ghost use Rattle.std.specs.Prelude.{◌≡◌, map, option_map};
-ghost use Rattle.latex2mathml_tex_grammar.specs.Definitions.{are_space, body, body_in_braces, command_definition, default_of, definition_of, is_delimited, name_in, name_of, number_of, operator_definition, parameters, plain_definition, word_named};
+ghost use Rattle.latex2mathml_tex_grammar.specs.Definitions.{are_space, body, body_in_braces, command_definition, default_of, definition_of, delimiters_definition, is_delimited, name_in, name_of, number_of, operator_definition, parameters, plain_definition, word_named};
 ghost use Rattle.latex2mathml_tex_units.specs.{Bodies.parts_in, Defined.definition_in, Defined.word_of, Pending.Reads, Pending.pending_units, Taking.unit_of};
 
 use crate::macros::halt::Halt;
@@ -18,8 +18,10 @@ pub(crate) enum Word {
     ProvideCommand,
     /// `\def` and `\gdef`.
     Def,
-    /// `\DeclareMathOperator`
+    /// `\DeclareMathOperator`.
     DeclareOperator,
+    /// `\DeclarePairedDelimiter`.
+    DeclareDelimiters,
 }
 
 /// Returns the word with this name.
@@ -34,6 +36,8 @@ pub(crate) fn word_named(name: &str) -> Option<Word>
         Some(Word::Def)
     } else if name == "DeclareMathOperator" {
         Some(Word::DeclareOperator)
+    } else if name == "DeclarePairedDelimiter" {
+        Some(Word::DeclareDelimiters)
     } else {
         None
     }
@@ -237,6 +241,21 @@ impl<'a> Pending<'a> {
         })
     }
 
+    /// Takes what follows `\DeclarePairedDelimiter`.
+    fn take_delimiters_definition(
+        &mut self,
+        alloc: Global,
+        place: usize,
+    ) -> Result<Definition<'a>, Halt>
+        ensures { Reads result definition_in (delimiters_definition place) self.old self.new }
+    {
+        let name = self.take_name(alloc, place)?;
+        let left = self.take_body(alloc, place, 0)?;
+        let right = self.take_body(alloc, place, 0)?;
+        let stands_for = Macro::of_delimiters(alloc, &left, &right)?;
+        Ok(Definition { name, stands_for })
+    }
+
     /// Takes the definition that follows a word at this place.
     pub(crate) fn take_definition(
         &mut self,
@@ -251,6 +270,7 @@ impl<'a> Pending<'a> {
             Word::NewCommand | Word::ProvideCommand => self.take_command_definition(alloc, place),
             Word::Def => self.take_plain_definition(alloc, place),
             Word::DeclareOperator => self.take_operator_definition(alloc, place),
+            Word::DeclareDelimiters => self.take_delimiters_definition(alloc, place),
         }
     }
 }

@@ -1,6 +1,6 @@
 //! The bodies of macros.
 ghost use Rattle.std.specs.Prelude.{◌≡◌, IfOk, map, option_map};
-ghost use Rattle.latex2mathml_tex_grammar.specs.Definitions.{digit_of, is_character, operator_parts, parameter_part, parts_of};
+ghost use Rattle.latex2mathml_tex_grammar.specs.Definitions.{delimiters_macro, digit_of, enclosed_parts, is_character, operator_parts, parameter_part, parts_of, stretched_parts};
 ghost use Rattle.latex2mathml_tex_grammar.specs.Macros.{macro_with_default};
 ghost use Rattle.latex2mathml_tex_units.specs.{Bodies.macro_of, Bodies.part_of, Bodies.parts_in, Taking.piece_of, Taking.unit_of};
 
@@ -19,7 +19,9 @@ pub(crate) enum Part<'a> {
 /// What arguments a macro takes, and what replaces it.
 #[derive(Drop)]
 pub(crate) struct Macro<'a> {
-    /// The default of the first argument, if that one can be left out.
+    /// What replaces it if a star follows, where that is something else.
+    pub(crate) starred: Option<Vec<Part<'a>>>,
+    /// The default of the first argument, if that one can be left out. With a star, there is no such argument.
     pub(crate) default: Option<Vec<Part<'a>>>,
     /// How many other arguments it takes.
     pub(crate) arity: usize,
@@ -41,10 +43,29 @@ impl<'a> Macro<'a> {
             None => count,
         };
         Macro {
+            starred: None,
             default,
             arity,
             body,
         }
+    }
+
+    /// Creates a macro for what is between two delimiters. With a star they stretch, and otherwise the first argument, which can
+    /// be left out, says their size.
+    pub(crate) fn of_delimiters(
+        alloc: Global,
+        left: &[Part<'a>],
+        right: &[Part<'a>],
+    ) -> Result<Macro<'a>, AllocError>
+        ensures { IfOk result (λ m. macro_of m
+            ≡ delimiters_macro (map part_of left.now) (map part_of right.now)) }
+    {
+        Ok(Macro {
+            starred: Some(stretched_parts(alloc, left, right)?),
+            default: Some(Vec::new(alloc)),
+            arity: 1,
+            body: enclosed_parts(alloc, left, right)?,
+        })
     }
 }
 
@@ -130,6 +151,52 @@ pub(crate) fn operator_parts<'a>(
         parts.extend_from_slice(&[command, Part::Fixed(Piece::Open)])?;
     }
     parts.extend_from_slice(name)?;
+    parts.push(Part::Fixed(Piece::Close))?;
+    Ok(parts)
+}
+
+/// Returns the body of a macro for what is between two delimiters, whose size the first argument says.
+fn enclosed_parts<'a>(
+    alloc: Global,
+    left: &[Part<'a>],
+    right: &[Part<'a>],
+) -> Result<Vec<Part<'a>>, AllocError>
+    ensures { IfOk result (λ parts.
+        parts_in parts ≡ enclosed_parts (map part_of left.now) (map part_of right.now)) }
+{
+    let mut parts = Vec::new(alloc);
+    let size = [Part::Fixed(Piece::Open), Part::Argument(0)];
+    parts.push(Part::Fixed(Piece::Command("mathopen")))?;
+    parts.extend_from_slice(&size)?;
+    parts.extend_from_slice(left)?;
+    parts.extend_from_slice(&[Part::Fixed(Piece::Close), Part::Argument(1)])?;
+    parts.push(Part::Fixed(Piece::Command("mathclose")))?;
+    parts.extend_from_slice(&size)?;
+    parts.extend_from_slice(right)?;
+    parts.push(Part::Fixed(Piece::Close))?;
+    Ok(parts)
+}
+
+/// Returns the body of a macro for what is between two delimiters that stretch. As a whole, it has the space of an opening and of a
+/// closing delimiter.
+fn stretched_parts<'a>(
+    alloc: Global,
+    left: &[Part<'a>],
+    right: &[Part<'a>],
+) -> Result<Vec<Part<'a>>, AllocError>
+    ensures { IfOk result (λ parts.
+        parts_in parts ≡ stretched_parts (map part_of left.now) (map part_of right.now)) }
+{
+    let mut parts = Vec::new(alloc);
+    parts.push(Part::Fixed(Piece::Command("mathopen")))?;
+    parts.extend_from_slice(&[Part::Fixed(Piece::Open), Part::Fixed(Piece::Close)])?;
+    parts.push(Part::Fixed(Piece::Command("mathclose")))?;
+    parts.push(Part::Fixed(Piece::Open))?;
+    parts.push(Part::Fixed(Piece::Command("left")))?;
+    parts.extend_from_slice(left)?;
+    parts.push(Part::Argument(0))?;
+    parts.push(Part::Fixed(Piece::Command("right")))?;
+    parts.extend_from_slice(right)?;
     parts.push(Part::Fixed(Piece::Close))?;
     Ok(parts)
 }

@@ -1,9 +1,9 @@
 //! What replaces macros.
-ghost use Rattle.std.specs.Prelude.{OnOk, [], map};
-ghost use Rattle.latex2mathml_tex_grammar.specs.{Expansion.used, Macros.Table, Macros.argument_at, Macros.put, Macros.put_part};
+ghost use Rattle.std.specs.Prelude.{◌≡◌, ℕ, OnOk, [], map, option_map};
+ghost use Rattle.latex2mathml_tex_grammar.specs.{Expansion.form_of, Expansion.replaced, Expansion.used, Macros.Table, Macros.argument_at, Macros.put, Macros.put_part};
 ghost use Rattle.latex2mathml_tex_grammar.specs.Units as units;
 ghost use Rattle.latex2mathml_tex_units.specs.Putting.{ArePut, Puts, Replaces, body_units, part_units};
-ghost use Rattle.latex2mathml_tex_units.specs.{Bodies.macro_of, Bodies.part_of, Pending.pending_units, Pending.units_in, Taking.unit_of};
+ghost use Rattle.latex2mathml_tex_units.specs.{Bodies.form_in, Bodies.macro_of, Bodies.part_of, Pending.pending_units, Pending.units_in, Taking.unit_of};
 
 use crate::macros::arguments::Arguments;
 use crate::macros::halt::Halt;
@@ -137,6 +137,40 @@ impl<'a> Pending<'a> {
         Ok(true)
     }
 
+    /// Puts what replaces the macro at this place, which has this body and these arguments, if there is room.
+    fn put_replacement(
+        &mut self,
+        room: &mut usize,
+        body: &[Part<'a>],
+        arguments: &Arguments<'_, 'a>,
+        place: usize,
+    ) -> Result<(), Halt>
+        ensures { (table : Table) (uses : ℕ) (piece : units.Piece) → Replaces result
+            (replaced table uses room.old (units.unit piece place)
+            (body_units arguments.now place body.now) (pending_units self.old))
+            table uses room.new (pending_units self.new) }
+    {
+        if !self.put_body(room, body, arguments, place)? {
+            return Err(Halt::Refused(Fault::TooManyExpansions, place));
+        }
+        Ok(())
+    }
+
+    /// Takes a star, if the macro means something else with one, and returns what replaces it then.
+    fn take_star<'m>(&mut self, found: &'m Macro<'a>) -> Option<&'m [Part<'a>]>
+        ensures { (form_in found.now (option_map (λ body. body.now) result), pending_units self.new)
+            ≡ form_of (macro_of found.now) (pending_units self.old) }
+    {
+        let Some(starred) = &found.starred else {
+            return None;
+        };
+        if self.take_sign('*') {
+            Some(starred)
+        } else {
+            None
+        }
+    }
+
     /// Puts what replaces a macro that is used at this place, if `uses`, the number of uses that are left, allows it.
     pub(crate) fn replace(
         &mut self,
@@ -155,10 +189,15 @@ impl<'a> Pending<'a> {
             return Err(Halt::Refused(Fault::TooManyExpansions, place));
         }
         *uses -= 1;
-        let arguments = self.take_macro_arguments(alloc, found, place)?;
-        if !self.put_body(room, &found.body, &arguments, place)? {
-            return Err(Halt::Refused(Fault::TooManyExpansions, place));
-        }
-        Ok(())
+        let Some(starred) = self.take_star(found) else {
+            let arguments = self.take_macro_arguments(alloc, found, place)?;
+            return self.put_replacement(room, &found.body, &arguments, place);
+        };
+        let given = self.take_arguments(alloc, place, found.arity)?;
+        let arguments = Arguments {
+            default: None,
+            given,
+        };
+        self.put_replacement(room, starred, &arguments, place)
     }
 }

@@ -183,7 +183,7 @@ fn turns_up_to_l(first: u8, second: u8, len: usize) -> bool
             _ => false,
         },
         b'C' => second == b'o' && matches!(len, 7 | 8 | 11),
-        b'D' => second == b'e' && len == 19,
+        b'D' => second == b'e' && matches!(len, 19 | 22),
         b'E' => second == b'q' && matches!(len, 7 | 8),
         b'H' => second == b'u' && len == 4,
         b'K' | b'T' => second == b'e' && len == 3,

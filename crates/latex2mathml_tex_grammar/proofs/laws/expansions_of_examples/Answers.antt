@@ -6,8 +6,10 @@ use Rattle.latex2mathml_tex_grammar.proofs.laws.expansions_of_examples.Goals as 
 pub returns : goal.returns
 unfolding units_of units_within encode parameters expansion expansion_within usual_entries usual_macros
 returns c = record {
-  defined = is_expanded usual_macros 4 10 _;
-  again = is_expanded usual_macros 4 10 _;
-  endless = is_expanded usual_macros 4 10 _;
-  lacking = is_expanded usual_macros 4 10 _;
+  defined = is_expanded usual_macros 4 12 _;
+  again = is_expanded usual_macros 4 12 _;
+  endless = is_expanded usual_macros 4 12 _;
+  lacking = is_expanded usual_macros 4 12 _;
+  starred = is_expanded usual_macros 4 12 _;
+  unstarred = is_expanded usual_macros 4 12 _;
 }
