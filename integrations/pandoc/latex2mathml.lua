@@ -24,7 +24,7 @@ end
 local RAW_TEX = re.compile([=[
   parts       <- {| (definition / environment / reference / command / group / comment / [^{])* |}
   definition  <- {| {:kind: '' -> 'definition' :} {:text: { (new / def / operator / pair) } :} |}
-  new         <- '\' ('newcommand' / 'renewcommand' / 'providecommand') end_of_word '*'? space name space option* group
+  new         <- '\' ('newcommand' / 'renewcommand' / 'providecommand' / 'DeclareRobustCommand') end_of_word '*'? space name space option* group
   def         <- '\def' end_of_word space command [^{\]* group
   operator    <- '\DeclareMathOperator' end_of_word '*'? space name space group
   pair        <- '\DeclarePairedDelimiter' end_of_word space name space delimiter space delimiter

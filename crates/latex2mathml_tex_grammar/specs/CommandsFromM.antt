@@ -58,6 +58,7 @@ commands_from_m =
     (codes "middle", Middle) ∷
     (codes "min", FunctionName ByStyle (codes "min")) ∷
     (codes "minuscolon", Shows (Sign Relation 0x2239)) ∷  -- ∹
+    (codes "minuso", Shows (Sign Binary 0x29B5)) ∷  -- ⦵
     (codes "mit", Changes (ToAlphabet Italic)) ∷
     (codes "mkern", Skip) ∷
     (codes "models", Shows (Sign Relation 0x22A8)) ∷  -- ⊨

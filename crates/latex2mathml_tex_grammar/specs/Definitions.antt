@@ -12,7 +12,7 @@ use Rattle.latex2mathml_tex_grammar.specs.Units.{Piece, Open, Close, Command, Ch
 
 -- the words that define
 pub data Word : Type 0 where
-  -- `\newcommand` and `\renewcommand`. Either redefines a name that already means a macro.
+  -- `\newcommand`, `\renewcommand` and `\DeclareRobustCommand`. Each redefines a name that already means a macro.
   NewCommand : Word
   -- `\providecommand`, which leaves such a name as it is
   ProvideCommand : Word
@@ -28,6 +28,7 @@ abbrev pub word_named : List ℕ → Option Word
 word_named name =
     if bytes_eq name (codes "newcommand") then Some NewCommand
     else if bytes_eq name (codes "renewcommand") then Some NewCommand
+    else if bytes_eq name (codes "DeclareRobustCommand") then Some NewCommand
     else if bytes_eq name (codes "providecommand") then Some ProvideCommand
     else if bytes_eq name (codes "def") then Some Def
     else if bytes_eq name (codes "gdef") then Some Def

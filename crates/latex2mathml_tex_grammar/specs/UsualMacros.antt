@@ -32,7 +32,9 @@ usual_entries =
     (codes "allowdisplaybreaks", 0, codes "") ∷
     (codes "approxcolon", 0, codes "\\mathrel{\\approx:}") ∷
     (codes "approxcoloncolon", 0, codes "\\mathrel{\\approx::}") ∷
+    (codes "begingroup", 0, codes "{") ∷
     (codes "bfseries", 0, codes "\\bf") ∷
+    (codes "bgroup", 0, codes "{") ∷
     (codes "bmod", 0, codes "\\mskip5mu\\mathbin{\\operatorname{mod}}\\mskip5mu") ∷
     (codes "bra", 1, codes "\\langle #1|") ∷
     (codes "braket", 1, codes "\\langle #1\\rangle") ∷
@@ -58,7 +60,9 @@ usual_entries =
     (codes "dotsm", 0, codes "\\cdots") ∷
     (codes "dotso", 0, codes "\\ldots") ∷
     (codes "dotsx", 0, codes "\\ldots\\,") ∷
+    (codes "egroup", 0, codes "}") ∷
     (codes "em", 0, codes "\\it") ∷
+    (codes "endgroup", 0, codes "}") ∷
     (codes "ensuremath", 1, codes "#1") ∷
     (codes "eqalign", 1, codes "\\begin{aligned}#1\\end{aligned}") ∷
     (codes "eqno", 0, codes "\\qquad\\textstyle") ∷

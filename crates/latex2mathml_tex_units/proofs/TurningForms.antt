@@ -45,7 +45,7 @@ apart name word none may = elim (cases_Bool (bytes_eq name word)) [
 
 pub no_word : (name : List ℕ) → may_turn name ≡ false → word_named name ≡ None
 no_word name none =
-    rw (apart name (codes "newcommand") none refl, apart name (codes "renewcommand") none refl, apart name (codes "providecommand") none refl, apart name (codes "def") none refl, apart name (codes "gdef") none refl, apart name (codes "DeclareMathOperator") none refl, apart name (codes "DeclarePairedDelimiter") none refl) refl
+    rw (apart name (codes "newcommand") none refl, apart name (codes "renewcommand") none refl, apart name (codes "DeclareRobustCommand") none refl, apart name (codes "providecommand") none refl, apart name (codes "def") none refl, apart name (codes "gdef") none refl, apart name (codes "DeclareMathOperator") none refl, apart name (codes "DeclarePairedDelimiter") none refl) refl
 
 -- Names by their length
 

@@ -7,16 +7,16 @@ abbrev pub turns_up_to_l : ℕ → ℕ → ℕ → Bool
 turns_up_to_l first second len =
     if first == byte "B" then (if second == byte "b" then len == 4 else if second == byte "r" then len == 3 else false)
     else if first == byte "C" then second == byte "o" && (len == 7 || len == 8 || len == 11)
-    else if first == byte "D" then second == byte "e" && (len == 19 || len == 22)
+    else if first == byte "D" then second == byte "e" && (len == 19 || len == 20 || len == 22)
     else if first == byte "E" then second == byte "q" && (len == 7 || len == 8)
     else if first == byte "H" then second == byte "u" && len == 4
     else if first == byte "K" || first == byte "T" then second == byte "e" && len == 3
     else if first == byte "L" then (second == byte "A" || second == byte "a") && len == 5
     else if first == byte "a" then (if second == byte "d" then len == 12 else if second == byte "l" then len == 10 || len == 18 else if second == byte "p" then len == 11 || len == 16 else false)
-    else if first == byte "b" then (if second == byte "f" then len == 8 else if second == byte "m" then len == 4 else if second == byte "r" then len == 3 || len == 6 else false)
+    else if first == byte "b" then (if second == byte "e" then len == 10 else if second == byte "f" then len == 8 else if second == byte "g" then len == 6 else if second == byte "m" then len == 4 else if second == byte "r" then len == 3 || len == 6 else false)
     else if first == byte "c" then (if second == byte "e" then len == 7 || len == 9 else if second == byte "l" then len == 4 else if second == byte "o" then len == 5 || len == 7 || len == 8 || len == 10 || len == 11 || len == 13 || len == 15 || len == 16 else false)
     else if first == byte "d" then (if second == byte "e" then len == 3 else if second == byte "i" then len == 12 else if second == byte "o" then len == 5 else false)
-    else if first == byte "e" then (if second == byte "m" then len == 2 else if second == byte "n" then len == 10 else if second == byte "q" then len == 4 || len == 7 || len == 16 else false)
+    else if first == byte "e" then (if second == byte "g" then len == 6 else if second == byte "m" then len == 2 else if second == byte "n" then len == 8 || len == 10 else if second == byte "q" then len == 4 || len == 7 || len == 16 else false)
     else if first == byte "f" then (if second == byte "b" then len == 4 else if second == byte "o" then len == 12 else false)
     else if first == byte "g" then (if second == byte "d" then len == 4 else if second == byte "l" then len == 6 else false)
     else if first == byte "h" then (if second == byte "d" then len == 5 else if second == byte "f" then len == 4 || len == 5 else if second == byte "u" then len == 4 else false)

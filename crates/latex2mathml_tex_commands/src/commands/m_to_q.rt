@@ -18,7 +18,7 @@ pub(crate) fn letter_m() -> &'static [Entry]
 }
 
 #[rattlefmt::skip]
-static LETTER_M: [Entry; 57] = [
+static LETTER_M: [Entry; 58] = [
     Entry { name: "maltese", key: 0x6d616c7465736500, meaning: Meaning::Shows(Symbol::Sign(Class::Ordinary, '✠')) },
     Entry { name: "mapsto", key: 0x6d617073746f0000, meaning: Meaning::Shows(Symbol::Sign(Class::Relation, '↦')) },
     Entry { name: "mars", key: 0x6d61727300000000, meaning: Meaning::Shows(Symbol::Sign(Class::Ordinary, '♂')) },
@@ -68,6 +68,7 @@ static LETTER_M: [Entry; 57] = [
     Entry { name: "middle", key: 0x6d6964646c650000, meaning: Meaning::Middle },
     Entry { name: "min", key: 0x6d696e0000000000, meaning: Meaning::FunctionName(LimitPlace::ByStyle, "min") },
     Entry { name: "minuscolon", key: 0x6d696e7573636f6c, meaning: Meaning::Shows(Symbol::Sign(Class::Relation, '∹')) },
+    Entry { name: "minuso", key: 0x6d696e75736f0000, meaning: Meaning::Shows(Symbol::Sign(Class::Binary, '⦵')) },
     Entry { name: "mit", key: 0x6d69740000000000, meaning: Meaning::Changes(Change::ToAlphabet(Alphabet::Italic)) },
     Entry { name: "mkern", key: 0x6d6b65726e000000, meaning: Meaning::Skip },
     Entry { name: "models", key: 0x6d6f64656c730000, meaning: Meaning::Shows(Symbol::Sign(Class::Relation, '⊨')) },

@@ -12,7 +12,7 @@ use std::alloc::Global;
 /// The words that begin definitions.
 #[derive(Clone, Copy)]
 pub(crate) enum Word {
-    /// `\newcommand` and `\renewcommand`.
+    /// `\newcommand`, `\renewcommand` and `\DeclareRobustCommand`.
     NewCommand,
     /// `\providecommand`, which keeps a macro that exists.
     ProvideCommand,
@@ -28,7 +28,7 @@ pub(crate) enum Word {
 pub(crate) fn word_named(name: &str) -> Option<Word>
     ensures { option_map word_of result ≡ word_named name.now }
 {
-    if name == "newcommand" || name == "renewcommand" {
+    if name == "newcommand" || name == "renewcommand" || name == "DeclareRobustCommand" {
         Some(Word::NewCommand)
     } else if name == "providecommand" {
         Some(Word::ProvideCommand)

@@ -33,8 +33,8 @@ impl<'a> Macros<'a> {
     /// Returns the usual macros, and those of a text of definitions. A definition replaces
     /// what its name meant before, except that `\providecommand` keeps it.
     ///
-    /// The text consists of `\newcommand`, `\renewcommand`, `\providecommand`, `\def`, `\gdef`, `\DeclareMathOperator` and
-    /// `\DeclarePairedDelimiter`, each with what it defines, and of white space, comments, `\global` and `\long`.
+    /// The text consists of `\newcommand`, `\renewcommand`, `\providecommand`, `\DeclareRobustCommand`, `\def`, `\gdef`,
+    /// `\DeclareMathOperator` and `\DeclarePairedDelimiter`, each with what it defines, and of white space, comments, `\global` and `\long`.
     ///
     /// `\newcommand{\R}{\mathbb{R}} \def\norm#1{\lVert #1 \rVert}` defines two macros.
     ///

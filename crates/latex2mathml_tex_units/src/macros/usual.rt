@@ -30,7 +30,7 @@ fn entries() -> &'static [Usual]
 
 /// An entry for each macro, in the order of their names' bytes.
 #[rattlefmt::skip]
-static ENTRIES: [Usual; 147] = [
+static ENTRIES: [Usual; 151] = [
     Usual { name: "(", arity: 0, body: "$" },
     Usual { name: ")", arity: 0, body: "$" },
     Usual { name: "*", arity: 0, body: "" },
@@ -55,7 +55,9 @@ static ENTRIES: [Usual; 147] = [
     Usual { name: "allowdisplaybreaks", arity: 0, body: "" },
     Usual { name: "approxcolon", arity: 0, body: "\\mathrel{\\approx:}" },
     Usual { name: "approxcoloncolon", arity: 0, body: "\\mathrel{\\approx::}" },
+    Usual { name: "begingroup", arity: 0, body: "{" },
     Usual { name: "bfseries", arity: 0, body: "\\bf" },
+    Usual { name: "bgroup", arity: 0, body: "{" },
     Usual { name: "bmod", arity: 0, body: "\\mskip5mu\\mathbin{\\operatorname{mod}}\\mskip5mu" },
     Usual { name: "bra", arity: 1, body: "\\langle #1|" },
     Usual { name: "braket", arity: 1, body: "\\langle #1\\rangle" },
@@ -81,7 +83,9 @@ static ENTRIES: [Usual; 147] = [
     Usual { name: "dotsm", arity: 0, body: "\\cdots" },
     Usual { name: "dotso", arity: 0, body: "\\ldots" },
     Usual { name: "dotsx", arity: 0, body: "\\ldots\\," },
+    Usual { name: "egroup", arity: 0, body: "}" },
     Usual { name: "em", arity: 0, body: "\\it" },
+    Usual { name: "endgroup", arity: 0, body: "}" },
     Usual { name: "ensuremath", arity: 1, body: "#1" },
     Usual { name: "eqalign", arity: 1, body: "\\begin{aligned}#1\\end{aligned}" },
     Usual { name: "eqno", arity: 0, body: "\\qquad\\textstyle" },
