@@ -1,5 +1,7 @@
-"""Formulas that people wrote: those in the documentation of Python packages, as Sphinx passes them on."""
+"""Formulas that people wrote: those in the documentation of Python packages, as Sphinx passes them on, and those in pages of HTML."""
 import ast
+import html.parser
+import itertools
 import re
 import textwrap
 import warnings
@@ -8,11 +10,15 @@ from pathlib import Path
 ROLE = re.compile(r":math:`([^`]+)`")
 DIRECTIVE = re.compile(r"^([ \t]*)\.\. math::(.*)$", re.M)
 OPTION = re.compile(r"^:[a-z]+:")
+DELIMITED = re.compile(r"\\\((.+?)\\\)|\\\[(.+?)\\\]", re.S)
 
 
 def formulas(folder):
-    """Returns each formula of the Python files under a folder once, and whether it is a block, in the order of the files."""
-    return list(dict.fromkeys(it for file in sorted(Path(folder).rglob("*.py")) for text in texts(file) for it in formulas_of(text)))
+    """Returns each formula of the Python files and the pages under a folder once, and whether it is a block, in the order of the files,
+    those of pages last."""
+    of_python = (it for file in sorted(Path(folder).rglob("*.py")) for text in texts(file) for it in formulas_of(text))
+    of_pages = (it for file in sorted(Path(folder).rglob("*.html")) for it in formulas_of_page(file))
+    return list(dict.fromkeys(itertools.chain(of_python, of_pages)))
 
 
 def texts(file):
@@ -50,3 +56,33 @@ def blocks(first, rest, indent):
     for part in re.split(r"\n\s*\n", f"{lines[0]}\n{body}" if lines[0] else body):
         if part.strip():
             yield rf"\begin{{split}}{part.strip()}\end{{split}}" if r"\\" in part and r"\begin" not in part else part.strip()
+
+
+class Page(html.parser.HTMLParser):
+    """The text of a page. A picture of a formula, as Doxygen makes it, is its formula."""
+
+    def __init__(self):
+        super().__init__()
+        self.parts, self.is_code = [], False
+
+    def handle_starttag(self, tag, attributes):
+        attributes = dict(attributes)
+        if tag == "img" and (attributes.get("class") or "").startswith("formula"):
+            self.parts.append(re.sub(r"^\$(.*)\$$", r"\\(\1\\)", attributes.get("alt") or "", flags=re.S))
+        self.is_code = self.is_code or tag in {"code", "pre", "script", "style"}
+
+    def handle_endtag(self, tag):
+        self.is_code = self.is_code and tag not in {"code", "pre", "script", "style"}
+
+    def handle_data(self, data):
+        if not self.is_code:
+            self.parts.append(data)
+
+
+def formulas_of_page(file):
+    """Yields the formulas that MathJax would find in a page."""
+    page = Page()
+    page.feed(file.read_text(encoding="utf-8", errors="replace"))
+    for found in DELIMITED.finditer("".join(page.parts)):
+        if formula := (found[1] or found[2]).strip():
+            yield formula, found[1] is None

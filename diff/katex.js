@@ -8,9 +8,9 @@ process.stdin.on('end', () => {
     try {
       const markup = katex.renderToString(formula, { displayMode, output: 'mathml', strict: 'ignore' });
       return markup.slice(markup.indexOf('<math'), markup.lastIndexOf('</math>') + '</math>'.length);
-    } catch (error) {
-      if (error instanceof katex.ParseError) return null;
-      throw error;
+    } catch {
+      // a refusal, or a mistake of KaTeX's own: at the end of a definition it looks for a token that is not there
+      return null;
     }
   });
   process.stdout.write(JSON.stringify(answers));

@@ -1,7 +1,7 @@
 -- Dots: in the middle of the line before an operator or a relation, as in `a + \dots + b`, otherwise on the line.
 use Rattle.std.specs.Prelude.{Bool, true, false, Option, Some, None}
 use Rattle.latex2mathml_tex_grammar.specs.{Commands.meaning_of, Commands.symbol_of}
-use Rattle.latex2mathml_tex_grammar.specs.Meaning.{Meaning, Shows, StackedRelation, Negation, Classed}
+use Rattle.latex2mathml_tex_grammar.specs.Meaning.{Meaning, Shows, StackedRelation, Negation, Arrow, Classed}
 use Rattle.latex2mathml_tex_grammar.specs.Symbols.{Class, Binary, Relation, Inner, Symbol, Sign, BigOperator, Integral}
 use Rattle.latex2mathml_tex_grammar.specs.Units.{Piece, Character, Command}
 
@@ -31,6 +31,7 @@ abbrev pub meaning_centers : Meaning → Bool
 meaning_centers (Shows symbol) = symbol_centers symbol
 meaning_centers StackedRelation = true
 meaning_centers Negation = true
+meaning_centers (Arrow c) = true
 meaning_centers (Classed class) = class_centers class
 meaning_centers meaning = false
 

@@ -37,7 +37,7 @@ fn meaning_centers(meaning: Meaning) -> bool
     match meaning {
         Meaning::Shows(symbol) => symbol_centers(symbol),
         Meaning::Classed(class) => class_centers(class),
-        Meaning::StackedRelation | Meaning::Negation => true,
+        Meaning::StackedRelation | Meaning::Negation | Meaning::Arrow(_) => true,
         _ => false,
     }
 }
