@@ -38,6 +38,7 @@ usual_entries =
     (codes "bmod", 0, codes "\\mskip5mu\\mathbin{\\operatorname{mod}}\\mskip5mu") ∷
     (codes "bra", 1, codes "\\langle #1|") ∷
     (codes "braket", 1, codes "\\langle #1\\rangle") ∷
+    (codes "cancelto", 2, codes "{\\cancel{#2}^{#1}}") ∷
     (codes "celsius", 0, codes "\\text{\\textdegree C}") ∷
     (codes "centering", 0, codes "") ∷
     (codes "centernot", 0, codes "\\not") ∷
@@ -106,6 +107,7 @@ usual_entries =
     (codes "notag", 0, codes "") ∷
     (codes "null", 0, codes "{}") ∷
     (codes "operatornamewithlimits", 0, codes "\\operatorname*") ∷
+    (codes "overunderset", 3, codes "\\overset{#1}{\\underset{#2}{#3}}") ∷
     (codes "pmatrix", 1, codes "\\begin{pmatrix}#1\\end{pmatrix}") ∷
     (codes "pmod", 1, codes "\\pod{\\mathrm{mod}\\mkern6mu#1}") ∷
     (codes "pod", 1, codes "\\mathchoice{\\mkern18mu}{\\mkern8mu}{\\mkern8mu}{\\mkern8mu}(#1)") ∷
@@ -158,6 +160,7 @@ usual_entries =
     (codes "varlimsup", 0, codes "\\operatorname*{\\overline{\\mathrm{lim}}}") ∷
     (codes "varprojlim", 0, codes "\\operatorname*{\\underleftarrow{\\mathrm{lim}}}") ∷
     (codes "vcenter", 1, codes "{#1}") ∷
+    (codes "vv", 1, codes "\\overrightarrow{#1}") ∷
     (codes "xspace", 0, codes "") ∷
     []
 

@@ -203,6 +203,7 @@ fn turns_up_to_l(first: u8, second: u8, len: usize) -> bool
             _ => false,
         },
         b'c' => match second {
+            b'a' => len == 8,
             b'e' => matches!(len, 7 | 9),
             b'l' => len == 4,
             b'o' => matches!(len, 5 | 7 | 8 | 10 | 11 | 13 | 15 | 16),
@@ -277,7 +278,11 @@ fn turns_from_m(first: u8, second: u8, len: usize) -> bool
             b'u' => len == 4,
             _ => false,
         },
-        b'o' => second == b'p' && len == 22,
+        b'o' => match second {
+            b'p' => len == 22,
+            b'v' => len == 12,
+            _ => false,
+        },
         b'p' => match second {
             b'm' => matches!(len, 4 | 7),
             b'o' => len == 3,
@@ -318,6 +323,7 @@ fn turns_from_m(first: u8, second: u8, len: usize) -> bool
         b'v' => match second {
             b'a' => matches!(len, 5 | 6 | 8 | 9 | 10),
             b'c' => len == 7,
+            b'v' => len == 2,
             _ => false,
         },
         b'x' => second == b's' && len == 6,

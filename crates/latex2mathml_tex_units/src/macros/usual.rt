@@ -30,7 +30,7 @@ fn entries() -> &'static [Usual]
 
 /// An entry for each macro, in the order of their names' bytes.
 #[rattlefmt::skip]
-static ENTRIES: [Usual; 151] = [
+static ENTRIES: [Usual; 154] = [
     Usual { name: "(", arity: 0, body: "$" },
     Usual { name: ")", arity: 0, body: "$" },
     Usual { name: "*", arity: 0, body: "" },
@@ -61,6 +61,7 @@ static ENTRIES: [Usual; 151] = [
     Usual { name: "bmod", arity: 0, body: "\\mskip5mu\\mathbin{\\operatorname{mod}}\\mskip5mu" },
     Usual { name: "bra", arity: 1, body: "\\langle #1|" },
     Usual { name: "braket", arity: 1, body: "\\langle #1\\rangle" },
+    Usual { name: "cancelto", arity: 2, body: "{\\cancel{#2}^{#1}}" },
     Usual { name: "celsius", arity: 0, body: "\\text{\\textdegree C}" },
     Usual { name: "centering", arity: 0, body: "" },
     Usual { name: "centernot", arity: 0, body: "\\not" },
@@ -129,6 +130,7 @@ static ENTRIES: [Usual; 151] = [
     Usual { name: "notag", arity: 0, body: "" },
     Usual { name: "null", arity: 0, body: "{}" },
     Usual { name: "operatornamewithlimits", arity: 0, body: "\\operatorname*" },
+    Usual { name: "overunderset", arity: 3, body: "\\overset{#1}{\\underset{#2}{#3}}" },
     Usual { name: "pmatrix", arity: 1, body: "\\begin{pmatrix}#1\\end{pmatrix}" },
     Usual { name: "pmod", arity: 1, body: "\\pod{\\mathrm{mod}\\mkern6mu#1}" },
     Usual { name: "pod", arity: 1, body: "\\mathchoice{\\mkern18mu}{\\mkern8mu}{\\mkern8mu}{\\mkern8mu}(#1)" },
@@ -181,6 +183,7 @@ static ENTRIES: [Usual; 151] = [
     Usual { name: "varlimsup", arity: 0, body: "\\operatorname*{\\overline{\\mathrm{lim}}}" },
     Usual { name: "varprojlim", arity: 0, body: "\\operatorname*{\\underleftarrow{\\mathrm{lim}}}" },
     Usual { name: "vcenter", arity: 1, body: "{#1}" },
+    Usual { name: "vv", arity: 1, body: "\\overrightarrow{#1}" },
     Usual { name: "xspace", arity: 0, body: "" },
 ];
 
