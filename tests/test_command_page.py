@@ -22,6 +22,8 @@ BELOW = "{1}x"  # an arrow is before what is above it
 FIRST_ARGUMENTS = {"\\colorbox": "red", "\\raisebox": "1em"}
 # the macros that begin and end a formula in words
 SIGNS_IN_WORDS = ["\\(", "\\)"]
+# those that are opening braces, and the closing ones
+BRACES = {"\\begingroup": "\\endgroup", "\\bgroup": "\\egroup"}
 
 
 class Page(Case):
@@ -107,11 +109,11 @@ class Read(Case):
 
     def test_macros(self):
         """With an operand after each: the body of one ends with a command that takes it."""
-        names = [f"{it.name}{{a}}" for it in listed_in("Usual macros") if it.name not in SIGNS_IN_WORDS]
+        names = [f"{it.name}{{a}}" for it in listed_in("Usual macros") if it.name not in {*SIGNS_IN_WORDS, *BRACES, *BRACES.values()}]
         arguments = [it.replace("#1", FIRST_ARGUMENTS.get(it.partition("{")[0], "a")).replace("#2", "a") for it in names]
-        # the third argument of the only macro that has one is an operator
+        # the third argument of `\sideset` is an operator, and those of others may be one
         self.are_read([it.replace("#3", r"\sum") for it in arguments])
-        self.are_read([rf"\text{{{'a'.join(SIGNS_IN_WORDS)}}}"])
+        self.are_read([rf"\text{{{'a'.join(SIGNS_IN_WORDS)}}}", *(f"{opening} a{closing}" for opening, closing in BRACES.items())])
 
     def test_environments_of_the_other_call(self):
         for name in token_commands.environments():

@@ -57,18 +57,19 @@ replaced table uses room u us l =
     if nat_lt room (length us) then Fails (refusal_at TooManyExpansions u.place)
     else Turns table uses (room - length us) (before us l)
 
--- The macro that is used, and the units after its name, and after its star if it takes one
+-- A macro that takes a star means something else with one. What is used, and the units after its name and its star
 
--- with a star, if one was found
+-- by whether a star was found, with which it has this body
 abbrev pub starred_form : Macro → List Part → Bool × Units → Macro × Units
 starred_form m body (true, l) = (macro m.arity body, l)
 starred_form m body (false, l) = (m, l)
 
--- with a star, if it means something else with one, and one comes next
+-- before these units, by its body with a star, if it takes one
 abbrev pub form_with : Macro → Option (List Part) → Units → Macro × Units
 form_with m (Some body) l = starred_form m body (sign (byte "*") l)
 form_with m None l = (m, l)
 
+-- before these units
 abbrev pub form_of : Macro → Units → Macro × Units
 form_of m l = form_with m m.starred l
 

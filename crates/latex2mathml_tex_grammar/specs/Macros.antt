@@ -12,7 +12,7 @@ pub data Part : Type 0 where
 
 -- what arguments a macro takes, and what replaces it
 pub record Macro : Type 0 where
-  -- what replaces it if a star follows, where that is something else: it takes no star otherwise
+  -- what replaces it if a star follows its name, if it takes a star
   pub starred : Option (List Part)
   -- the default of its first argument, if that one can be left out. With a star, there is no such argument.
   pub default : Option (List Part)

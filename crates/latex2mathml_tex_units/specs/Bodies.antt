@@ -1,8 +1,9 @@
 -- The bodies of macros, and macros.
-use Rattle.std.specs.Prelude.{ℕ, List, Option, Some, None, map, option_map, Vec}
+use Rattle.std.specs.Prelude.{ℕ, List, [], Option, Some, None, map, Vec}
 use Rattle.std.specs.Global.{Global}
 use Rattle.latex2mathml_tex_grammar.specs.Macros as macros
-use Rattle.latex2mathml_tex_units.specs.{Taking.piece_of, declared.macros.part.Macro.Macro, declared.macros.part.Part.Part, declared.macros.usual.Usual.Usual}
+use Rattle.latex2mathml_tex_units.specs.{Taking.piece_of, declared.macros.part.Lead.Lead, declared.macros.part.Macro.Macro, declared.macros.part.Part.Part, declared.macros.usual.Usual.Usual}
+use Rattle.latex2mathml_tex_units.specs.declared.macros.part.Lead.TheVariants as lead
 use Rattle.latex2mathml_tex_units.specs.declared.macros.part.Part.TheVariants as part
 
 abbrev pub part_of : Part → macros.Part
@@ -12,8 +13,20 @@ part_of (part.Argument k) = macros.Argument k
 abbrev pub parts_in : Vec Part Global → List macros.Part
 parts_in v = map part_of v.items
 
+-- what replaces a macro with this lead if a star follows its name, if it takes a star
+abbrev pub starred_of : Lead → Option (List macros.Part)
+starred_of lead.Nothing = None
+starred_of (lead.Default parts) = None
+starred_of (lead.Star parts) = Some (parts_in parts)
+
+-- the default of its first argument, if that one can be left out
+abbrev pub default_of : Lead → Option (List macros.Part)
+default_of lead.Nothing = None
+default_of (lead.Default parts) = Some (parts_in parts)
+default_of (lead.Star parts) = Some []
+
 abbrev pub macro_of : Macro → macros.Macro
-macro_of m = macros.macro_of_parts (option_map parts_in m.starred) (option_map parts_in m.default) m.arity (parts_in m.body)
+macro_of m = macros.macro_of_parts (starred_of m.lead) (default_of m.lead) m.arity (parts_in m.body)
 
 -- the macro that is used, where this body was found for a star
 abbrev pub form_in : Macro → Option (List Part) → macros.Macro

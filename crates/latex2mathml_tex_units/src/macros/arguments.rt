@@ -98,7 +98,7 @@ impl<'a> Pending<'a> {
         ensures { Reads result (arguments_at place) (macro_arguments (macro_of found.now) place)
             self.old self.new }
     {
-        let Some(default) = &found.default else {
+        let Some(default) = found.default() else {
             let given = self.take_arguments(alloc, place, found.arity)?;
             return Ok(Arguments {
                 default: None,

@@ -2,7 +2,7 @@
 ghost use Rattle.std.specs.Prelude.{◌≡◌, IfOk, map, option_map};
 ghost use Rattle.latex2mathml_tex_grammar.specs.Definitions.{delimiters_macro, digit_of, enclosed_parts, is_character, operator_parts, parameter_part, parts_of, stretched_parts};
 ghost use Rattle.latex2mathml_tex_grammar.specs.Macros.{macro_with_default};
-ghost use Rattle.latex2mathml_tex_units.specs.{Bodies.macro_of, Bodies.part_of, Bodies.parts_in, Taking.piece_of, Taking.unit_of};
+ghost use Rattle.latex2mathml_tex_units.specs.{Bodies.default_of, Bodies.macro_of, Bodies.part_of, Bodies.parts_in, Taking.piece_of, Taking.unit_of};
 
 use crate::unit::{Piece, Unit};
 use std::alloc::{AllocError, Global};
@@ -16,13 +16,20 @@ pub(crate) enum Part<'a> {
     Argument(usize),
 }
 
+/// What a macro takes before the arguments that must be there.
+#[derive(Drop)]
+pub(crate) enum Lead<'a> {
+    Nothing,
+    /// An argument that can be left out, with its default.
+    Default(Vec<Part<'a>>),
+    /// A star, with which this replaces the macro. Without one, an argument that can be left out, whose default is empty.
+    Star(Vec<Part<'a>>),
+}
+
 /// What arguments a macro takes, and what replaces it.
 #[derive(Drop)]
 pub(crate) struct Macro<'a> {
-    /// What replaces it if a star follows, where that is something else.
-    pub(crate) starred: Option<Vec<Part<'a>>>,
-    /// The default of the first argument, if that one can be left out. With a star, there is no such argument.
-    pub(crate) default: Option<Vec<Part<'a>>>,
+    pub(crate) lead: Lead<'a>,
     /// How many other arguments it takes.
     pub(crate) arity: usize,
     pub(crate) body: Vec<Part<'a>>,
@@ -38,15 +45,17 @@ impl<'a> Macro<'a> {
         ensures { macro_of result
             ≡ macro_with_default (option_map parts_in default.entry) count (parts_in body.entry) }
     {
-        let arity = match &default {
-            Some(_) => count.saturating_sub(1),
-            None => count,
-        };
-        Macro {
-            starred: None,
-            default,
-            arity,
-            body,
+        match default {
+            Some(default) => Macro {
+                lead: Lead::Default(default),
+                arity: count.saturating_sub(1),
+                body,
+            },
+            None => Macro {
+                lead: Lead::Nothing,
+                arity: count,
+                body,
+            },
         }
     }
 
@@ -61,11 +70,21 @@ impl<'a> Macro<'a> {
             ≡ delimiters_macro (map part_of left.now) (map part_of right.now)) }
     {
         Ok(Macro {
-            starred: Some(stretched_parts(alloc, left, right)?),
-            default: Some(Vec::new(alloc)),
+            lead: Lead::Star(stretched_parts(alloc, left, right)?),
             arity: 1,
             body: enclosed_parts(alloc, left, right)?,
         })
+    }
+
+    /// Returns the default of the first argument, if that one can be left out.
+    pub(crate) fn default(&self) -> Option<&[Part<'a>]>
+        ensures { option_map (λ parts. map part_of parts.now) result ≡ default_of self.now.lead }
+    {
+        match &self.lead {
+            Lead::Nothing => None,
+            Lead::Default(default) => Some(default),
+            Lead::Star(starred) => Some(&starred[..0]),
+        }
     }
 }
 

@@ -7,7 +7,7 @@ ghost use Rattle.latex2mathml_tex_units.specs.{Bodies.form_in, Bodies.macro_of, 
 
 use crate::macros::arguments::Arguments;
 use crate::macros::halt::Halt;
-use crate::macros::part::{Macro, Part};
+use crate::macros::part::{Lead, Macro, Part};
 use crate::macros::pending::Pending;
 use crate::unit::{Fault, Unit};
 use std::alloc::{AllocError, Global};
@@ -156,12 +156,12 @@ impl<'a> Pending<'a> {
         Ok(())
     }
 
-    /// Takes a star, if the macro means something else with one, and returns what replaces it then.
+    /// Takes a star, if the macro takes one and one comes next. Returns what replaces the macro then.
     fn take_star<'m>(&mut self, found: &'m Macro<'a>) -> Option<&'m [Part<'a>]>
         ensures { (form_in found.now (option_map (λ body. body.now) result), pending_units self.new)
             ≡ form_of (macro_of found.now) (pending_units self.old) }
     {
-        let Some(starred) = &found.starred else {
+        let Lead::Star(starred) = &found.lead else {
             return None;
         };
         if self.take_sign('*') {
