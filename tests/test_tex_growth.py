@@ -27,15 +27,16 @@ TEXTS["in itself"] = [(name, lambda count, kind=kind: kind.nest(count, "x")) for
 
 def asked_for(text):
     """What each table, length, color and definition may request: the names of a table, the text of a length, the name
-    of a color, the parts of a definition, and the units and the parts of a default."""
+    of a color, the parts of a definition, and the units and the parts of a default. Delimiters are parts of two bodies."""
     values = text.count("\\\\[") + text.count("{1em}") + text.count("{red}")
-    return 2 * text.count("\\begin") + values + 3 * (text.count("\\def") + text.count("\\newcommand")) + 2 * text.count("][")
+    definitions = 3 * (text.count("\\def") + text.count("\\newcommand")) + 12 * text.count("\\DeclarePairedDelimiter")
+    return 2 * text.count("\\begin") + values + definitions + 2 * text.count("][")
 
 
 def asked_anew(text):
     """What a second formula may also request: the lists of a body, an argument and a replacement, and the texts of columns before and
     after repetitions are written out, are made for each formula."""
-    lists = 3 * ("\\def" in text or "\\newcommand" in text) + 2 * ("{array}" in text)
+    lists = 3 * ("\\def" in text or "\\newcommand" in text) + 5 * ("\\Declare" in text) + 2 * ("{array}" in text)
     return asked_for(text) + MOST_DOUBLINGS * lists
 
 
