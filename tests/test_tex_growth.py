@@ -29,7 +29,7 @@ def asked_for(text):
     """What each table, length, color and definition may request: the names of a table, the text of a length, the name
     of a color, the parts of a definition, and the units and the parts of a default. Delimiters are parts of two bodies."""
     values = text.count("\\\\[") + text.count("{1em}") + text.count("{red}")
-    definitions = 3 * (text.count("\\def") + text.count("\\newcommand")) + 12 * text.count("\\DeclarePairedDelimiter")
+    definitions = 3 * (text.count("\\def") + text.count("\\newcommand")) + 11 * text.count("\\DeclarePairedDelimiter")
     return 2 * text.count("\\begin") + values + definitions + 2 * text.count("][")
 
 
