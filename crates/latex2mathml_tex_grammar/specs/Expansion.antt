@@ -57,19 +57,19 @@ replaced table uses room u us l =
     if nat_lt room (length us) then Fails (refusal_at TooManyExpansions u.place)
     else Turns table uses (room - length us) (before us l)
 
--- A macro that takes a star means something else with one. What is used, and the units after its name and its star
+-- A macro that takes a star means something else with it. So what is used depends on the units after its name.
 
--- by whether a star was found, with which it has this body
+-- what is used, and the units after it: with this body, if a star was found
 abbrev pub starred_form : Macro → List Part → Bool × Units → Macro × Units
 starred_form m body (true, l) = (macro m.arity body, l)
 starred_form m body (false, l) = (m, l)
 
--- before these units, by its body with a star, if it takes one
+-- the same before these units, of a macro that has this body with a star, if it takes one
 abbrev pub form_with : Macro → Option (List Part) → Units → Macro × Units
 form_with m (Some body) l = starred_form m body (sign (byte "*") l)
 form_with m None l = (m, l)
 
--- before these units
+-- what is used before these units, and the units after it
 abbrev pub form_of : Macro → Units → Macro × Units
 form_of m l = form_with m m.starred l
 
