@@ -2,24 +2,38 @@
 use Rattle.std.specs.Prelude.{ℕ, zero, suc, ◌==◌, ◌%◌, ◌/◌, Bool, false, nat_lt, List, [], ◌∷◌, ◌++◌, codes, length, map, take, if◌then◌else◌}
 use Rattle.latex2mathml_elements.specs.Columns as defined
 use Rattle.latex2mathml_elements.specs.Lines as lines
-use Rattle.latex2mathml_elements.specs.Print.{alignment_style, alignment_text, spacing_style}
+use Rattle.latex2mathml_elements.specs.Print.{alignment_style, alignment_text}
 use Rattle.latex2mathml_attributes.specs.Lines.{line_of}
 use Rattle.latex2mathml_attributes.specs.declared.columns.TheConstants.{MOST_COLUMNS}
 use Rattle.latex2mathml_attributes.specs.declared.columns.Alignment.{Alignment}
 use Rattle.latex2mathml_attributes.specs.declared.columns.Alignment.TheVariants as alignment
 use Rattle.latex2mathml_attributes.specs.declared.columns.Column.{Column}
-use Rattle.latex2mathml_attributes.specs.declared.columns.Column.TheVariants as column
 use Rattle.latex2mathml_attributes.specs.declared.columns.Columns.{Columns}
+use Rattle.latex2mathml_attributes.specs.declared.columns.Density.{Density}
+use Rattle.latex2mathml_attributes.specs.declared.columns.Density.TheVariants as density
 use Rattle.latex2mathml_attributes.specs.declared.columns.ListedColumn.{ListedColumn}
 use Rattle.latex2mathml_attributes.specs.declared.columns.ListedColumn.TheVariants as listed
 use Rattle.latex2mathml_attributes.specs.declared.columns.Kind.{Kind}
 use Rattle.latex2mathml_attributes.specs.declared.columns.Kind.TheVariants as kind
+use Rattle.latex2mathml_attributes.specs.declared.columns.Spacing.{Spacing}
+use Rattle.latex2mathml_attributes.specs.declared.columns.Spacing.TheVariants as spacing
 
 abbrev pub alignment_of : Alignment → defined.Alignment
 alignment_of alignment.Centered = defined.Centered
 alignment_of alignment.LeftAligned = defined.LeftAligned
 alignment_of alignment.RightAligned = defined.RightAligned
-alignment_of alignment.Dense = defined.Dense
+alignment_of alignment.SecondOfPair = defined.SecondOfPair
+
+abbrev pub density_of : Density → defined.Density
+density_of density.Dense = defined.Dense
+density_of density.Usual = defined.Usual
+density_of density.Stretched = defined.Stretched
+density_of density.Opened = defined.Opened
+
+abbrev pub spacing_of : Spacing → defined.Spacing
+spacing_of spacing.Unspaced = defined.Unspaced
+spacing_of spacing.Before = defined.SpaceBefore
+spacing_of spacing.Around = defined.SpaceAround
 
 -- a listed column with this line after it
 abbrev before_line : defined.Alignment → lines.Line → defined.Column
@@ -71,15 +85,17 @@ abbrev pub behind_line : lines.Line → defined.Column → defined.Column
 behind_line line c = record c { before = line }
 
 abbrev pub column_of : Column → defined.Column
-column_of (column.Listed line c) = behind_line (line_of line) (listed_of c)
-column_of (column.First alignment) = defined.spaced defined.Unspaced (alignment_of alignment)
-column_of (column.Later alignment) = defined.spaced defined.SpaceBefore (alignment_of alignment)
-column_of column.SecondOfPair = defined.spaced defined.Unspaced defined.SecondOfPair
+column_of c = record {
+  density = density_of c.density;
+  alignment = alignment_of c.alignment;
+  spacing = spacing_of c.spacing;
+  before = line_of c.before;
+  after = line_of c.after;
+}
 
--- the start tag of a cell of a listed column, up to its lines
+-- the start tag of a cell of a column that is aligned like this, up to its space
 abbrev pub cell_start : defined.Alignment → List ℕ
-cell_start alignment =
-    codes "<mtd" ++ (alignment_text alignment ++ (codes " style=\"" ++ (alignment_style alignment ++ spacing_style alignment defined.SpaceAround)))
+cell_start alignment = codes "<mtd" ++ (alignment_text alignment ++ (codes " style=\"" ++ alignment_style alignment))
 
 -- only the first column has this line before it
 abbrev pub line_before : lines.Line → ℕ → lines.Line
@@ -88,8 +104,9 @@ line_before line (suc place) = lines.NoLine
 
 -- columns of this kind; the line before the first and the list are those of listed columns
 abbrev pub columns_with : Kind → lines.Line → List defined.Column → defined.Columns
-columns_with (kind.Alike alignment) line listed = defined.Alike (alignment_of alignment)
+columns_with (kind.Alike density alignment) line listed = defined.Alike (density_of density) (alignment_of alignment)
 columns_with kind.InPairs line listed = defined.InPairs
+columns_with kind.AroundRelation line listed = defined.AroundRelation
 columns_with kind.Listed line listed = defined.Listed line listed
 
 abbrev pub columns_of : Columns → defined.Columns

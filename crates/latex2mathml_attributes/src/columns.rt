@@ -1,9 +1,8 @@
 //! The columns of tables.
-ghost use Rattle.std.specs.Prelude.{◌≡◌, ◌<◌, ◌∷◌, ◌++◌, [], OnOk, get_or, string_bytes};
-ghost use Rattle.latex2mathml_elements.specs.Lines.{NoLine};
-ghost use Rattle.latex2mathml_elements.specs.Print.{cell_tag};
-ghost use Rattle.latex2mathml_elements.specs.Columns.{Alike, Centered, InPairs, LeftAligned, Listed, RightAligned, are_lined, column_at, unlined};
-ghost use Rattle.latex2mathml_attributes.specs.Columns.{alignment_of, behind_line, cell_start, column_of, columns_of, columns_in, has_room, line_before, listed_behind, listed_of, numbered};
+ghost use Rattle.std.specs.Prelude.{◌≡◌, ◌<◌, ◌++◌, [], OnOk, get_or, string_bytes};
+ghost use Rattle.latex2mathml_elements.specs.Print.{cell_tag, spacing_style};
+ghost use Rattle.latex2mathml_elements.specs.Columns.{Alike, AroundRelation, Centered, InPairs, Listed, are_lined, between, column_at, spaced, unlined};
+ghost use Rattle.latex2mathml_attributes.specs.Columns.{alignment_of, behind_line, cell_start, column_of, columns_of, columns_in, density_of, has_room, line_before, listed_behind, listed_of, numbered, spacing_of};
 ghost use Rattle.latex2mathml_attributes.specs.Lines.{line_of};
 
 use crate::line::Line;
@@ -18,8 +17,29 @@ pub enum Alignment {
     Centered,
     LeftAligned,
     RightAligned,
-    /// Centered, with little space around.
+    /// Aligned left, as the second of two columns with no space between them.
+    SecondOfPair,
+}
+
+/// How far apart the rows of a table are, and its columns.
+#[derive(Debug, Clone, Copy)]
+pub enum Density {
+    /// As in `smallmatrix`.
     Dense,
+    /// As in `array`.
+    Usual,
+    /// As in `cases`.
+    Stretched,
+    /// As in `aligned`.
+    Opened,
+}
+
+/// Where space is left at the sides of a column.
+#[derive(Debug, Clone, Copy)]
+pub enum Spacing {
+    Unspaced,
+    Before,
+    Around,
 }
 
 /// How the cells of a listed column are aligned, and what is drawn after it.
@@ -41,15 +61,12 @@ pub enum ListedColumn {
 
 /// A column of a table.
 #[derive(Debug, Clone, Copy)]
-pub enum Column {
-    /// There is space at both sides, and this line before it.
-    Listed(Line, ListedColumn),
-    /// There is no space at the sides.
-    First(Alignment),
-    /// There is space before it.
-    Later(Alignment),
-    /// The second of two columns with no space between them. It is aligned left.
-    SecondOfPair,
+pub struct Column {
+    density: Density,
+    alignment: Alignment,
+    spacing: Spacing,
+    before: Line,
+    after: Line,
 }
 
 /// All columns of a table, however many there are. Contracts refer to them as `columns_of`, as the definitions have them.
@@ -66,8 +83,9 @@ pub struct Columns {
 
 #[derive(Debug, Clone, Copy)]
 enum Kind {
-    Alike(Alignment),
+    Alike(Density, Alignment),
     InPairs,
+    AroundRelation,
     Listed,
 }
 
@@ -133,82 +151,124 @@ impl ListedColumn {
         }
     }
 
-    /// Returns the start tag of a cell up to its lines.
-    fn start(self) -> &'static str
-        ensures { result.now ≡ cell_start (listed_of self).alignment }
+    /// Returns how its cells are aligned.
+    fn alignment(self) -> Alignment
+        ensures { alignment_of result ≡ (listed_of self).alignment }
     {
         match self {
             ListedColumn::Centered
             | ListedColumn::CenteredBeforeLine
             | ListedColumn::CenteredBeforeTwoLines
-            | ListedColumn::CenteredBeforeDashes => "<mtd style=\"padding-inline: 0.5em",
+            | ListedColumn::CenteredBeforeDashes => Alignment::Centered,
             ListedColumn::LeftAligned
             | ListedColumn::LeftAlignedBeforeLine
             | ListedColumn::LeftAlignedBeforeTwoLines
-            | ListedColumn::LeftAlignedBeforeDashes =>
-                "<mtd columnalign=\"left\" style=\"text-align: left; padding-inline: 0.5em",
+            | ListedColumn::LeftAlignedBeforeDashes => Alignment::LeftAligned,
             ListedColumn::RightAligned
             | ListedColumn::RightAlignedBeforeLine
             | ListedColumn::RightAlignedBeforeTwoLines
-            | ListedColumn::RightAlignedBeforeDashes =>
-                "<mtd columnalign=\"right\" style=\"text-align: right; text-align: -webkit-right; padding-inline: 0.5em",
+            | ListedColumn::RightAlignedBeforeDashes => Alignment::RightAligned,
+        }
+    }
+
+    /// Returns the column with this line before it.
+    fn behind(self, line: Line) -> Column
+        ensures { column_of result ≡ behind_line (line_of line) (listed_of self) }
+    {
+        Column {
+            density: Density::Usual,
+            alignment: self.alignment(),
+            spacing: Spacing::Around,
+            before: line,
+            after: self.line(),
+        }
+    }
+}
+
+impl Alignment {
+    /// Returns the start tag of a cell up to its space.
+    fn start(self) -> &'static str
+        ensures { result.now ≡ cell_start (alignment_of self) }
+    {
+        match self {
+            Alignment::Centered => "<mtd style=\"",
+            Alignment::LeftAligned | Alignment::SecondOfPair =>
+                "<mtd columnalign=\"left\" style=\"text-align: left; ",
+            Alignment::RightAligned =>
+                "<mtd columnalign=\"right\" style=\"text-align: right; text-align: -webkit-right; ",
+        }
+    }
+}
+
+impl Density {
+    /// Returns the style of a cell with this space at its sides.
+    fn style(self, spacing: Spacing) -> &'static str
+        ensures { result.now ≡ spacing_style (density_of self) (spacing_of spacing) }
+    {
+        match (self, spacing) {
+            (Density::Dense, Spacing::Unspaced) =>
+                "padding: 0.1em 0; height: 0.66em; line-height: 0.66em",
+            (Density::Dense, Spacing::Before) =>
+                "padding: 0.1em 0 0.1em 0.4em; height: 0.66em; line-height: 0.66em",
+            (Density::Dense, Spacing::Around) =>
+                "padding: 0.1em 0.2em; height: 0.66em; line-height: 0.66em",
+            (Density::Usual, Spacing::Unspaced) =>
+                "padding: 0.1em 0; height: 1em; line-height: 1em",
+            (Density::Usual, Spacing::Before) =>
+                "padding: 0.1em 0 0.1em 1em; height: 1em; line-height: 1em",
+            (Density::Usual, Spacing::Around) =>
+                "padding: 0.1em 0.5em; height: 1em; line-height: 1em",
+            (Density::Stretched, Spacing::Unspaced) =>
+                "padding: 0.22em 0; height: 1em; line-height: 1em",
+            (Density::Stretched, Spacing::Before) =>
+                "padding: 0.22em 0 0.22em 1em; height: 1em; line-height: 1em",
+            (Density::Stretched, Spacing::Around) =>
+                "padding: 0.22em 0.5em; height: 1em; line-height: 1em",
+            (Density::Opened, Spacing::Unspaced) =>
+                "padding: 0.25em 0; height: 1em; line-height: 1em",
+            (Density::Opened, Spacing::Before) =>
+                "padding: 0.25em 0 0.25em 1em; height: 1em; line-height: 1em",
+            (Density::Opened, Spacing::Around) =>
+                "padding: 0.25em 0.5em; height: 1em; line-height: 1em",
         }
     }
 }
 
 impl Column {
+    /// Returns a column without lines, and with this space.
+    fn spaced(density: Density, spacing: Spacing, alignment: Alignment) -> Column
+        ensures { column_of result
+            ≡ spaced (density_of density) (spacing_of spacing) (alignment_of alignment) }
+    {
+        Column {
+            density,
+            alignment,
+            spacing,
+            before: Line::Nothing,
+            after: Line::Nothing,
+        }
+    }
+
     /// Appends the start tag of a cell.
+    #[tactic(auto, using(std::proofs::lemmas::Grind::common_steps))]
     pub fn append_tag(self, out: &mut String) -> Result<(), AllocError>
         ensures { OnOk result (string_bytes out.new
             ≡ string_bytes out.old ++ cell_tag (column_of self)) }
     {
-        match self {
-            Column::Listed(before, column) => append_listed_tag(before, column, out),
-            Column::First(Alignment::Centered) => out.push_str("<mtd style=\"padding-inline: 0\">"),
-            Column::First(Alignment::LeftAligned) => out.push_str(
-                "<mtd columnalign=\"left\" style=\"text-align: left; padding-inline: 0\">",
-            ),
-            Column::First(Alignment::RightAligned) => out.push_str(
-                "<mtd columnalign=\"right\" style=\"text-align: right; text-align: -webkit-right; padding-inline: 0\">",
-            ),
-            Column::First(Alignment::Dense) => out.push_str("<mtd style=\"padding: 0.1em 0\">"),
-            Column::Later(Alignment::Centered) => out.push_str(
-                "<mtd style=\"padding-inline: 1em 0\">",
-            ),
-            Column::Later(Alignment::LeftAligned) => out.push_str(
-                "<mtd columnalign=\"left\" style=\"text-align: left; padding-inline: 1em 0\">",
-            ),
-            Column::Later(Alignment::RightAligned) => out.push_str(
-                "<mtd columnalign=\"right\" style=\"text-align: right; text-align: -webkit-right; padding-inline: 1em 0\">",
-            ),
-            Column::Later(Alignment::Dense) => out.push_str(
-                "<mtd style=\"padding: 0.1em 0 0.1em 0.4em\">",
-            ),
-            Column::SecondOfPair => out.push_str(
-                "<mtd columnalign=\"left\" style=\"text-align: left; padding-inline: 0\">",
-            ),
-        }
+        out.push_str(self.alignment.start())?;
+        out.push_str(self.density.style(self.spacing))?;
+        out.push_str(self.before.at_left())?;
+        out.push_str(self.after.at_right())
     }
 }
 
-/// Appends the start tag of a cell of a listed column with this line before it.
-#[tactic(auto, using(std::proofs::lemmas::Grind::common_steps))]
-fn append_listed_tag(before: Line, column: ListedColumn, out: &mut String) -> Result<(), AllocError>
-    ensures { OnOk result (string_bytes out.new ≡ string_bytes out.old
-        ++ cell_tag (behind_line (line_of before) (listed_of column))) }
-{
-    out.push_str(column.start())?;
-    out.push_str(before.at_left())?;
-    out.push_str(column.line().at_right())
-}
-
 impl Columns {
-    /// Returns columns that are all aligned like this.
-    pub fn alike(alignment: Alignment) -> Columns
-        ensures { columns_of result ≡ Alike (alignment_of alignment) }
+    /// Returns columns that are all like this.
+    pub fn alike(density: Density, alignment: Alignment) -> Columns
+        ensures { columns_of result ≡ Alike (density_of density) (alignment_of alignment) }
     {
         Columns {
-            kind: Kind::Alike(alignment),
+            kind: Kind::Alike(density, alignment),
             ..Columns::none(Line::Nothing)
         }
     }
@@ -223,16 +283,14 @@ impl Columns {
         }
     }
 
-    /// Returns a right-aligned, a centered and a left-aligned column, followed by centered ones.
-    pub fn right_center_left() -> Columns
-        ensures { columns_of result ≡ Listed NoLine (unlined RightAligned ∷ unlined Centered
-            ∷ unlined LeftAligned ∷ []) }
+    /// Returns columns for the left side of a relation, the relation, and its right side, followed by centered ones.
+    pub fn around_relation() -> Columns
+        ensures { columns_of result ≡ AroundRelation }
     {
-        let mut columns = Columns::none(Line::Nothing);
-        let _ = columns.push(ListedColumn::RightAligned);
-        let _ = columns.push(ListedColumn::Centered);
-        let _ = columns.push(ListedColumn::LeftAligned);
-        columns
+        Columns {
+            kind: Kind::AroundRelation,
+            ..Columns::none(Line::Nothing)
+        }
     }
 
     /// Returns an empty list of columns, with this line before the first. The listed columns are followed by centered ones.
@@ -287,15 +345,15 @@ impl Columns {
         ensures { column_of result ≡ column_at (columns_of self.now) place }
     {
         match self.kind {
-            Kind::Alike(alignment) if place == 0 => Column::First(alignment),
-            Kind::Alike(alignment) => Column::Later(alignment),
-            Kind::InPairs if place == 0 => Column::First(Alignment::RightAligned),
-            Kind::InPairs if place % 2 == 0 => Column::Later(Alignment::RightAligned),
-            Kind::InPairs => Column::SecondOfPair,
-            Kind::Listed if place < MOST_COLUMNS && place < self.len as usize => {
-                Column::Listed(self.line_before(place), self.listed_at(place))
+            Kind::Alike(density, alignment) => {
+                Column::spaced(density, spacing_between(place), alignment)
             }
-            Kind::Listed => Column::Listed(Line::Nothing, ListedColumn::Centered),
+            Kind::InPairs => column_of_pair(place),
+            Kind::AroundRelation => column_around_relation(place),
+            Kind::Listed if place < MOST_COLUMNS && place < self.len as usize => {
+                self.listed_at(place).behind(self.line_before(place))
+            }
+            Kind::Listed => ListedColumn::Centered.behind(Line::Nothing),
         }
     }
 
@@ -330,4 +388,41 @@ impl Columns {
         }
         false
     }
+}
+
+/// Returns the space of a column that follows `place` others, where there is space between columns.
+fn spacing_between(place: usize) -> Spacing
+    ensures { spacing_of result ≡ between place }
+{
+    if place == 0 {
+        Spacing::Unspaced
+    } else {
+        Spacing::Before
+    }
+}
+
+/// Returns the column that follows `place` others, where columns are in pairs.
+fn column_of_pair(place: usize) -> Column
+    ensures { column_of result ≡ column_at InPairs place }
+{
+    if place == 0 {
+        return Column::spaced(Density::Opened, Spacing::Unspaced, Alignment::RightAligned);
+    }
+    if place % 2 == 0 {
+        return Column::spaced(Density::Opened, Spacing::Before, Alignment::RightAligned);
+    }
+    Column::spaced(Density::Opened, Spacing::Unspaced, Alignment::SecondOfPair)
+}
+
+/// Returns the column that follows `place` others, where the first three are the left side of a relation, the relation, and its
+/// right side.
+fn column_around_relation(place: usize) -> Column
+    ensures { column_of result ≡ column_at AroundRelation place }
+{
+    let alignment = match place {
+        0 => Alignment::RightAligned,
+        2 => Alignment::LeftAligned,
+        _ => Alignment::Centered,
+    };
+    Column::spaced(Density::Opened, Spacing::Around, alignment)
 }

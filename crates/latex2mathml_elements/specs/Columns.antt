@@ -9,8 +9,6 @@ pub data Alignment : Type 0 where
   RightAligned : Alignment
   -- aligned left, without space between it and the column before it, with which it is a pair
   SecondOfPair : Alignment
-  -- centered, with little space around it
-  Dense : Alignment
 
 -- where space is left at the sides of a column
 pub data Spacing : Type 0 where
@@ -18,27 +16,41 @@ pub data Spacing : Type 0 where
   SpaceBefore : Spacing
   SpaceAround : Spacing
 
+-- how far apart the rows of a table are, and its columns
+pub data Density : Type 0 where
+  -- as in `smallmatrix` of TeX
+  Dense : Density
+  -- as in `array`
+  Usual : Density
+  -- as in `cases`, whose rows are a fifth farther apart
+  Stretched : Density
+  -- as in `aligned`, whose rows are as far apart as formulas in lines of their own
+  Opened : Density
+
 -- a column, with the lines at its left and at its right
 pub record Column : Type 0 where
+  pub density : Density
   pub alignment : Alignment
   pub spacing : Spacing
   pub before : Line
   pub after : Line
 
 -- a column without lines, and with this space
-abbrev pub spaced : Spacing → Alignment → Column
-spaced spacing alignment = record { alignment = alignment; spacing = spacing; before = NoLine; after = NoLine }
+abbrev pub spaced : Density → Spacing → Alignment → Column
+spaced density spacing alignment = record { density = density; alignment = alignment; spacing = spacing; before = NoLine; after = NoLine }
 
 -- a listed column without lines
 abbrev pub unlined : Alignment → Column
-unlined alignment = spaced SpaceAround alignment
+unlined alignment = spaced Usual SpaceAround alignment
 
 -- all columns of a table, however many there are
 pub data Columns : Type 0 where
-  -- all are aligned like this, without lines, and with space between them
-  Alike : Alignment → Columns
+  -- all are like this, without lines, and with space between them
+  Alike : Density → Alignment → Columns
   -- pairs, with space between them
   InPairs : Columns
+  -- the left side of a relation, the relation, and its right side, followed by centered ones
+  AroundRelation : Columns
   -- these, with this line before the first, followed by centered ones
   Listed : Line → List Column → Columns
 
@@ -49,11 +61,15 @@ between (suc k) = SpaceBefore
 
 -- the column that follows the given number of others
 abbrev pub column_at : Columns → ℕ → Column
-column_at (Alike alignment) k = spaced (between k) alignment
-column_at InPairs zero = spaced Unspaced RightAligned
-column_at InPairs (suc zero) = spaced Unspaced SecondOfPair
-column_at InPairs (suc (suc zero)) = spaced SpaceBefore RightAligned
+column_at (Alike density alignment) k = spaced density (between k) alignment
+column_at InPairs zero = spaced Opened Unspaced RightAligned
+column_at InPairs (suc zero) = spaced Opened Unspaced SecondOfPair
+column_at InPairs (suc (suc zero)) = spaced Opened SpaceBefore RightAligned
 column_at InPairs (suc (suc (suc k))) = column_at InPairs (suc k)
+column_at AroundRelation zero = spaced Opened SpaceAround RightAligned
+column_at AroundRelation (suc zero) = spaced Opened SpaceAround Centered
+column_at AroundRelation (suc (suc zero)) = spaced Opened SpaceAround LeftAligned
+column_at AroundRelation (suc (suc (suc k))) = spaced Opened SpaceAround Centered
 column_at (Listed line []) k = unlined Centered
 column_at (Listed line (column ∷ columns)) zero = record column { before = line }
 column_at (Listed line (column ∷ columns)) (suc k) = column_at (Listed NoLine columns) k

@@ -6,7 +6,7 @@ use Rattle.std.specs.Str.{bytes_eq}
 use mathlib.Core.List.{reverse_aux}
 use Rattle.latex2mathml_elements.specs.Attributes as attributes
 use Rattle.latex2mathml_elements.specs.Attributes.{Attributes}
-use Rattle.latex2mathml_elements.specs.Columns.{Columns, Alike, Dense, InPairs}
+use Rattle.latex2mathml_elements.specs.Columns.{Columns, Alike, Centered, Dense, InPairs}
 use Rattle.latex2mathml_elements.specs.{Element.Element, Element.table, Tables.attributes_in}
 use Rattle.latex2mathml_builder.specs.{Built.Built, Built.elements_in, Stacks.table_with}
 use Rattle.latex2mathml_attributes.specs.Columns.{columns_of}
@@ -105,10 +105,10 @@ rows_begin s p e columns place c g =
     let k = subst (λ c. RuleLeads (rows_rule place c e.now.name.now (environment_of e.now) (columns_of columns)) (CoreMade (level 0 s p)) (left_of p)) g.context g.leads in
     record { style = g.style; leads = λ o d. rows_due (after_rows (kind.Environment e) (columns_of columns) around) k o d }
 
-pub substack_begins : (s : Start) (p : Parser) (columns : CodeColumns) (place : ℕ) (c : Context) → columns_of columns ≡ Alike Dense → BeginsIn c (reads_rows ByBrace place (Alike Dense) (styled (context_of c) symbols.InScript) (λ lines end. gives (a_table None (Alike Dense) symbols.InScript (context_of c).style lines))) 0 s p → BeginsTable kind.Braces columns place s p
+pub substack_begins : (s : Start) (p : Parser) (columns : CodeColumns) (place : ℕ) (c : Context) → columns_of columns ≡ Alike Dense Centered → BeginsIn c (reads_rows ByBrace place (Alike Dense Centered) (styled (context_of c) symbols.InScript) (λ lines end. gives (a_table None (Alike Dense Centered) symbols.InScript (context_of c).style lines))) 0 s p → BeginsTable kind.Braces columns place s p
 substack_begins s p columns place c dense g =
     let around = context_at (level 0 s p) in
-    let j = subst (λ c. RuleLeads (reads_rows ByBrace place (Alike Dense) (styled c symbols.InScript) (λ lines end. gives (a_table None (Alike Dense) symbols.InScript c.style lines))) (CoreMade (level 0 s p)) (left_of p)) g.context g.leads in
+    let j = subst (λ c. RuleLeads (reads_rows ByBrace place (Alike Dense Centered) (styled c symbols.InScript) (λ lines end. gives (a_table None (Alike Dense Centered) symbols.InScript c.style lines))) (CoreMade (level 0 s p)) (left_of p)) g.context g.leads in
     let k = subst (λ d. RuleLeads (reads_rows ByBrace place d (styled around symbols.InScript) (λ lines end. gives (a_table None d symbols.InScript around.style lines))) (CoreMade (level 0 s p)) (left_of p)) (sym dense) j in
     record { style = g.style; leads = λ o d. rows_due (after_rows kind.Braces (columns_of columns) around) k o d }
 

@@ -3,7 +3,7 @@ use Rattle.std.proofs.Common.{◌≡◌, ℕ, zero, suc, Bool, true, false, not,
 use Rattle.std.proofs.lemmas.Bool.{and_parts}
 use Rattle.std.specs.{Bool.⊤, Char.encode_utf8, List.list_all, Str.bytes_eq, Str.chars}
 use Rattle.latex2mathml_elements.specs.Characters.{IsAllowed, HasAllowedTexts, EachTextOf, EachTextOfCells, EachTextOfRows}
-use Rattle.latex2mathml_elements.specs.{Columns.Columns, Columns.Centered, Columns.LeftAligned, Columns.RightAligned, Columns.Alike, Columns.Listed, Tables.are_line, Tables.cells_behind, Tables.cells_in, Lines.Line, Lines.NoLine, Lines.OneLine, Lines.TwoLines, Lines.Dashes, Lines.is_drawn, Tables.is_line as is_row_line, Tables.line_of, Tables.rows_behind}
+use Rattle.latex2mathml_elements.specs.{Columns.Columns, Columns.Centered, Columns.LeftAligned, Columns.RightAligned, Columns.Usual, Columns.Alike, Columns.Listed, Tables.are_line, Tables.cells_behind, Tables.cells_in, Lines.Line, Lines.NoLine, Lines.OneLine, Lines.TwoLines, Lines.Dashes, Lines.is_drawn, Tables.is_line as is_row_line, Tables.line_of, Tables.rows_behind}
 use Rattle.latex2mathml_elements.specs.Element.{Mrow, Msqrt, Mstyle, Mpadded, Mphantom, Element, Elements, Rows, token, space, rectangle, container, pair, triple, table, more, none}
 use Rattle.latex2mathml_tex_grammar.specs.Environments.{columns_of, line_at, written_out, Environment, Bracket, NoBracket, Position, Alignment, environments, entry_environment, environment_of}
 use Rattle.latex2mathml_tex_grammar.specs.{Rows.row_element, Symbols.Style}
@@ -125,7 +125,7 @@ bracket_allowed place c name e NoBracket h = argument_allowed place c name e e.a
 bracket_allowed place c name e Position h = argument_allowed place c name e e.argument h
 bracket_allowed place c name e Alignment h =
     let rows : (columns : Columns) → IsAllowedRule (rows_rule place c name e columns) = λ columns. rows_rule_allowed place c name e columns h in
-    (λ letter given. rows (Alike LeftAligned), (λ letter given. rows (Alike Centered), (λ letter given. rows (Alike RightAligned), rows e.columns)))
+    (λ letter given. rows (Alike Usual LeftAligned), (λ letter given. rows (Alike Usual Centered), (λ letter given. rows (Alike Usual RightAligned), rows e.columns)))
 
 pub environment_allowed : (place : ℕ) (c : Context) (name : List ℕ) (e : Option Environment) → PassesTest (λ e. are_allowed_delimiters e.delimiters) e → IsAllowedRule (environment_rule place c name e)
 environment_allowed place c name None h = tt

@@ -17,8 +17,8 @@ use Rattle.latex2mathml_tex_grammar.specs.Units.{Piece, Space, Open, Close, Comm
 use Rattle.latex2mathml_tex_grammar.specs.Words.{Word, Shown, Formula, Accented, Nothing, WordRule, IsWord, BeginsFormula, NoWord, Words, word_space, word_character, with_text, accented, with_character, end_accent, with_accent_ended, with_word, words_element, word_rule, character_rule as word_of_character, meaning_rule as word_of_meaning, accent_rule as word_of_accent, command_rule as word_of_command}
 use Rattle.latex2mathml_tex_grammar.proofs.Allowed.{IsAllowedPiece, AreAllowedElements, IsAllowedAccent, IsAllowedElement, IsAllowedCore, IsAllowedOperand, AreAllowedScripts, AreAllowedWords, IsAllowedWord, IsAllowedWordRule, IsAllowedStep, IsAllowedRule, AreGiven}
 use Rattle.latex2mathml_tex_grammar.proofs.AllowedMakes.{letter_allowed, upright_letter_allowed, symbol_allowed, number_allowed, lone_allowed, row_element_allowed, single_allowed, struck_allowed, as_base_allowed, classed_allowed, accent_allowed, brace_allowed, stack_allowed, fraction_allowed, fenced_allowed, in_style_allowed, between_allowed, behind_primes_allowed}
-use Rattle.latex2mathml_elements.specs.Columns.{Alike, Dense}
-use Rattle.latex2mathml_elements.specs.{Columns.Alike, Columns.Dense, Groups.grouped}
+use Rattle.latex2mathml_elements.specs.Columns.{Alike, Centered, Dense}
+use Rattle.latex2mathml_elements.specs.{Groups.grouped}
 use Rattle.latex2mathml_tex_grammar.specs.Environments.{environment_of}
 use Rattle.latex2mathml_tex_grammar.proofs.AllowedRows.{a_table_allowed, environment_allowed, environment_passes}
 use Rattle.latex2mathml_tex_grammar.proofs.AllowedTables.{IsAllowedText, Passes, allowed_text, in_alphabet_allowed, is_allowed, is_allowed_meaning, is_allowed_symbol, meaning_passes, negated_allowed, delimiter_allowed, not_forbidden, symbol_passes, text_accent_passes, text_command_passes}
@@ -313,7 +313,7 @@ meaning_rule_allowed place c (Changes change) h = tt
 meaning_rule_allowed place c BeginTable h = λ name. environment_allowed place c name (environment_of name) (environment_passes name)
 meaning_rule_allowed place c EndTable h = tt
 meaning_rule_allowed place c LineBreak h = tt
-meaning_rule_allowed place c Substack h = λ brace lines at k. a_table_allowed None (Alike Dense) InScript c.style lines tt k
+meaning_rule_allowed place c Substack h = λ brace lines at k. a_table_allowed None (Alike Dense Centered) InScript c.style lines tt k
 
 command_allowed : (place : ℕ) (c : Context) (name : List ℕ) (meaning : Option Meaning) → Passes is_allowed_meaning meaning → IsAllowedRule (command_rule place c name meaning)
 command_allowed place c name None h = tt

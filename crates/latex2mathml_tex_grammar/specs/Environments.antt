@@ -1,7 +1,7 @@
 -- The environments: each is a table. A name is its bytes.
 use Rattle.std.specs.Prelude.{ℕ, ◌+◌, ◌-◌, ◌*◌, ◌==◌, ◌||◌, Bool, true, false, List, [], ◌∷◌, ◌++◌, Option, Some, None, codes, if◌then◌else◌}
 use Rattle.std.specs.{List.after_first, List.before_first, List.repeat, Str.byte, Str.bytes_eq}
-use Rattle.latex2mathml_elements.specs.Columns.{Centered, LeftAligned, RightAligned, Dense, SpaceAround, Column, unlined, Columns, Alike, InPairs, Listed}
+use Rattle.latex2mathml_elements.specs.Columns.{Centered, LeftAligned, RightAligned, Dense, Usual, Stretched, Opened, SpaceAround, Column, Columns, Alike, InPairs, AroundRelation}
 use Rattle.latex2mathml_elements.specs.Lines.{Line, NoLine, OneLine, TwoLines, Dashes}
 use Rattle.latex2mathml_tex_grammar.specs.Scanning.{Argument, ColumnList, Number}
 use Rattle.latex2mathml_tex_grammar.specs.Symbols.{Style, InDisplay, InText, InScript}
@@ -51,6 +51,7 @@ line_at (c ∷ cs) = if is_line_sign c then line_of c (begins_with_line cs) else
 -- the column of a letter, with this line after it
 abbrev pub column_of : ℕ → Line → Column
 column_of c line = record {
+  density = Usual;
   alignment = if c == byte "l" then LeftAligned else if c == byte "r" then RightAligned else Centered;
   spacing = SpaceAround;
   before = NoLine;
@@ -89,7 +90,7 @@ cells_in columns style = record { delimiters = None; columns = columns; style = 
 
 -- centered columns in text style
 abbrev pub matrix : Environment
-matrix = cells_in (Alike Centered) InText
+matrix = cells_in (Alike Usual Centered) InText
 
 -- an environment with delimiters around it
 abbrev pub between : List ℕ → List ℕ → Environment → Environment
@@ -97,7 +98,7 @@ between opening closing e = record e { delimiters = Some (opening, closing) }
 
 -- centered columns in display style
 abbrev pub lines : Environment
-lines = cells_in (Alike Centered) InDisplay
+lines = cells_in (Alike Opened Centered) InDisplay
 
 -- pairs of columns in display style
 abbrev pub pairs : Environment
@@ -117,7 +118,19 @@ with_argument argument e = record e { argument = Some argument }
 
 -- the two sides of a relation, and the relation between them
 abbrev pub around_relation : Environment
-around_relation = cells_in (Listed NoLine (unlined RightAligned ∷ unlined Centered ∷ unlined LeftAligned ∷ [])) InDisplay
+around_relation = cells_in AroundRelation InDisplay
+
+-- cases, and the condition of each, in this style
+abbrev pub cases : Style → Environment
+cases = cells_in (Alike Stretched LeftAligned)
+
+-- one formula that is broken into lines
+abbrev pub broken : Environment
+broken = cells_in (Alike Opened LeftAligned) InDisplay
+
+-- small rows in a script, or in a line of text
+abbrev pub small : Environment
+small = cells_in (Alike Dense Centered) InScript
 
 -- the table of environments, in the order of bytes
 unfoldable pub environments : List (List ℕ × Environment)
@@ -135,10 +148,10 @@ environments =
     (codes "array", with_argument ColumnList (placed matrix)) ∷
     (codes "bmatrix", between (codes "[") (codes "]") matrix) ∷
     (codes "bmatrix*", between (codes "[") (codes "]") (starred matrix)) ∷
-    (codes "cases", between (codes "{") [] (cells_in (Alike LeftAligned) InText)) ∷
-    (codes "dcases", between (codes "{") [] (cells_in (Alike LeftAligned) InDisplay)) ∷
+    (codes "cases", between (codes "{") [] (cases InText)) ∷
+    (codes "dcases", between (codes "{") [] (cases InDisplay)) ∷
     (codes "displaymath", lines) ∷
-    (codes "drcases", between [] (codes "}") (cells_in (Alike LeftAligned) InDisplay)) ∷
+    (codes "drcases", between [] (codes "}") (cases InDisplay)) ∷
     (codes "eqnarray", around_relation) ∷
     (codes "eqnarray*", around_relation) ∷
     (codes "equation", lines) ∷
@@ -151,15 +164,15 @@ environments =
     (codes "math", matrix) ∷
     (codes "matrix", matrix) ∷
     (codes "matrix*", starred matrix) ∷
-    (codes "multline", cells_in (Alike LeftAligned) InDisplay) ∷
-    (codes "multline*", cells_in (Alike LeftAligned) InDisplay) ∷
+    (codes "multline", broken) ∷
+    (codes "multline*", broken) ∷
     (codes "pmatrix", between (codes "(") (codes ")") matrix) ∷
     (codes "pmatrix*", between (codes "(") (codes ")") (starred matrix)) ∷
-    (codes "rcases", between [] (codes "}") (cells_in (Alike LeftAligned) InText)) ∷
-    (codes "smallmatrix", cells_in (Alike Dense) InScript) ∷
+    (codes "rcases", between [] (codes "}") (cases InText)) ∷
+    (codes "smallmatrix", small) ∷
     (codes "split", pairs) ∷
-    (codes "subarray", with_argument ColumnList (cells_in (Alike Dense) InScript)) ∷
-    (codes "substack", cells_in (Alike Dense) InScript) ∷
+    (codes "subarray", with_argument ColumnList small) ∷
+    (codes "substack", small) ∷
     (codes "vmatrix", between (codes "|") (codes "|") matrix) ∷
     (codes "vmatrix*", between (codes "|") (codes "|") (starred matrix)) ∷
     []

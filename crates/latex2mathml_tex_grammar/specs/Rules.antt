@@ -2,7 +2,7 @@
 -- gives an atom or a refusal.
 use Rattle.std.specs.Prelude.{ℕ, zero, ℤ, pos, ◌==◌, ◌||◌, Bool, nat_le, length, true, false, List, [], ◌∷◌, ◌++◌, Option, Some, None, if◌then◌else◌}
 use Rattle.std.specs.{Char.is_ascii_alphabetic, Char.is_ascii_digit, Str.byte, Str.bytes_eq}
-use Rattle.latex2mathml_elements.specs.{Attributes.Above, Columns.Columns, Columns.Centered, Columns.LeftAligned, Columns.RightAligned, Columns.Dense, Columns.Alike, Columns.Listed, Element.Element}
+use Rattle.latex2mathml_elements.specs.{Attributes.Above, Columns.Columns, Columns.Centered, Columns.LeftAligned, Columns.RightAligned, Columns.Dense, Columns.Usual, Columns.Alike, Columns.Listed, Element.Element}
 use Rattle.latex2mathml_tex_grammar.specs.{Atoms.After, Atoms.Before, Atoms.Nothing, Atoms.Plain, Atoms.atom, Commands.meaning_of, Commands.symbol_of, Delimiters.delimiter_of, Delimiters.negated_of, Dots.centered_dots, Dots.centers_dots, Dots.low_dots, Rows.Row, Rows.Operand, Rows.as_base, Rows.empty_row, Rows.row_element}
 use Rattle.latex2mathml_tex_grammar.specs.Environments.{Environment, Bracket, NoBracket, Position, Alignment, columns_of, line_at, written_out, environment_of, pairs}
 use Rattle.latex2mathml_tex_grammar.specs.Makes.{Core, core, letter, upright_letter, number, relation, symbol, function_name, spacing, braced, group, classed, no_letters, operator_name, accent, brace, stack, fraction, square_root, root, between_delimiters, sized, struck, blank, boxed_atom, bar, arrow, Outline, outlined_fraction, choice}
@@ -229,9 +229,9 @@ in_brackets c = a_character (byte "[") ∷ a_character c ∷ a_character (byte "
 -- columns in which a letter in brackets says how cells are aligned
 abbrev pub alignment_rule : ℕ → Context → List ℕ → Environment → Rule
 alignment_rule place c name e =
-    takes_if (in_brackets (byte "l")) (λ letter. rows_rule place c name e (Alike LeftAligned))
-    (takes_if (in_brackets (byte "c")) (λ letter. rows_rule place c name e (Alike Centered))
-    (takes_if (in_brackets (byte "r")) (λ letter. rows_rule place c name e (Alike RightAligned)) (rows_rule place c name e e.columns)))
+    takes_if (in_brackets (byte "l")) (λ letter. rows_rule place c name e (Alike Usual LeftAligned))
+    (takes_if (in_brackets (byte "c")) (λ letter. rows_rule place c name e (Alike Usual Centered))
+    (takes_if (in_brackets (byte "r")) (λ letter. rows_rule place c name e (Alike Usual RightAligned)) (rows_rule place c name e e.columns)))
 
 -- the rows of an environment, after what is in brackets after its name
 abbrev pub bracket_rule : ℕ → Context → List ℕ → Environment → Bracket → Rule
@@ -247,7 +247,7 @@ environment_rule place c name (Some e) = bracket_rule place c name e e.bracket
 -- rows in braces, each of one cell, as small as a script
 abbrev pub a_substack : ℕ → Context → Rule
 a_substack place c =
-    takes_found BeforeBrace place (λ brace. reads_rows ByBrace place (Alike Dense) (styled c InScript) (λ lines end. gives (a_table None (Alike Dense) InScript c.style lines)))
+    takes_found BeforeBrace place (λ brace. reads_rows ByBrace place (Alike Dense Centered) (styled c InScript) (λ lines end. gives (a_table None (Alike Dense Centered) InScript c.style lines)))
 
 -- the rows of a whole text, as those of `aligned`
 abbrev pub rows_of_text : Context → Rule

@@ -5,7 +5,7 @@ ghost use Rattle.latex2mathml_builder.specs.Built.{elements_in};
 use latex2mathml_attributes::attributes::{
     Attributes, Form, MathStyle, Side, Size, Space, Stretch,
 };
-use latex2mathml_attributes::columns::{Alignment, Columns, ListedColumn};
+use latex2mathml_attributes::columns::{Alignment, Columns, Density, ListedColumn};
 use latex2mathml_attributes::line::Line;
 use latex2mathml_attributes::tag::{Container, Pair, Token, Triple};
 use latex2mathml_builder::builder::Builder;
@@ -253,7 +253,7 @@ fn push_one_column(builder: &mut Builder, columns: Columns) -> Result<(), AllocE
 fn push_tables(builder: &mut Builder, listed: Columns, alike: Columns) -> Result<(), AllocError>
     ensures { OnOk result (3 ≤ length (elements_in builder.new)) }
 {
-    push_three_columns(builder, Columns::right_center_left())?;
+    push_three_columns(builder, Columns::around_relation())?;
     push_two_columns(builder, listed)?;
     push_one_column(builder, alike)
 }
@@ -262,7 +262,7 @@ fn push_tables(builder: &mut Builder, listed: Columns, alike: Columns) -> Result
 fn columns_of_each_kind(rt: HostRuntime) -> Result<(), Fail> {
     let mut listed = Columns::none(Line::Nothing);
     assert!(rt; listed.push(ListedColumn::LeftAlignedBeforeLine));
-    let mut alike = Columns::alike(Alignment::Dense);
+    let mut alike = Columns::alike(Density::Dense, Alignment::Centered);
     assert!(rt; !alike.push(ListedColumn::LeftAligned));
     let mut builder = Builder::new(rt.alloc());
     push_tables(&mut builder, listed, alike)?;
@@ -302,7 +302,7 @@ fn push_deep_tables(builder: &mut Builder, depth: usize) -> Result<(), AllocErro
     builder.character(Token::Mi, plain, 'x')?;
     for _ in 0..depth {
         builder.container(Container::Mrow, plain, 1)?;
-        builder.table(None, Columns::alike(Alignment::Centered), 1)?;
+        builder.table(None, Columns::alike(Density::Usual, Alignment::Centered), 1)?;
     }
     Ok(())
 }

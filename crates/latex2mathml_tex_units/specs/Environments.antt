@@ -1,7 +1,6 @@
 -- The environments of the code, as the definitions describe them.
-use Rattle.std.specs.Prelude.{ℕ, List, [], ◌∷◌, option_map, Option}
-use Rattle.latex2mathml_elements.specs.Lines.{NoLine}
-use Rattle.latex2mathml_elements.specs.Columns.{Centered, LeftAligned, RightAligned, Dense, unlined, Columns, Alike, InPairs, Listed}
+use Rattle.std.specs.Prelude.{ℕ, List, option_map, Option}
+use Rattle.latex2mathml_elements.specs.Columns.{Centered, LeftAligned, Dense, Usual, Stretched, Opened, Columns, Alike, InPairs, AroundRelation}
 use Rattle.latex2mathml_tex_grammar.specs.Environments as environments
 use Rattle.latex2mathml_tex_commands.specs.{Delimiters.delimiter_text, Meanings.style_of}
 use Rattle.latex2mathml_tex_units.specs.Scans.{argument_of}
@@ -10,11 +9,13 @@ use Rattle.latex2mathml_tex_units.specs.declared.environments.Bracket.TheVariant
 use Rattle.latex2mathml_tex_units.specs.declared.environments.Layout.TheVariants as layout
 
 abbrev pub layout_of : Layout → Columns
-layout_of layout.Centered = Alike Centered
-layout_of layout.LeftAligned = Alike LeftAligned
-layout_of layout.Dense = Alike Dense
+layout_of layout.Matrix = Alike Usual Centered
+layout_of layout.Cases = Alike Stretched LeftAligned
+layout_of layout.Lines = Alike Opened Centered
+layout_of layout.BrokenLine = Alike Opened LeftAligned
+layout_of layout.Small = Alike Dense Centered
 layout_of layout.InPairs = InPairs
-layout_of layout.AroundRelation = Listed NoLine (unlined RightAligned ∷ unlined Centered ∷ unlined LeftAligned ∷ [])
+layout_of layout.AroundRelation = AroundRelation
 
 abbrev pub bracket_of : Bracket → environments.Bracket
 bracket_of bracket.Nothing = environments.NoBracket

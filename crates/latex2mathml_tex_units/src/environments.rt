@@ -5,7 +5,7 @@ ghost use Rattle.latex2mathml_tex_units.specs.Environments.{entry_of, environmen
 ghost use Rattle.latex2mathml_attributes.specs.Columns.{columns_of};
 
 use crate::scanning::Argument;
-use latex2mathml_attributes::columns::{Alignment, Columns};
+use latex2mathml_attributes::columns::{Alignment, Columns, Density};
 use latex2mathml_tex_commands::meaning::Style;
 use latex2mathml_tex_commands::named::are_same;
 
@@ -34,13 +34,19 @@ pub enum Bracket {
     Alignment,
 }
 
-/// How the cells of an environment are aligned in their columns, unless the author says otherwise.
+/// How the cells of an environment are aligned in their columns, and how far apart its rows are, unless the author says otherwise.
 #[derive(Clone, Copy)]
 pub enum Layout {
-    Centered,
-    LeftAligned,
+    /// In the middle.
+    Matrix,
+    /// On the left, with rows a little farther apart.
+    Cases,
+    /// In the middle, with rows as far apart as lines.
+    Lines,
+    /// On the left, with rows as far apart as lines.
+    BrokenLine,
     /// In the middle, with little space around them.
-    Dense,
+    Small,
     InPairs,
     /// The two sides of a relation, and the relation between them.
     AroundRelation,
@@ -52,11 +58,13 @@ impl Layout {
         ensures { columns_of result ≡ layout_of self }
     {
         match self {
-            Layout::Centered => Columns::alike(Alignment::Centered),
-            Layout::LeftAligned => Columns::alike(Alignment::LeftAligned),
-            Layout::Dense => Columns::alike(Alignment::Dense),
+            Layout::Matrix => Columns::alike(Density::Usual, Alignment::Centered),
+            Layout::Cases => Columns::alike(Density::Stretched, Alignment::LeftAligned),
+            Layout::Lines => Columns::alike(Density::Opened, Alignment::Centered),
+            Layout::BrokenLine => Columns::alike(Density::Opened, Alignment::LeftAligned),
+            Layout::Small => Columns::alike(Density::Dense, Alignment::Centered),
             Layout::InPairs => Columns::in_pairs(),
-            Layout::AroundRelation => Columns::right_center_left(),
+            Layout::AroundRelation => Columns::around_relation(),
         }
     }
 }
@@ -96,44 +104,44 @@ fn environments() -> &'static [Environment]
 
 #[rattlefmt::skip]
 static ENVIRONMENTS: [Environment; 40] = [
-    Environment { name: "Bmatrix", delimiters: Some((Some('{'), Some('}'))), layout: Layout::Centered, style: Style::InText, bracket: Bracket::Nothing, argument: None },
-    Environment { name: "Bmatrix*", delimiters: Some((Some('{'), Some('}'))), layout: Layout::Centered, style: Style::InText, bracket: Bracket::Alignment, argument: None },
-    Environment { name: "Vmatrix", delimiters: Some((Some('‖'), Some('‖'))), layout: Layout::Centered, style: Style::InText, bracket: Bracket::Nothing, argument: None },
-    Environment { name: "Vmatrix*", delimiters: Some((Some('‖'), Some('‖'))), layout: Layout::Centered, style: Style::InText, bracket: Bracket::Alignment, argument: None },
+    Environment { name: "Bmatrix", delimiters: Some((Some('{'), Some('}'))), layout: Layout::Matrix, style: Style::InText, bracket: Bracket::Nothing, argument: None },
+    Environment { name: "Bmatrix*", delimiters: Some((Some('{'), Some('}'))), layout: Layout::Matrix, style: Style::InText, bracket: Bracket::Alignment, argument: None },
+    Environment { name: "Vmatrix", delimiters: Some((Some('‖'), Some('‖'))), layout: Layout::Matrix, style: Style::InText, bracket: Bracket::Nothing, argument: None },
+    Environment { name: "Vmatrix*", delimiters: Some((Some('‖'), Some('‖'))), layout: Layout::Matrix, style: Style::InText, bracket: Bracket::Alignment, argument: None },
     Environment { name: "align", delimiters: None, layout: Layout::InPairs, style: Style::InDisplay, bracket: Bracket::Nothing, argument: None },
     Environment { name: "align*", delimiters: None, layout: Layout::InPairs, style: Style::InDisplay, bracket: Bracket::Nothing, argument: None },
     Environment { name: "alignat", delimiters: None, layout: Layout::InPairs, style: Style::InDisplay, bracket: Bracket::Nothing, argument: Some(Argument::Number) },
     Environment { name: "alignat*", delimiters: None, layout: Layout::InPairs, style: Style::InDisplay, bracket: Bracket::Nothing, argument: Some(Argument::Number) },
     Environment { name: "aligned", delimiters: None, layout: Layout::InPairs, style: Style::InDisplay, bracket: Bracket::Position, argument: None },
     Environment { name: "alignedat", delimiters: None, layout: Layout::InPairs, style: Style::InDisplay, bracket: Bracket::Position, argument: Some(Argument::Number) },
-    Environment { name: "array", delimiters: None, layout: Layout::Centered, style: Style::InText, bracket: Bracket::Position, argument: Some(Argument::ColumnList) },
-    Environment { name: "bmatrix", delimiters: Some((Some('['), Some(']'))), layout: Layout::Centered, style: Style::InText, bracket: Bracket::Nothing, argument: None },
-    Environment { name: "bmatrix*", delimiters: Some((Some('['), Some(']'))), layout: Layout::Centered, style: Style::InText, bracket: Bracket::Alignment, argument: None },
-    Environment { name: "cases", delimiters: Some((Some('{'), None)), layout: Layout::LeftAligned, style: Style::InText, bracket: Bracket::Nothing, argument: None },
-    Environment { name: "dcases", delimiters: Some((Some('{'), None)), layout: Layout::LeftAligned, style: Style::InDisplay, bracket: Bracket::Nothing, argument: None },
-    Environment { name: "displaymath", delimiters: None, layout: Layout::Centered, style: Style::InDisplay, bracket: Bracket::Nothing, argument: None },
-    Environment { name: "drcases", delimiters: Some((None, Some('}'))), layout: Layout::LeftAligned, style: Style::InDisplay, bracket: Bracket::Nothing, argument: None },
+    Environment { name: "array", delimiters: None, layout: Layout::Matrix, style: Style::InText, bracket: Bracket::Position, argument: Some(Argument::ColumnList) },
+    Environment { name: "bmatrix", delimiters: Some((Some('['), Some(']'))), layout: Layout::Matrix, style: Style::InText, bracket: Bracket::Nothing, argument: None },
+    Environment { name: "bmatrix*", delimiters: Some((Some('['), Some(']'))), layout: Layout::Matrix, style: Style::InText, bracket: Bracket::Alignment, argument: None },
+    Environment { name: "cases", delimiters: Some((Some('{'), None)), layout: Layout::Cases, style: Style::InText, bracket: Bracket::Nothing, argument: None },
+    Environment { name: "dcases", delimiters: Some((Some('{'), None)), layout: Layout::Cases, style: Style::InDisplay, bracket: Bracket::Nothing, argument: None },
+    Environment { name: "displaymath", delimiters: None, layout: Layout::Lines, style: Style::InDisplay, bracket: Bracket::Nothing, argument: None },
+    Environment { name: "drcases", delimiters: Some((None, Some('}'))), layout: Layout::Cases, style: Style::InDisplay, bracket: Bracket::Nothing, argument: None },
     Environment { name: "eqnarray", delimiters: None, layout: Layout::AroundRelation, style: Style::InDisplay, bracket: Bracket::Nothing, argument: None },
     Environment { name: "eqnarray*", delimiters: None, layout: Layout::AroundRelation, style: Style::InDisplay, bracket: Bracket::Nothing, argument: None },
-    Environment { name: "equation", delimiters: None, layout: Layout::Centered, style: Style::InDisplay, bracket: Bracket::Nothing, argument: None },
-    Environment { name: "equation*", delimiters: None, layout: Layout::Centered, style: Style::InDisplay, bracket: Bracket::Nothing, argument: None },
+    Environment { name: "equation", delimiters: None, layout: Layout::Lines, style: Style::InDisplay, bracket: Bracket::Nothing, argument: None },
+    Environment { name: "equation*", delimiters: None, layout: Layout::Lines, style: Style::InDisplay, bracket: Bracket::Nothing, argument: None },
     Environment { name: "flalign", delimiters: None, layout: Layout::InPairs, style: Style::InDisplay, bracket: Bracket::Nothing, argument: None },
     Environment { name: "flalign*", delimiters: None, layout: Layout::InPairs, style: Style::InDisplay, bracket: Bracket::Nothing, argument: None },
-    Environment { name: "gather", delimiters: None, layout: Layout::Centered, style: Style::InDisplay, bracket: Bracket::Nothing, argument: None },
-    Environment { name: "gather*", delimiters: None, layout: Layout::Centered, style: Style::InDisplay, bracket: Bracket::Nothing, argument: None },
-    Environment { name: "gathered", delimiters: None, layout: Layout::Centered, style: Style::InDisplay, bracket: Bracket::Position, argument: None },
-    Environment { name: "math", delimiters: None, layout: Layout::Centered, style: Style::InText, bracket: Bracket::Nothing, argument: None },
-    Environment { name: "matrix", delimiters: None, layout: Layout::Centered, style: Style::InText, bracket: Bracket::Nothing, argument: None },
-    Environment { name: "matrix*", delimiters: None, layout: Layout::Centered, style: Style::InText, bracket: Bracket::Alignment, argument: None },
-    Environment { name: "multline", delimiters: None, layout: Layout::LeftAligned, style: Style::InDisplay, bracket: Bracket::Nothing, argument: None },
-    Environment { name: "multline*", delimiters: None, layout: Layout::LeftAligned, style: Style::InDisplay, bracket: Bracket::Nothing, argument: None },
-    Environment { name: "pmatrix", delimiters: Some((Some('('), Some(')'))), layout: Layout::Centered, style: Style::InText, bracket: Bracket::Nothing, argument: None },
-    Environment { name: "pmatrix*", delimiters: Some((Some('('), Some(')'))), layout: Layout::Centered, style: Style::InText, bracket: Bracket::Alignment, argument: None },
-    Environment { name: "rcases", delimiters: Some((None, Some('}'))), layout: Layout::LeftAligned, style: Style::InText, bracket: Bracket::Nothing, argument: None },
-    Environment { name: "smallmatrix", delimiters: None, layout: Layout::Dense, style: Style::InScript, bracket: Bracket::Nothing, argument: None },
+    Environment { name: "gather", delimiters: None, layout: Layout::Lines, style: Style::InDisplay, bracket: Bracket::Nothing, argument: None },
+    Environment { name: "gather*", delimiters: None, layout: Layout::Lines, style: Style::InDisplay, bracket: Bracket::Nothing, argument: None },
+    Environment { name: "gathered", delimiters: None, layout: Layout::Lines, style: Style::InDisplay, bracket: Bracket::Position, argument: None },
+    Environment { name: "math", delimiters: None, layout: Layout::Matrix, style: Style::InText, bracket: Bracket::Nothing, argument: None },
+    Environment { name: "matrix", delimiters: None, layout: Layout::Matrix, style: Style::InText, bracket: Bracket::Nothing, argument: None },
+    Environment { name: "matrix*", delimiters: None, layout: Layout::Matrix, style: Style::InText, bracket: Bracket::Alignment, argument: None },
+    Environment { name: "multline", delimiters: None, layout: Layout::BrokenLine, style: Style::InDisplay, bracket: Bracket::Nothing, argument: None },
+    Environment { name: "multline*", delimiters: None, layout: Layout::BrokenLine, style: Style::InDisplay, bracket: Bracket::Nothing, argument: None },
+    Environment { name: "pmatrix", delimiters: Some((Some('('), Some(')'))), layout: Layout::Matrix, style: Style::InText, bracket: Bracket::Nothing, argument: None },
+    Environment { name: "pmatrix*", delimiters: Some((Some('('), Some(')'))), layout: Layout::Matrix, style: Style::InText, bracket: Bracket::Alignment, argument: None },
+    Environment { name: "rcases", delimiters: Some((None, Some('}'))), layout: Layout::Cases, style: Style::InText, bracket: Bracket::Nothing, argument: None },
+    Environment { name: "smallmatrix", delimiters: None, layout: Layout::Small, style: Style::InScript, bracket: Bracket::Nothing, argument: None },
     Environment { name: "split", delimiters: None, layout: Layout::InPairs, style: Style::InDisplay, bracket: Bracket::Nothing, argument: None },
-    Environment { name: "subarray", delimiters: None, layout: Layout::Dense, style: Style::InScript, bracket: Bracket::Nothing, argument: Some(Argument::ColumnList) },
-    Environment { name: "substack", delimiters: None, layout: Layout::Dense, style: Style::InScript, bracket: Bracket::Nothing, argument: None },
-    Environment { name: "vmatrix", delimiters: Some((Some('|'), Some('|'))), layout: Layout::Centered, style: Style::InText, bracket: Bracket::Nothing, argument: None },
-    Environment { name: "vmatrix*", delimiters: Some((Some('|'), Some('|'))), layout: Layout::Centered, style: Style::InText, bracket: Bracket::Alignment, argument: None },
+    Environment { name: "subarray", delimiters: None, layout: Layout::Small, style: Style::InScript, bracket: Bracket::Nothing, argument: Some(Argument::ColumnList) },
+    Environment { name: "substack", delimiters: None, layout: Layout::Small, style: Style::InScript, bracket: Bracket::Nothing, argument: None },
+    Environment { name: "vmatrix", delimiters: Some((Some('|'), Some('|'))), layout: Layout::Matrix, style: Style::InText, bracket: Bracket::Nothing, argument: None },
+    Environment { name: "vmatrix*", delimiters: Some((Some('|'), Some('|'))), layout: Layout::Matrix, style: Style::InText, bracket: Bracket::Alignment, argument: None },
 ];

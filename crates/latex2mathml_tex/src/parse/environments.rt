@@ -13,7 +13,7 @@ ghost use Rattle.latex2mathml_tex.specs.Steps.{BeginsIn, CanBegin, Advances, Lea
 
 use crate::parse::frames::TableKind;
 use crate::parse::{Parser, State};
-use latex2mathml_attributes::columns::{Alignment, Columns, ListedColumn};
+use latex2mathml_attributes::columns::{Alignment, Columns, Density, ListedColumn};
 use latex2mathml_attributes::line::Line;
 use latex2mathml_tex_atoms::atoms::Context;
 use latex2mathml_tex_units::environments::{Bracket, Environment};
@@ -89,15 +89,15 @@ impl<'a> Parser<'a> {
         ensures step { Advances 13 self.old self.new next.new result }
     {
         if self.input.take_in_brackets('l') {
-            let columns = Columns::alike(Alignment::LeftAligned);
+            let columns = Columns::alike(Density::Usual, Alignment::LeftAligned);
             return self.begin_rows(environment, columns, place, context, next);
         }
         if self.input.take_in_brackets('c') {
-            let columns = Columns::alike(Alignment::Centered);
+            let columns = Columns::alike(Density::Usual, Alignment::Centered);
             return self.begin_rows(environment, columns, place, context, next);
         }
         if self.input.take_in_brackets('r') {
-            let columns = Columns::alike(Alignment::RightAligned);
+            let columns = Columns::alike(Density::Usual, Alignment::RightAligned);
             return self.begin_rows(environment, columns, place, context, next);
         }
         self.begin_rows(

@@ -18,7 +18,7 @@ ghost use Rattle.latex2mathml_tex.specs.Steps.{BeginsIn, BeginsTable, CanBegin, 
 use crate::parse::frames::{Ending, Frame, Table, TableKind};
 use crate::parse::{Parser, State};
 use latex2mathml_attributes::attributes::{Attributes, MathStyle};
-use latex2mathml_attributes::columns::{Alignment, Columns};
+use latex2mathml_attributes::columns::{Alignment, Columns, Density};
 use latex2mathml_attributes::line::Line;
 use latex2mathml_attributes::tag::Container;
 use latex2mathml_builder::builder::Builder;
@@ -75,7 +75,7 @@ impl<'a> Parser<'a> {
             *next = State::Refused;
             return Ok(());
         };
-        let columns = Columns::alike(Alignment::Dense);
+        let columns = Columns::alike(Density::Dense, Alignment::Centered);
         self.begin_first_cell(TableKind::Braces, columns, place, next)
     }
 

@@ -1,5 +1,5 @@
 use Rattle.std.proofs.Common.{◌≡◌, ◌+◌, ◌-◌, ◌<◌, ◌≤◌, ◌∙◌, ap, arith, drop, false, length, sym}
-use Rattle.latex2mathml_elements.specs.Columns.{Alike, Centered}
+use Rattle.latex2mathml_elements.specs.Columns.{InPairs}
 use Rattle.latex2mathml_elements.specs.Lines.{is_drawn}
 use Rattle.latex2mathml_builder.specs.{Built.settled_in, Due.first_line, Due.has_line, Due.settled_from}
 use Rattle.latex2mathml_builder.proofs.{Parts.settled_count, Tables.line_among}
@@ -16,5 +16,5 @@ elements-preserved c =
     let fewer : end - place - 1 ≡ end - (place + 1) = omega arith in
     record {
       within = omega (arith, c.elements-test.true);
-      same = sym (line_among (Alike Centered) (settled_in b) place (end - place) some enough false none ∙ ap (λ k. has_line (settled_from b (place + 1) k)) fewer) ∙ c.elements.invariant.same;
+      same = sym (line_among InPairs (settled_in b) place (end - place) some enough false none ∙ ap (λ k. has_line (settled_from b (place + 1) k)) fewer) ∙ c.elements.invariant.same;
     }

@@ -1,5 +1,5 @@
 use Rattle.std.proofs.Common.{◌≡◌, List, [], ◌∷◌, ℕ, ap, arith, subst, sym}
-use Rattle.latex2mathml_elements.specs.Columns.{Alike, Centered, Columns, LeftAligned, RightAligned}
+use Rattle.latex2mathml_elements.specs.Columns.{Alike, Centered, Columns, LeftAligned, RightAligned, Usual}
 use Rattle.latex2mathml_tex_grammar.specs.Rules.{Rule, in_brackets, rows_rule, takes_if}
 use Rattle.latex2mathml_tex_units.specs.{Left.unit_count, Left.units_at, Environments.environment_of}
 use Rattle.latex2mathml_tex.specs.Frames.{Start, context_at}
@@ -21,10 +21,10 @@ abbrev in_line : ℕ → Context → Environment → Columns → List ℕ → Ru
 in_line place context e columns letter = rows place context e columns
 
 abbrev unless_middle : ℕ → Context → Environment → Rule
-unless_middle place context e = takes_if (in_brackets 114) (in_line place context e (Alike RightAligned)) (rows place context e (environment_of e).columns)
+unless_middle place context e = takes_if (in_brackets 114) (in_line place context e (Alike Usual RightAligned)) (rows place context e (environment_of e).columns)
 
 abbrev unless_left : ℕ → Context → Environment → Rule
-unless_left place context e = takes_if (in_brackets 99) (in_line place context e (Alike Centered)) (unless_middle place context e)
+unless_left place context e = takes_if (in_brackets 99) (in_line place context e (Alike Usual Centered)) (unless_middle place context e)
 
 -- the same columns, as the code has them
 in_these : (s : Start) (q : Parser) (context : Context) (place : ℕ) (e : Environment) {these those : Columns} → these ≡ those → context_of context ≡ context_at (level 0 s q) → Begins (rows place context e those) 0 s q → BeginsIn context (rows place context e these) 0 s q
@@ -36,7 +36,7 @@ returns-then-take_in_brackets-clause-holds c = λ s g.
     let p = c.args.self.now in
     let i = c.take_in_brackets.new.self in
     let e = c.args.environment.now in
-    let found = past_units s p i (in_line c.args.place c.args.context e (Alike LeftAligned)) (91 ∷ 108 ∷ 93 ∷ []) c.if-take_in_brackets.ensures (begun g) in
+    let found = past_units s p i (in_line c.args.place c.args.context e (Alike Usual LeftAligned)) (91 ∷ 108 ∷ 93 ∷ []) c.if-take_in_brackets.ensures (begun g) in
     c.begin_rows.ensures.holds s (in_these s (record p { input = i }) c.args.context c.args.place e c.alike-columns.ensures g.context found)
 
 pub returns-then-take_in_brackets-clause-step : goal.returns-then-take_in_brackets-clause-step
@@ -55,7 +55,7 @@ returns-then-take_in_brackets-2-clause-holds c = λ s g.
     let place = c.args.place in
     let context = c.args.context in
     let behind = past_none s p i (unless_left place context e) c.if-take_in_brackets.ensures.0 c.if-take_in_brackets.ensures.1 (begun g) in
-    let found = past_units s (record p { input = i }) j (in_line place context e (Alike Centered)) (91 ∷ 99 ∷ 93 ∷ []) c.if-take_in_brackets-2.ensures behind in
+    let found = past_units s (record p { input = i }) j (in_line place context e (Alike Usual Centered)) (91 ∷ 99 ∷ 93 ∷ []) c.if-take_in_brackets-2.ensures behind in
     c.begin_rows-then-take_in_brackets-2.ensures.holds s (in_these s (record p { input = j }) context place e c.alike-columns-then-take_in_brackets-2.ensures g.context found)
 
 pub returns-then-take_in_brackets-2-clause-step : goal.returns-then-take_in_brackets-2-clause-step
@@ -78,7 +78,7 @@ returns-then-take_in_brackets-3-clause-holds c = λ s g.
     let context = c.args.context in
     let not_left = past_none s p i (unless_left place context e) c.if-take_in_brackets.ensures.0 c.if-take_in_brackets.ensures.1 (begun g) in
     let not_middle = past_none s (record p { input = i }) j (unless_middle place context e) c.if-take_in_brackets-2.ensures.0 c.if-take_in_brackets-2.ensures.1 not_left in
-    let found = past_units s (record p { input = j }) k (in_line place context e (Alike RightAligned)) (91 ∷ 114 ∷ 93 ∷ []) c.if-take_in_brackets-3.ensures not_middle in
+    let found = past_units s (record p { input = j }) k (in_line place context e (Alike Usual RightAligned)) (91 ∷ 114 ∷ 93 ∷ []) c.if-take_in_brackets-3.ensures not_middle in
     c.begin_rows-then-take_in_brackets-3.ensures.holds s (in_these s (record p { input = k }) context place e c.alike-columns-then-take_in_brackets-3.ensures g.context found)
 
 pub returns-then-take_in_brackets-3-clause-step : goal.returns-then-take_in_brackets-3-clause-step

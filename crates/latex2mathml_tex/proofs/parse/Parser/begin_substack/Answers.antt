@@ -1,5 +1,5 @@
 use Rattle.std.proofs.Common.{ℕ, List, arith, string_bytes}
-use Rattle.latex2mathml_elements.specs.Columns.{Alike, Dense}
+use Rattle.latex2mathml_elements.specs.Columns.{Alike, Centered, Dense}
 use Rattle.latex2mathml_tex_grammar.specs.Rules.{ByBrace, Rule, gives, reads_rows, styled}
 use Rattle.latex2mathml_tex_grammar.specs.Scanning.{BeforeBrace}
 use Rattle.latex2mathml_tex_grammar.specs.Symbols.{InScript}
@@ -15,7 +15,7 @@ returns-in_default-clause-holds c = λ s g.
     let q = c.take_text.new.self in
     let context = context_of c.args.context in
     let none = took_none string_bytes c.args.place BeforeBrace p q _ c.in_default.is c.in_ok-_brace.ensures in
-    text_refused p q c.args.place BeforeBrace s 0 (λ brace. reads_rows ByBrace c.args.place (Alike Dense) (styled context InScript) (λ lines end. gives (a_table None (Alike Dense) InScript context.style lines))) none g.style g.leads
+    text_refused p q c.args.place BeforeBrace s 0 (λ brace. reads_rows ByBrace c.args.place (Alike Dense Centered) (styled context InScript) (λ lines end. gives (a_table None (Alike Dense Centered) InScript context.style lines))) none g.style g.leads
 
 pub returns-clause-holds : goal.returns-clause-holds
 returns-clause-holds c = λ s g.
@@ -24,7 +24,7 @@ returns-clause-holds c = λ s g.
     let place = c.args.place in
     let context = context_of c.args.context in
     let took = took_some string_bytes place BeforeBrace p q _ c.in-Some._brace c.in-Some.is c.in_ok-_brace.ensures in
-    let rule : List ℕ → Rule = λ brace. reads_rows ByBrace place (Alike Dense) (styled context InScript) (λ lines end. gives (a_table None (Alike Dense) InScript context.style lines)) in
+    let rule : List ℕ → Rule = λ brace. reads_rows ByBrace place (Alike Dense Centered) (styled context InScript) (λ lines end. gives (a_table None (Alike Dense Centered) InScript context.style lines)) in
     let begins = text_taken p q place BeforeBrace (string_bytes c.in-Some._brace) took s c.args.context rule g in
     c.begin_first_cell.ensures.holds s (substack_begins s q c.alike-columns.result place c.args.context c.alike-columns.ensures begins)
 
