@@ -1,5 +1,5 @@
 -- Tables whose cells hold no character that XML forbids hold none, and the rules of tables give none.
-use Rattle.std.proofs.Common.{◌≡◌, ℕ, zero, suc, Bool, true, false, not, ◌&&◌, if◌then◌else◌, nat_le, List, [], ◌∷◌, length, Option, Some, None, refl, subst}
+use Rattle.std.proofs.Common.{◌≡◌, ℕ, zero, suc, ℤ, pos, negsuc, Bool, true, false, not, ◌&&◌, if◌then◌else◌, nat_le, List, [], ◌∷◌, length, Option, Some, None, refl, subst}
 use Rattle.std.proofs.lemmas.Bool.{and_parts}
 use Rattle.std.specs.{Bool.⊤, Char.encode_utf8, List.list_all, Str.bytes_eq, Str.chars}
 use Rattle.latex2mathml_elements.specs.Characters.{IsAllowed, HasAllowedTexts, EachTextOf, EachTextOfCells, EachTextOfRows}
@@ -9,7 +9,7 @@ use Rattle.latex2mathml_tex_grammar.specs.Environments.{columns_of, line_at, wri
 use Rattle.latex2mathml_tex_grammar.specs.{Rows.row_element, Symbols.Style}
 use Rattle.latex2mathml_tex_grammar.specs.Rules.{Context, ended_table, rows_rule, most_columns, listed_rule, argument_rule, bracket_rule, environment_rule}
 use Rattle.latex2mathml_tex_grammar.specs.Scanning.{Argument, Name, ColumnList, RepeatedColumns, Number, ColorName, Deed, Passes, Adds, Ends, Leaves, Misses, Refuses, Spot, deed, done, may_end, found_at_end, with_character, Found, Given, Missing, scan, behind_found, past, past_break, BeforeStar, BeforeLength, BeforeRow}
-use Rattle.latex2mathml_tex_grammar.specs.RowLines.{lined}
+use Rattle.latex2mathml_tex_grammar.specs.{RowGaps.with_gap, RowLines.lined}
 use Rattle.latex2mathml_tex_grammar.specs.Tables.{Lines, a_row, with_last, rows_onto, between_any, a_table}
 use Rattle.latex2mathml_tex_grammar.specs.Refusal.{Refusal}
 use Rattle.latex2mathml_tex_grammar.specs.Units.{Unit, Units, Next, End, Stop}
@@ -173,6 +173,11 @@ lined_allowed NoLine rows h = h
 lined_allowed OneLine rows h = (tt, h)
 lined_allowed TwoLines rows h = (tt, h)
 lined_allowed Dashes rows h = (tt, h)
+
+pub with_gap_allowed : (gap : ℤ) (x : Element) → HasAllowedTexts x → HasAllowedTexts (with_gap gap x)
+with_gap_allowed (pos zero) x h = h
+with_gap_allowed (pos (suc n)) x h = (h, (tt, tt))
+with_gap_allowed (negsuc n) x h = h
 
 pub past_break_allowed : (l : Units) → AreAllowedUnits l → AreAllowedUnits (past_break l)
 past_break_allowed l h =

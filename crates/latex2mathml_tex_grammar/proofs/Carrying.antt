@@ -1,5 +1,5 @@
 -- What units are read as, units that are alike but for white space are read as too.
-use Rattle.std.proofs.Common.{◌≡◌, ℕ, List, true, [], ◌∷◌, Option, refl, sym, ap, subst, ◌∙◌}
+use Rattle.std.proofs.Common.{◌≡◌, ℕ, ℤ, List, true, [], ◌∷◌, Option, refl, sym, ap, subst, ◌∙◌}
 use Rattle.latex2mathml_elements.specs.Columns.{Columns}
 use Rattle.latex2mathml_tex_grammar.specs.{Atoms.Atom, Atoms.Before, Delimiters.delimiter_of, Makes.Core, Makes.Scripts, Refusal.MissingDelimiter, Refusal.Refusal, Rows.Row, Rows.Operand, Symbols.Alphabet, Words.Words}
 use Rattle.latex2mathml_tex_grammar.specs.Next.{digits_next, past_space}
@@ -13,8 +13,8 @@ use Rattle.latex2mathml_tex_grammar.proofs.AlikeRests.{rest_too, no_rest_too}
 use Rattle.latex2mathml_tex_grammar.proofs.Plain.{change_start_plain, divider_plain, digit_start_plain, group_start_plain, step_plain}
 use Rattle.latex2mathml_tex_grammar.proofs.Spaces.{Front, next_stays, both_next, both_ended, both_stopped, fronts, fronts_of_words, looks_too, next_too, end_too, stop_too, refused_too, same_step, IsCalm, in_dollars, behind_plain, taken_too, missing_too, digits_too, IsPlain}
 use Rattle.latex2mathml_elements.specs.{Element.Element, Lines.Line}
-use Rattle.latex2mathml_tex_grammar.specs.{RowLines.is_line_command, RowLines.line_at, RowLines.line_next, RowLines.line_of, RowLines.lined, Scanning.BeforeRow, Rows.row_element, Tables.Lines, Tables.a_row}
-use Rattle.latex2mathml_tex_grammar.proofs.{Scans.found_too, Scans.refused_too as found_refused_too, Scans.past_too, Scans.past_break_too, Scans.past_gap_too}
+use Rattle.latex2mathml_tex_grammar.specs.{RowGaps.with_gap, RowLines.is_line_command, RowLines.line_at, RowLines.line_next, RowLines.line_of, RowLines.lined, Scanning.BeforeRow, Rows.row_element, Tables.Lines, Tables.a_row}
+use Rattle.latex2mathml_tex_grammar.proofs.{Scans.found_too, Scans.refused_too as found_refused_too, Scans.past_too, Scans.past_break_too, Scans.past_gap_too, Scans.gap_too}
 use Rattle.latex2mathml_tex_grammar.proofs.{WordPieces.word_ends, WordPieces.formula_begins, WordPieces.words_begin, WordPieces.words_follow}
 
 -- the same is read, and the units after it are alike, or the refusal is for the same reason
@@ -79,9 +79,10 @@ line_there (both_stopped e) = refl
 line_too : {at : Standing} {l m : Units} → AreAlike at l m → line_next l ≡ line_next m
 line_too h = line_there (fronts h)
 
--- the same line is before rows
-lined_too : {at : Standing} {end : TableEnd} {place : ℕ} {columns : Columns} {c : Context} {k : Units} {o : Outcome Lines} {a b : Line} (rows : List Element) → a ≡ b → Carried at (ReadsRows end place columns c (lined a rows) [] k) o → Carried at (ReadsRows end place columns c (lined b rows) [] k) o
-lined_too {at} {end} {place} {columns} {c} {k} {o} rows e h = subst (λ line. Carried at (ReadsRows end place columns c (lined line rows) [] k) o) e h
+-- the same line is behind the same rows
+lined_too : {at : Standing} {end : TableEnd} {place : ℕ} {columns : Columns} {c : Context} {k : Units} {o : Outcome Lines} {a b : Line} {xs ys : List Element} → a ≡ b → xs ≡ ys → Carried at (ReadsRows end place columns c (lined a xs) [] k) o → Carried at (ReadsRows end place columns c (lined b ys) [] k) o
+lined_too {at} {end} {place} {columns} {c} {k} {o} {b = b} {xs = xs} e f h =
+    subst (λ rows. Carried at (ReadsRows end place columns c (lined b rows) [] k) o) f (subst (λ line. Carried at (ReadsRows end place columns c (lined line xs) [] k) o) e h)
 
 mutual
   -- Where units are in a formula, everything is carried over to rules that are alike.
@@ -123,15 +124,15 @@ mutual
   carry_rule (found_refused e) (scanned_too {spot = spot} {p = p} {q = q} same) calm h = (let (r, kind, f) = found_refused_too p q spot calm h e in also_refused r kind (found_refused f))
   carry_rule (passed_over {spot = spot} d) (passed_too same) calm h = also (carry_rule d same calm (past_too spot calm h)) (λ p. passed_over)
   carry_rule (rows_read {u = u} {lines = lines} d p ds) (rows_too {q = q} same) calm h =
-      let (n, alike, e) = read_is (lined_too [] (line_too h) (carry_rows q d calm (past_too BeforeRow calm h))) in
+      let (n, alike, e) = read_is (lined_too (line_too h) refl (carry_rows q d calm (past_too BeforeRow calm h))) in
       let next = next_too alike p in
       let plain = behind_plain u.piece (rows_end d _ u p) calm next.alike in
       also (carry_rule ds (same lines u.place next.place) calm plain) (λ p. rows_read e next.is)
   carry_rule (rows_to_end {at = end} {lines = lines} d p ds) (rows_too {q = q} same) calm h =
-      let (n, alike, e) = read_is (lined_too [] (line_too h) (carry_rows q d calm (past_too BeforeRow calm h))) in
+      let (n, alike, e) = read_is (lined_too (line_too h) refl (carry_rows q d calm (past_too BeforeRow calm h))) in
       let (other, there) = end_too alike p in
       also (carry_rule ds (same lines end other) calm both_end) (λ p. rows_to_end e there)
-  carry_rule (rows_refused d) (rows_too {q = q} same) calm h = (let (r, kind, e) = refused_is (lined_too [] (line_too h) (carry_rows q d calm (past_too BeforeRow calm h))) in also_refused r kind (rows_refused e))
+  carry_rule (rows_refused d) (rows_too {q = q} same) calm h = (let (r, kind, e) = refused_is (lined_too (line_too h) refl (carry_rows q d calm (past_too BeforeRow calm h))) in also_refused r kind (rows_refused e))
 
   -- the place of what takes an operand makes no difference
   carry_operand : {at : Standing} {place : ℕ} {c : Context} {l m : Units} {o : Outcome Operand} (other : ℕ) → ReadsOperand place c l o → IsCalm at → AreAlike at l m → Carried at (ReadsOperand other c m) o
@@ -228,7 +229,8 @@ mutual
   carry_behind_cell other ended (next_row {rows = rows} {cells = cells} {cell = cell} {u = u} p s d) calm h =
       let next = next_too h p in
       let alike = behind_plain u.piece (ended _ u p) calm next.alike in
-      also (lined_too (a_row (row_element cell ∷ cells) ∷ rows) (line_too (past_gap_too calm alike)) (carry_rows other d calm (past_break_too calm alike))) (λ p. next_row next.is s)
+      let row = λ (gap : ℤ). a_row (with_gap gap (row_element cell) ∷ cells) ∷ rows in
+      also (lined_too (line_too (past_gap_too calm alike)) (ap row (gap_too calm alike)) (carry_rows other d calm (past_break_too calm alike))) (λ p. next_row next.is s)
   carry_behind_cell {m = m} other ended (table_ends p s) calm h = (let next = next_too h p in also_read m h (table_ends next.is s))
   carry_behind_cell {m = m} other ended (text_ends_table p) calm h = also_read m h (text_ends_table (end_too h p).1)
 

@@ -1,12 +1,12 @@
 -- What follows one outcome of units also follows another one, where the two are the same.
-use Rattle.std.proofs.Common.{◌≡◌, ℕ, Option, Some, None, refl, sym, ap, subst, List}
+use Rattle.std.proofs.Common.{◌≡◌, ℕ, ℤ, Option, Some, None, refl, sym, ap, subst, List}
 use Rattle.latex2mathml_elements.specs.Element.{Element}
 use Rattle.latex2mathml_elements.specs.Columns.{Columns}
 use Rattle.latex2mathml_tex_grammar.specs.{Atoms.Atom, Atoms.Before, Makes.Core, Makes.Scripts, Makes.no_scripts, Rows.Row, Rows.Operand, Rows.empty_row, Rows.with_atom}
 use Rattle.latex2mathml_tex_grammar.specs.Reading.{Outcome, Read, ReadsRule, ReadsOperand, ReadsScripts, ReadsAtom, divider_read, divider_refused, on_empty_row, base_read, base_refused, ReadsAtoms, ReadsWord, ReadsWords, ReadsRows, ReadsBehindCell}
 use Rattle.latex2mathml_tex_grammar.specs.Rests.{Rest, GoesOnIn, NoRest, rest_of}
 use Rattle.latex2mathml_tex_grammar.specs.Rules.{Context, Ending, InBraces, Rule, rule, TableEnd}
-use Rattle.latex2mathml_tex_grammar.specs.{Meaning.Change, Starts.atom_start, Starts.ChangeStart, Starts.step_next, Starts.step_of_mark, Starts.mark_of, Starts.Step, Starts.GoesOn, Starts.TakesOperand, Starts.Forbidden, Refusal.Kind, Refusal.Refusal, Refusal.refusal_at, Symbols.Alphabet, Words.Words, Words.WordRule, Words.TakesWords, Scanning.Found, Scanning.Given, Starts.CellEnd, Next.past_space, RowLines.line_next, RowLines.lined, Scanning.past_break, Scanning.past_gap, Tables.Lines, Tables.cell_of}
+use Rattle.latex2mathml_tex_grammar.specs.{Meaning.Change, Starts.atom_start, Starts.ChangeStart, Starts.step_next, Starts.step_of_mark, Starts.mark_of, Starts.Step, Starts.GoesOn, Starts.TakesOperand, Starts.Forbidden, Refusal.Kind, Refusal.Refusal, Refusal.refusal_at, Symbols.Alphabet, Words.Words, Words.WordRule, Words.TakesWords, Scanning.Found, Scanning.Given, Starts.CellEnd, Next.past_space, RowGaps.gap_at, RowLines.line_next, RowLines.lined, Scanning.past_break, Scanning.past_gap, Tables.Lines, Tables.cell_of}
 use Rattle.latex2mathml_tex_grammar.specs.Units.{Unit, Units, Next, End}
 
 -- what holds of the unit that comes next, and of the units after it, holds whichever way it was found
@@ -103,9 +103,9 @@ rows_moved_to_end then {x} {y} {a} {b} {j} {k} {o} e p q d =
     let at : b ≡ a = cc in
     subst (λ n. ReadsRule (then x n) (End n) o) at (subst (λ z. ReadsRule (then z b) (End b) o) same d)
 
-pub next_row_next : {end : TableEnd} {place : ℕ} {columns : Columns} {c : Context} {cells : List Element} (rows : List Element) {w m n : Units} {u v : Unit} {o : Outcome Lines} → w ≡ Next u m → w ≡ Next v n → ReadsRows end place columns c (lined (line_next (past_gap n)) rows) cells (past_break n) o → ReadsRows end place columns c (lined (line_next (past_gap m)) rows) cells (past_break m) o
+pub next_row_next : {end : TableEnd} {place : ℕ} {columns : Columns} {c : Context} {cells : List Element} (rows : ℤ → List Element) {w m n : Units} {u v : Unit} {o : Outcome Lines} → w ≡ Next u m → w ≡ Next v n → ReadsRows end place columns c (lined (line_next (past_gap n)) (rows (gap_at n))) cells (past_break n) o → ReadsRows end place columns c (lined (line_next (past_gap m)) (rows (gap_at m))) cells (past_break m) o
 next_row_next {end} {place} {columns} {c} {cells} rows {o = o} p q d =
-    next_is (λ u m. ReadsRows end place columns c (lined (line_next (past_gap m)) rows) cells (past_break m) o) p q d
+    next_is (λ u m. ReadsRows end place columns c (lined (line_next (past_gap m)) (rows (gap_at m))) cells (past_break m) o) p q d
 
 pub rows_next : {end : TableEnd} {place : ℕ} {columns : Columns} {c : Context} {rows cells : List Element} (behind : Units → Units) {w m n : Units} {u v : Unit} {o : Outcome Lines} → w ≡ Next u m → w ≡ Next v n → ReadsRows end place columns c rows cells (behind n) o → ReadsRows end place columns c rows cells (behind m) o
 rows_next {end} {place} {columns} {c} {rows} {cells} behind {o = o} p q d = next_is (λ u m. ReadsRows end place columns c rows cells (behind m) o) p q d

@@ -28,6 +28,7 @@ pub mod Next
 pub mod Reading
 pub mod Refusal
 pub mod Rests
+pub mod RowGaps
 pub mod RowLines
 pub mod Rows
 pub mod Rules
