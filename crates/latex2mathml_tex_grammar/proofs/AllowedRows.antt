@@ -1,5 +1,5 @@
 -- Tables whose cells hold no character that XML forbids hold none, and the rules of tables give none.
-use Rattle.std.proofs.Common.{◌≡◌, ℕ, zero, suc, ℤ, pos, negsuc, Bool, true, false, not, ◌&&◌, if◌then◌else◌, nat_le, List, [], ◌∷◌, length, Option, Some, None, refl, subst}
+use Rattle.std.proofs.Common.{◌≡◌, ℕ, zero, suc, Bool, true, false, not, ◌&&◌, if◌then◌else◌, nat_le, List, [], ◌∷◌, length, Option, Some, None, refl, subst}
 use Rattle.std.proofs.lemmas.Bool.{and_parts}
 use Rattle.std.specs.{Bool.⊤, Char.encode_utf8, List.list_all, Str.bytes_eq, Str.chars}
 use Rattle.latex2mathml_elements.specs.Characters.{IsAllowed, HasAllowedTexts, EachTextOf, EachTextOfCells, EachTextOfRows}
@@ -174,10 +174,9 @@ lined_allowed OneLine rows h = (tt, h)
 lined_allowed TwoLines rows h = (tt, h)
 lined_allowed Dashes rows h = (tt, h)
 
-pub with_gap_allowed : (gap : ℤ) (x : Element) → HasAllowedTexts x → HasAllowedTexts (with_gap gap x)
-with_gap_allowed (pos zero) x h = h
-with_gap_allowed (pos (suc n)) x h = (h, (tt, tt))
-with_gap_allowed (negsuc n) x h = h
+pub with_gap_allowed : (gap : ℕ) (x : Element) → HasAllowedTexts x → HasAllowedTexts (with_gap gap x)
+with_gap_allowed zero x h = h
+with_gap_allowed (suc n) x h = (h, (tt, tt))
 
 pub past_break_allowed : (l : Units) → AreAllowedUnits l → AreAllowedUnits (past_break l)
 past_break_allowed l h =

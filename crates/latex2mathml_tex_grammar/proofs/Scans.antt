@@ -3,7 +3,7 @@ use Rattle.std.proofs.Common.{◌≡◌, ◌==◌, ◌||◌, ℕ, Bool, true, fa
 use Rattle.std.proofs.{lemmas.Bool.cases_Bool}
 use Rattle.std.specs.{Char.encode_utf8, Str.byte}
 use Rattle.latex2mathml_tex_grammar.specs.{Commands.command_entries, Commands.meaning_of, CommandsFromM.commands_from_m, CommandsUpToL.commands_up_to_l}
-use Rattle.latex2mathml_tex_grammar.specs.{Meaning.takes_words, RowGaps.gap_at, RowGaps.width_found}
+use Rattle.latex2mathml_tex_grammar.specs.{Meaning.takes_words, RowGaps.gap_at, RowGaps.space_found}
 use Rattle.latex2mathml_tex_grammar.specs.Refusal.{UnknownColumn, Refusal}
 use Rattle.latex2mathml_tex_grammar.specs.Scanning.{Name, ColumnList, RepeatedColumns, Number, ColorName, Spot, BeforeArgument, InArgument, BeforeGap, InGap, BeforeTimes, InTimes, BeforeRepeated, BeforeBrace, BeforePosition, InPosition, BehindPosition, BeforeStar, BehindStar, BeforeLength, BeforeLengthInBraces, InLength, BehindSign, InNumber, InDecimals, BehindLetter, BehindLength, AtBracket, AtBrace, AtUnit, BeforeRow, Deed, Passes, Adds, Ends, Leaves, Misses, Refuses, deed, done, is_line, may_end, found_at_end, with_character, Found, Given, Missing, scan, behind_found, past, past_break, past_gap}
 use Rattle.latex2mathml_tex_grammar.specs.Spacing.{Standing, standing_behind, AreAlike, both_end, both_stop, same_piece, space_before, space_behind}
@@ -211,12 +211,12 @@ past_too spot calm h = behind_alike (scan_alike 0 0 calm h spot) h
 pub past_gap_too : {at : Standing} {l m : Units} → IsCalm at → AreAlike at l m → AreAlike at (past_gap l) (past_gap m)
 past_gap_too calm h = past_too BeforeLength calm (past_too BeforeStar calm h)
 
-width_alike : {at : Standing} {x y : Found} → FoundAlike at x y → width_found x ≡ width_found y
-width_alike (both_given text h) = refl
-width_alike (both_missing e) = refl
+space_alike : {at : Standing} {x y : Found} → FoundAlike at x y → space_found x ≡ space_found y
+space_alike (both_given text h) = refl
+space_alike (both_missing e) = refl
 
 pub gap_too : {at : Standing} {l m : Units} → IsCalm at → AreAlike at l m → gap_at l ≡ gap_at m
-gap_too calm h = width_alike (scan_alike 0 0 calm (past_too BeforeStar calm h) BeforeLength)
+gap_too calm h = space_alike (scan_alike 0 0 calm (past_too BeforeStar calm h) BeforeLength)
 
 pub past_break_too : {at : Standing} {l m : Units} → IsCalm at → AreAlike at l m → AreAlike at (past_break l) (past_break m)
 past_break_too calm h = past_too BeforeRow calm (past_gap_too calm h)

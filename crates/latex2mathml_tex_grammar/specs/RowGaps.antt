@@ -1,22 +1,22 @@
--- The space below a row, as in `\\[1ex]`.
-use Rattle.std.specs.Prelude.{ℕ, suc, ◌+◌, ℤ, pos, false, List, [], ◌∷◌, Option, Some, None}
+-- The space below a row, as in `\\\\[1ex]`.
+use Rattle.std.specs.Prelude.{ℕ, zero, suc, ◌+◌, ℤ, pos, false, List, [], ◌∷◌, Option, Some, None}
 use Rattle.latex2mathml_elements.specs.{Attributes.plain, Element.Element, Element.Mrow, Element.container, Element.children, Element.rectangle, Extents.Extent}
 use Rattle.latex2mathml_tex_grammar.specs.{Lengths.width_of, Scanning.Found, Scanning.Given, Scanning.Missing, Scanning.BeforeLength, Scanning.BeforeStar, Scanning.past, Scanning.scan}
 use Rattle.latex2mathml_tex_grammar.specs.Units.{Units}
 
--- a width, or none, where a length is too large
-abbrev pub any_width : Option ℤ → ℤ
-any_width None = pos 0
-any_width (Some width) = width
+-- the space that a width is: none if it is negative, or too large to be one
+abbrev pub space_of : Option ℤ → ℕ
+space_of (Some (pos n)) = n
+space_of width = 0
 
--- the width of what was found, where a length was
-abbrev pub width_found : Found → ℤ
-width_found (Given text l) = any_width (width_of text)
-width_found (Missing refusal) = pos 0
+-- the space of what was found, where a length was
+abbrev pub space_found : Found → ℕ
+space_found (Given text l) = space_of (width_of text)
+space_found (Missing refusal) = 0
 
 -- the space, in thousandths of an em, that these units say after the sign that ends a row
-abbrev pub gap_at : Units → ℤ
-gap_at l = width_found (scan 0 (past BeforeStar l) BeforeLength)
+abbrev pub gap_at : Units → ℕ
+gap_at l = space_found (scan 0 (past BeforeStar l) BeforeLength)
 
 -- how deep a row of letters is, in thousandths of an em: as in TeX, the space below a row begins there
 abbrev pub depth_of_row : ℕ
@@ -26,7 +26,7 @@ depth_of_row = 300
 abbrev pub down_to : ℕ → Element
 down_to gap = rectangle (record { width = pos 0; height = pos 0; depth = pos (gap + depth_of_row); is_black = false })
 
--- a cell in a row with this space below it; a browser puts no row nearer to another one
-abbrev pub with_gap : ℤ → Element → Element
-with_gap (pos (suc n)) x = container Mrow plain (children (x ∷ down_to (suc n) ∷ []))
-with_gap gap x = x
+-- a cell in a row with this space below it
+abbrev pub with_gap : ℕ → Element → Element
+with_gap zero x = x
+with_gap (suc n) x = container Mrow plain (children (x ∷ down_to (suc n) ∷ []))

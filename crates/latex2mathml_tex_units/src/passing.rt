@@ -2,8 +2,9 @@
 ghost use Rattle.std.specs.Prelude.{◌≡◌, ◌≤◌, ℕ, IfOk, OnOk, string_bytes};
 ghost use Rattle.latex2mathml_attributes.specs.Lines.{line_of};
 ghost use Rattle.latex2mathml_tex_grammar.specs.Next.{follows};
+ghost use Rattle.latex2mathml_tex_grammar.specs.RowGaps.{gap_at, space_found, space_of};
 ghost use Rattle.latex2mathml_tex_grammar.specs.RowLines.{is_line_command, line_next};
-ghost use Rattle.latex2mathml_tex_grammar.specs.Scanning.{BeforeRow, past, past_break, past_gap, scan};
+ghost use Rattle.latex2mathml_tex_grammar.specs.Scanning.{BeforeLength, BeforeRow, past, past_gap, scan};
 ghost use Rattle.latex2mathml_tex_units.specs.{Left.SameUnits, Left.unit_count, Left.units_at, Scans.IsFound, Scans.behind_text, Scans.spot_of};
 
 use crate::error::{TexError, TexErrorKind};
@@ -12,6 +13,7 @@ use crate::row_lines::{is_line_command, line_of};
 use crate::scanning::{Argument, Deed, Spot};
 use crate::unit::{Next, Piece};
 use latex2mathml_attributes::line::Line;
+use latex2mathml_tex_commands::lengths::width_of;
 use std::alloc::{AllocError, Global};
 
 impl<'a> Input<'a> {
@@ -114,16 +116,31 @@ impl<'a> Input<'a> {
         Ok(())
     }
 
-    /// Skips what may follow the sign that ends a row: its star, a length, and the lines before the next row. Returns how these
-    /// are drawn.
-    pub fn pass_break(&mut self, alloc: Global) -> Result<Line, AllocError>
-        ensures line { IfOk result (λ line.
-            line_of line ≡ line_next (past_gap (units_at self.old))) }
-        ensures units { OnOk result (units_at self.new ≡ past_break (units_at self.old)) }
+    /// Skips the star and the length that may follow the sign that ends a row. Returns the space below the row that the length
+    /// says, in thousandths of an em: none if there is no length, or one that is negative or too large.
+    pub fn pass_gap(&mut self, alloc: Global) -> Result<u32, AllocError>
+        ensures gap { IfOk result (λ gap. gap ≡ gap_at (units_at self.old)) }
+        ensures small { IfOk result (λ gap. gap ≤ 1638400) }
+        ensures units { OnOk result (units_at self.new ≡ past_gap (units_at self.old)) }
     {
         self.pass(alloc, Spot::BeforeStar)?;
-        self.pass(alloc, Spot::BeforeLength)?;
-        self.pass_lines(alloc)
+        self.pass_length(alloc)
+    }
+
+    /// Skips a length in brackets, if it is there. Returns the space that it is, in thousandths of an em.
+    fn pass_length(&mut self, alloc: Global) -> Result<u32, AllocError>
+        ensures space { IfOk result (λ space.
+            space ≡ space_found (scan 0 (units_at self.old) BeforeLength)) }
+        ensures small { IfOk result (λ space. space ≤ 1638400) }
+        ensures units { OnOk result (units_at self.new ≡ past BeforeLength (units_at self.old)) }
+    {
+        let start = self.taken;
+        let mut text = String::new(alloc);
+        if self.scan(0, Spot::BeforeLength, &mut text)?.is_some() {
+            self.taken = start;
+            return Ok(0);
+        }
+        Ok(space_of(width_of(text.as_str())))
     }
 
     /// Skips the lines before a row. Returns how they are drawn.
@@ -168,5 +185,15 @@ impl<'a> Input<'a> {
         };
         self.taken = start;
         is_line
+    }
+}
+
+/// Returns the space that a width is, in thousandths of an em: none if it is negative, or too large to be one.
+fn space_of(width: Option<i32>) -> u32
+    ensures { result ≡ space_of width }
+{
+    match width {
+        Some(width) if width > 0 => width as u32,
+        _ => 0,
     }
 }
