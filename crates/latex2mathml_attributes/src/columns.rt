@@ -249,6 +249,13 @@ impl Column {
         }
     }
 
+    /// Returns how its cells are aligned.
+    pub fn alignment(self) -> Alignment
+        ensures { alignment_of result ≡ (column_of self).alignment }
+    {
+        self.alignment
+    }
+
     /// Appends the start tag of a cell.
     #[tactic(auto, using(std::proofs::lemmas::Grind::common_steps))]
     pub fn append_tag(self, out: &mut String) -> Result<(), AllocError>

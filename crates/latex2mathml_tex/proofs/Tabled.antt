@@ -7,7 +7,7 @@ use Rattle.latex2mathml_elements.specs.Lines.{Line, NoLine, OneLine, TwoLines, D
 use Rattle.latex2mathml_elements.specs.Tables.{row_line}
 use Rattle.latex2mathml_builder.specs.Built.{Built, elements_in}
 use Rattle.latex2mathml_attributes.specs.Columns.{columns_of}
-use Rattle.latex2mathml_tex_grammar.specs.{RowLines.line_next, RowLines.lined, Atoms.Kind, Rows.Row, Rows.lone, Rows.row_element, Scanning.BeforeRow, Scanning.past, Scanning.past_break, Scanning.past_gap}
+use Rattle.latex2mathml_tex_grammar.specs.{RowGaps.gap_at, RowGaps.with_gap, RowLines.line_next, RowLines.lined, Atoms.Kind, Rows.Row, Rows.lone, Rows.row_element, Scanning.BeforeRow, Scanning.past, Scanning.past_break, Scanning.past_gap}
 use Rattle.latex2mathml_tex_grammar.specs.Reading.{Outcome, Read, Refused, ReadsAtoms, ReadsRows, cell_read, cell_refused, next_cell, next_row, table_ends, text_ends_table}
 use Rattle.latex2mathml_tex_grammar.specs.Rules.{Context as RuleContext, InCell, TableEnd, in_context, styled}
 use Rattle.latex2mathml_tex_grammar.specs.Starts.{PartsCells, EndsRow, EndsTable as TableEnds, cell_end}
@@ -173,16 +173,17 @@ module _ (s : Start) (p : Parser) (t : Table) (place : ℕ) (row : CodeRow) (u :
       subst (λ v. GoesOnTable v place s (record p { builder = b })) (sym is)
       (goes_on s (record p { builder = b }) next place (rows_of t below) (cell ∷ cells_of t below) outside g.style rows cells all (λ o d. g.leads o (next_cell g.next (sym ends) d)))
 
-  pub row_broken : (b : Built) (i : Input) (v : Table) (line : Line) → v ≡ record t { rows = t.rows + 1 + line_count line; cells = 0 } → elements_in b ≡ lined line (a_row (cell ∷ cells_of t below) ∷ drop t.cells below) → line ≡ line_next (past_gap (left_of p)) → units_at i ≡ past_break (left_of p) → EndsRow ≡ cell_end (piece_of u.piece) → GoesOnTable v place s (record p { builder = b; input = i })
-  row_broken b i v line is put follows units ends =
+  pub row_broken : (b : Built) (i : Input) (v : Table) (gap : ℕ) (line : Line) → v ≡ record t { rows = t.rows + 1 + line_count line; cells = 0 } → elements_in b ≡ lined line (a_row (with_gap gap cell ∷ cells_of t below) ∷ drop t.cells below) → gap ≡ gap_at (left_of p) → line ≡ line_next (past_gap (left_of p)) → units_at i ≡ past_break (left_of p) → EndsRow ≡ cell_end (piece_of u.piece) → GoesOnTable v place s (record p { builder = b; input = i })
+  row_broken b i v gap line is put below_it follows units ends =
       let n = t.rows + 1 + line_count line in
       let next : Table = record t { rows = n; cells = 0 } in
-      let last = a_row (cell ∷ cells_of t below) in
+      let last = a_row (with_gap gap cell ∷ cells_of t below) in
       let rows : rows_of next (elements_in b) ≡ lined line (last ∷ rows_of t below) = ap (take n) put ∙ lined_taken line t.rows last (drop t.cells below) in
       let none : 0 + n ≡ n = omega arith in
       let all : drop (0 + n) (elements_in b) ≡ outside = ap (λ n. drop n (elements_in b)) none ∙ ap (drop n) put ∙ lined_dropped line t.rows last (drop t.cells below) ∙ drop-drop t.rows t.cells below ∙ under in
-      let due : Due next place (lined (line_next (past_gap (left_of p))) (last ∷ rows_of t below)) [] (inside s p.frames.stack.items outside) (past_break (left_of p)) = λ o d. g.leads o (next_row g.next (sym ends) d) in
-      let due_with : Due next place (lined line (last ∷ rows_of t below)) [] (inside s p.frames.stack.items outside) (past_break (left_of p)) = subst (λ k. Due next place (lined k (last ∷ rows_of t below)) [] (inside s p.frames.stack.items outside) (past_break (left_of p))) (sym follows) due in
+      let due : Due next place (lined (line_next (past_gap (left_of p))) (a_row (with_gap (gap_at (left_of p)) cell ∷ cells_of t below) ∷ rows_of t below)) [] (inside s p.frames.stack.items outside) (past_break (left_of p)) = λ o d. g.leads o (next_row g.next (sym ends) d) in
+      let due_below : Due next place (lined (line_next (past_gap (left_of p))) (last ∷ rows_of t below)) [] (inside s p.frames.stack.items outside) (past_break (left_of p)) = subst (λ n. Due next place (lined (line_next (past_gap (left_of p))) (a_row (with_gap n cell ∷ cells_of t below) ∷ rows_of t below)) [] (inside s p.frames.stack.items outside) (past_break (left_of p))) (sym below_it) due in
+      let due_with : Due next place (lined line (last ∷ rows_of t below)) [] (inside s p.frames.stack.items outside) (past_break (left_of p)) = subst (λ k. Due next place (lined k (last ∷ rows_of t below)) [] (inside s p.frames.stack.items outside) (past_break (left_of p))) (sym follows) due_below in
       subst (λ v. GoesOnTable v place s (record p { builder = b; input = i })) (sym is)
       (goes_on s (record p { builder = b; input = i }) next place (lined line (last ∷ rows_of t below)) [] outside g.style rows refl all (subst (λ m. Due next place (lined line (last ∷ rows_of t below)) [] (inside s p.frames.stack.items outside) m) (sym units) due_with))
 

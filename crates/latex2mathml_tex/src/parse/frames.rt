@@ -15,7 +15,7 @@ ghost use Rattle.latex2mathml_tex_atoms.specs.Models.{empty_row};
 ghost use Rattle.latex2mathml_tex_units.specs.Taking.{piece_of};
 
 use latex2mathml_attributes::attributes::{Side, Stretch};
-use latex2mathml_attributes::columns::{Column, Columns};
+use latex2mathml_attributes::columns::{Alignment, Columns};
 use latex2mathml_tex_atoms::atoms::{Before, Context, Core, Operand, Row, Scripts};
 use latex2mathml_tex_atoms::outlines::Outline;
 use latex2mathml_tex_commands::meaning::{
@@ -223,8 +223,8 @@ impl Table {
         ensures before { before_of result.before
             ≡ before_cell (column_at (columns_of self.columns) self.cells).alignment }
     {
-        let before = match self.columns.column_at(self.cells) {
-            Column::SecondOfPair => Before::After(Class::Ordinary),
+        let before = match self.columns.column_at(self.cells).alignment() {
+            Alignment::SecondOfPair => Before::After(Class::Ordinary),
             _ => Before::After(Class::Opening),
         };
         Row {

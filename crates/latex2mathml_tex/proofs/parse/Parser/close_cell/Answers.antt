@@ -1,6 +1,6 @@
 use Rattle.std.proofs.Common.{ℕ, ◌+◌, ap, arith, drop, length, refl, sym, ◌∙◌}
 use Rattle.latex2mathml_attributes.specs.Lines.{line_of}
-use Rattle.latex2mathml_tex_grammar.specs.RowLines.{lined}
+use Rattle.latex2mathml_tex_grammar.specs.{RowLines.line_next, RowLines.lined, Scanning.BeforeRow, Scanning.past}
 use Rattle.latex2mathml_tex.specs.declared.parse.frames.Table.{Table}
 use Rattle.std.proofs.lemmas.List.{length-drop}
 use Rattle.latex2mathml_tex.specs.Steps.{core_made, elements_of}
@@ -20,11 +20,15 @@ returns-in_ok-lines-in-EndsRow-clause-holds c = λ s g.
     let line = line_of c.in_ok-line-in-EndsRow.line in
     let table : ℕ → Table = λ n. record t { rows = t.rows + 1 + n; cells = 0 } in
     let puts = c.in_ok-lines-in-EndsRow.ensures.elements ∙ ap (lined line) c.in_ok-put_last-in-EndsRow.ensures in
-    c.begin_cell-in-EndsRow.ensures.holds s (row_broken s c.args.self.now t c.args.place c.args.row c.args.unit g c.put_line.new.builder c.pass_break.new.self _ line (ap table c.in_ok-lines-in-EndsRow.ensures.count) puts c.in_ok-line-in-EndsRow.ensures.line c.in_ok-line-in-EndsRow.ensures.units ends)
+    let behind = c.in_ok-gap-in-EndsRow.ensures.units in
+    let follows = c.in_ok-line-in-EndsRow.ensures.line ∙ ap line_next behind in
+    let units = c.in_ok-line-in-EndsRow.ensures.units ∙ ap (past BeforeRow) behind in
+    c.begin_cell-in-EndsRow.ensures.holds s (row_broken s c.args.self.now t c.args.place c.args.row c.args.unit g c.put_line.new.builder c.pass_lines.new.self _ c.in_ok-gap-in-EndsRow.gap line (ap table c.in_ok-lines-in-EndsRow.ensures.count) puts c.in_ok-gap-in-EndsRow.ensures.gap follows units ends)
 
 pub returns-in_ok-lines-in-EndsRow-clause-step : goal.returns-in_ok-lines-in-EndsRow-clause-step
 returns-in_ok-lines-in-EndsRow-clause-step c =
-    broken_step c.args.self.now c.put_line.new.builder c.pass_break.new.self c.begin_cell-in-EndsRow.new.self c.begin_cell-in-EndsRow.new.next c.begin_cell-in-EndsRow.result c.in_ok-line-in-EndsRow.ensures.units c.begin_cell-in-EndsRow.ensures.step
+    let units = c.in_ok-line-in-EndsRow.ensures.units ∙ ap (past BeforeRow) c.in_ok-gap-in-EndsRow.ensures.units in
+    broken_step c.args.self.now c.put_line.new.builder c.pass_lines.new.self c.begin_cell-in-EndsRow.new.self c.begin_cell-in-EndsRow.new.next c.begin_cell-in-EndsRow.result units c.begin_cell-in-EndsRow.ensures.step
 
 pub returns-in-EndsTable-clause-holds : goal.returns-in-EndsTable-clause-holds
 returns-in-EndsTable-clause-holds c = λ s g.
