@@ -1,10 +1,13 @@
 //! The columns of tables.
-ghost use Rattle.std.specs.Prelude.{◌≡◌, ◌<◌, ◌++◌, [], OnOk, get_or, string_bytes};
+ghost use Rattle.std.specs.Prelude.{◌≡◌, ◌<◌, ◌≤◌, ◌++◌, [], OnOk, get_or, string_bytes};
 ghost use Rattle.latex2mathml_elements.specs.Print.{cell_tag, spacing_style};
-ghost use Rattle.latex2mathml_elements.specs.Columns.{Alike, AroundRelation, Centered, InPairs, Listed, are_lined, between, column_at, spaced, unlined};
+ghost use Rattle.latex2mathml_elements.specs.Struts.{strut};
+ghost use Rattle.latex2mathml_elements.specs.Columns.{Alike, AroundRelation, Centered, InPairs, Listed, are_lined, between, column_at, density_in, spaced, unlined};
+ghost use Rattle.latex2mathml_attributes.specs.Arounds.{extent_of};
 ghost use Rattle.latex2mathml_attributes.specs.Columns.{alignment_of, behind_line, cell_start, column_of, columns_of, columns_in, density_of, has_room, line_before, listed_behind, listed_of, numbered, spacing_of};
 ghost use Rattle.latex2mathml_attributes.specs.Lines.{line_of};
 
+use crate::extent::Extent;
 use crate::line::Line;
 use std::alloc::AllocError;
 
@@ -21,7 +24,7 @@ pub enum Alignment {
     SecondOfPair,
 }
 
-/// How far apart the rows of a table are, and its columns.
+/// How far apart the rows of a table are, and what is in them.
 #[derive(Debug, Clone, Copy)]
 pub enum Density {
     /// As in `smallmatrix`.
@@ -206,30 +209,32 @@ impl Density {
         ensures { result.now ≡ spacing_style (density_of self) (spacing_of spacing) }
     {
         match (self, spacing) {
-            (Density::Dense, Spacing::Unspaced) =>
-                "padding: 0.1em 0; height: 0.66em; line-height: 0.66em",
-            (Density::Dense, Spacing::Before) =>
-                "padding: 0.1em 0 0.1em 0.4em; height: 0.66em; line-height: 0.66em",
-            (Density::Dense, Spacing::Around) =>
-                "padding: 0.1em 0.2em; height: 0.66em; line-height: 0.66em",
-            (Density::Usual, Spacing::Unspaced) =>
-                "padding: 0.1em 0; height: 1em; line-height: 1em",
-            (Density::Usual, Spacing::Before) =>
-                "padding: 0.1em 0 0.1em 1em; height: 1em; line-height: 1em",
-            (Density::Usual, Spacing::Around) =>
-                "padding: 0.1em 0.5em; height: 1em; line-height: 1em",
-            (Density::Stretched, Spacing::Unspaced) =>
-                "padding: 0.22em 0; height: 1em; line-height: 1em",
-            (Density::Stretched, Spacing::Before) =>
-                "padding: 0.22em 0 0.22em 1em; height: 1em; line-height: 1em",
-            (Density::Stretched, Spacing::Around) =>
-                "padding: 0.22em 0.5em; height: 1em; line-height: 1em",
-            (Density::Opened, Spacing::Unspaced) =>
-                "padding: 0.25em 0; height: 1em; line-height: 1em",
-            (Density::Opened, Spacing::Before) =>
-                "padding: 0.25em 0 0.25em 1em; height: 1em; line-height: 1em",
-            (Density::Opened, Spacing::Around) =>
-                "padding: 0.25em 0.5em; height: 1em; line-height: 1em",
+            (Density::Dense, Spacing::Before) => "padding: 0 0 0 0.4em",
+            (Density::Dense, Spacing::Around) => "padding: 0 0.2em",
+            (Density::Opened, Spacing::Unspaced) => "padding: 0.15em 0",
+            (Density::Opened, Spacing::Before) => "padding: 0.15em 0 0.15em 1em",
+            (Density::Opened, Spacing::Around) => "padding: 0.15em 0.5em",
+            (_, Spacing::Unspaced) => "padding: 0",
+            (_, Spacing::Before) => "padding: 0 0 0 1em",
+            (_, Spacing::Around) => "padding: 0 0.5em",
+        }
+    }
+
+    /// Returns the strut of a row that has this space below it, in thousandths of an em.
+    pub fn strut(self, gap: u32) -> Extent
+        requires { gap ≤ 1638400 }
+        ensures { extent_of result ≡ strut (density_of self) gap }
+    {
+        let (height, depth) = match self {
+            Density::Dense => (600, 257),
+            Density::Usual | Density::Opened => (840, 360),
+            Density::Stretched => (1008, 432),
+        };
+        Extent {
+            width: 0,
+            height,
+            depth: gap as i32 + depth,
+            is_black: false,
         }
     }
 }
@@ -372,6 +377,17 @@ impl Columns {
             self.before
         } else {
             Line::Nothing
+        }
+    }
+
+    /// Returns how far apart the rows are.
+    pub fn density(&self) -> Density
+        ensures { density_of result ≡ density_in (columns_of self.now) }
+    {
+        match self.kind {
+            Kind::Alike(density, _) => density,
+            Kind::InPairs | Kind::AroundRelation => Density::Opened,
+            Kind::Listed => Density::Usual,
         }
     }
 

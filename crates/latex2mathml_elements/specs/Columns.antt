@@ -16,7 +16,7 @@ pub data Spacing : Type 0 where
   SpaceBefore : Spacing
   SpaceAround : Spacing
 
--- how far apart the rows of a table are, and its columns
+-- how far apart the rows of a table are, and what is in them
 pub data Density : Type 0 where
   -- as in `smallmatrix` of TeX
   Dense : Density
@@ -73,6 +73,13 @@ column_at AroundRelation (suc (suc (suc k))) = spaced Opened SpaceAround Centere
 column_at (Listed line []) k = unlined Centered
 column_at (Listed line (column ∷ columns)) zero = record column { before = line }
 column_at (Listed line (column ∷ columns)) (suc k) = column_at (Listed NoLine columns) k
+
+-- how far apart the rows of a table in these columns are
+abbrev pub density_in : Columns → Density
+density_in (Alike density alignment) = density
+density_in InPairs = Opened
+density_in AroundRelation = Opened
+density_in (Listed line columns) = Usual
 
 -- whether one of these columns has a line after it
 abbrev pub any_lined : List Column → Bool

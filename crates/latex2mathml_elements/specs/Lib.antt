@@ -10,4 +10,5 @@ pub mod Groups
 pub mod Laws
 pub mod Lines
 pub mod Print
+pub mod Struts
 pub mod Tables

@@ -1,7 +1,7 @@
 -- How elements are written.
 use Rattle.std.specs.Prelude.{ℕ, Bool, true, false, ◌||◌, List, [], ◌++◌, Option, Some, None, codes}
 use Rattle.latex2mathml_elements.specs.Attributes.{Attributes, Side, Above, Below, Form, Prefix, Infix, Postfix, Stretch, Stretching, Rigid, Space, NoSpace, Narrow, Thick, NoSpaceBefore, ThickAfter, Size, Big, Bigger, VeryBig, Biggest, MathStyle, DisplayStyle, TextStyle, ScriptStyle, Boxing, NoWidth, Flat, NoHeight, NoDepth, ByItsWidth, ByHalfItsWidth, Framed, StruckUp, StruckDown, StruckTwice, JoinedLines}
-use Rattle.latex2mathml_elements.specs.Columns.{Alignment, LeftAligned, RightAligned, SecondOfPair, Density, Dense, Usual, Stretched, Opened, Spacing, Unspaced, SpaceBefore, SpaceAround, Column}
+use Rattle.latex2mathml_elements.specs.Columns.{Alignment, LeftAligned, RightAligned, SecondOfPair, Density, Dense, Opened, Spacing, Unspaced, SpaceBefore, SpaceAround, Column}
 use Rattle.latex2mathml_elements.specs.Element.{Token, Mi, Mn, Mo, Mtext, Container, Mrow, Msqrt, Mstyle, Mpadded, Mphantom, Pair, Mfrac, Mroot, Msub, Msup, Munder, Mover, Triple, Msubsup, Munderover, Element, Elements, Rows, Cells, token, space, rectangle, container, pair, triple, table, none, more, one_row, more_rows, one_cell, more_cells}
 use Rattle.latex2mathml_elements.specs.Lines.{Line, NoLine, OneLine, TwoLines, Dashes, RowLines, is_lined}
 use Rattle.latex2mathml_elements.specs.{Colors.color_text, Extents.extent_text, Extents.length_if_any}
@@ -145,38 +145,17 @@ alignment_style SecondOfPair = codes "text-align: left; "
 alignment_style RightAligned = codes "text-align: right; text-align: -webkit-right; "
 alignment_style alignment = []
 
--- Rows of letters are as far apart as in TeX, whatever the letters are: 0.86, 1.2, 1.44 or 1.5 em, of which this is above and
--- below the contents of each cell,
-abbrev pub space_above : Density → List ℕ
-space_above Dense = codes "0.1em"
-space_above Usual = codes "0.1em"
-space_above Stretched = codes "0.22em"
-space_above Opened = codes "0.25em"
-
--- and this is the least height of the contents. Browsers take more where a line of text is higher.
-abbrev pub least_height : Density → List ℕ
-least_height Dense = codes "0.66em"
-least_height density = codes "1em"
-
--- the space at the sides of cells: a quad between columns, or half of one around each. Dense cells have less.
-abbrev pub space_between : Density → List ℕ
-space_between Dense = codes "0.4em"
-space_between density = codes "1em"
-
-abbrev pub space_around : Density → List ℕ
-space_around Dense = codes "0.2em"
-space_around density = codes "0.5em"
-
--- the space at all sides of cells, in the order of style sheets: above, at the right, below, and at the left
-abbrev pub space_style : Density → Spacing → List ℕ
-space_style density Unspaced = space_above density ++ codes " 0"
-space_style density SpaceBefore = space_above density ++ (codes " 0 " ++ (space_above density ++ (codes " " ++ space_between density)))
-space_style density SpaceAround = space_above density ++ (codes " " ++ space_around density)
-
--- the space in cells and around them, in the same language
+-- The space around the contents of cells, in the same language: above, at the right, below, and at the left. Between columns is a
+-- quad, or half of one around each; dense cells have less. Struts keep rows apart, and opened rows have more between them.
 abbrev pub spacing_style : Density → Spacing → List ℕ
-spacing_style density spacing =
-    codes "padding: " ++ (space_style density spacing ++ (codes "; height: " ++ (least_height density ++ (codes "; line-height: " ++ least_height density))))
+spacing_style Opened Unspaced = codes "padding: 0.15em 0"
+spacing_style Opened SpaceBefore = codes "padding: 0.15em 0 0.15em 1em"
+spacing_style Opened SpaceAround = codes "padding: 0.15em 0.5em"
+spacing_style Dense SpaceBefore = codes "padding: 0 0 0 0.4em"
+spacing_style Dense SpaceAround = codes "padding: 0 0.2em"
+spacing_style density Unspaced = codes "padding: 0"
+spacing_style density SpaceBefore = codes "padding: 0 0 0 1em"
+spacing_style density SpaceAround = codes "padding: 0 0.5em"
 
 -- how a line is drawn, in the same language: two lines and the space between them are a pixel wide each
 abbrev pub line_style : Line → List ℕ

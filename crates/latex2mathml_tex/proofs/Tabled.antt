@@ -1,17 +1,17 @@
 -- What holds of the parser within tables.
 use Rattle.std.proofs.Common.{◌≡◌, ℕ, zero, suc, ◌+◌, ◌<◌, ◌≤◌, List, [], ◌∷◌, drop, length, take, refl, sym, ap, subst, ◌∙◌, arith}
 use Rattle.std.proofs.lemmas.List.{drop-drop, length-drop, length-take-le}
-use Rattle.latex2mathml_elements.specs.Columns.{Columns, column_at}
+use Rattle.latex2mathml_elements.specs.{Columns.Columns, Columns.column_at, Columns.density_in, Extents.Extent, Struts.strut}
 use Rattle.latex2mathml_elements.specs.Element.{Element, rectangle}
 use Rattle.latex2mathml_elements.specs.Lines.{Line, NoLine, OneLine, TwoLines, Dashes}
 use Rattle.latex2mathml_elements.specs.Tables.{row_line}
 use Rattle.latex2mathml_builder.specs.Built.{Built, elements_in}
 use Rattle.latex2mathml_attributes.specs.Columns.{columns_of}
-use Rattle.latex2mathml_tex_grammar.specs.{RowGaps.gap_at, RowGaps.with_gap, RowLines.line_next, RowLines.lined, Atoms.Kind, Rows.Row, Rows.lone, Rows.row_element, Scanning.BeforeRow, Scanning.past, Scanning.past_break, Scanning.past_gap}
+use Rattle.latex2mathml_tex_grammar.specs.{RowGaps.gap_at, RowLines.line_next, RowLines.lined, Atoms.Kind, Rows.Row, Rows.lone, Rows.row_element, Scanning.BeforeRow, Scanning.past, Scanning.past_break, Scanning.past_gap}
 use Rattle.latex2mathml_tex_grammar.specs.Reading.{Outcome, Read, Refused, ReadsAtoms, ReadsRows, cell_read, cell_refused, next_cell, next_row, table_ends, text_ends_table}
 use Rattle.latex2mathml_tex_grammar.specs.Rules.{Context as RuleContext, InCell, TableEnd, in_context, styled}
 use Rattle.latex2mathml_tex_grammar.specs.Starts.{PartsCells, EndsRow, EndsTable as TableEnds, cell_end}
-use Rattle.latex2mathml_tex_grammar.specs.Tables.{Lines, a_row, before_cell, begun_cell, cell_of, with_last}
+use Rattle.latex2mathml_tex_grammar.specs.Tables.{Lines, a_row, row_of, before_cell, begun_cell, cell_of, with_last}
 use Rattle.latex2mathml_tex_grammar.specs.Units.{Units, End}
 use Rattle.latex2mathml_tex.specs.Frames.{Start, context_at, inside}
 use Rattle.latex2mathml_tex.specs.Innermost.{frame_context}
@@ -138,11 +138,11 @@ lone_length last [] = refl
 lone_length last (x ∷ []) = refl
 lone_length last (x ∷ y ∷ xs) = refl
 
-kept_last : (rows cells cell : List Element) → (length cell ≡ 0 → length cells ≡ 0 → length rows ≡ 0) → with_last rows cells cell ≡ record { last = a_row (row_element cell ∷ cells); others = rows }
-kept_last [] cells cell h = refl
-kept_last (row ∷ rows) (x ∷ cells) cell h = refl
-kept_last (row ∷ rows) [] (x ∷ cell) h = refl
-kept_last (row ∷ rows) [] [] h = absurd (let none = h refl refl in omega (arith, none))
+kept_last : (columns : Columns) (rows cells cell : List Element) → (length cell ≡ 0 → length cells ≡ 0 → length rows ≡ 0) → with_last columns rows cells cell ≡ record { last = a_row columns 0 (row_element cell) cells; others = rows }
+kept_last columns [] cells cell h = refl
+kept_last columns (row ∷ rows) (x ∷ cells) cell h = refl
+kept_last columns (row ∷ rows) [] (x ∷ cell) h = refl
+kept_last columns (row ∷ rows) [] [] h = absurd (let none = h refl refl in omega (arith, none))
 
 count_below : (n k : ℕ) (xs : List Element) → k + n ≤ length xs → n ≤ length (drop k xs)
 count_below n k xs h = simp length-drop (omega (arith, h))
@@ -173,16 +173,17 @@ module _ (s : Start) (p : Parser) (t : Table) (place : ℕ) (row : CodeRow) (u :
       subst (λ v. GoesOnTable v place s (record p { builder = b })) (sym is)
       (goes_on s (record p { builder = b }) next place (rows_of t below) (cell ∷ cells_of t below) outside g.style rows cells all (λ o d. g.leads o (next_cell g.next (sym ends) d)))
 
-  pub row_broken : (b : Built) (i : Input) (v : Table) (gap : ℕ) (line : Line) → v ≡ record t { rows = t.rows + 1 + line_count line; cells = 0 } → elements_in b ≡ lined line (a_row (with_gap gap cell ∷ cells_of t below) ∷ drop t.cells below) → gap ≡ gap_at (left_of p) → line ≡ line_next (past_gap (left_of p)) → units_at i ≡ past_break (left_of p) → EndsRow ≡ cell_end (piece_of u.piece) → GoesOnTable v place s (record p { builder = b; input = i })
-  row_broken b i v gap line is put below_it follows units ends =
+  pub row_broken : (b : Built) (i : Input) (v : Table) (gap : ℕ) (extent : Extent) (line : Line) → v ≡ record t { rows = t.rows + 1 + line_count line; cells = 0 } → elements_in b ≡ lined line (row_of extent cell (cells_of t below) ∷ drop t.cells below) → extent ≡ strut (density_in (columns_of t.columns)) gap → gap ≡ gap_at (left_of p) → line ≡ line_next (past_gap (left_of p)) → units_at i ≡ past_break (left_of p) → EndsRow ≡ cell_end (piece_of u.piece) → GoesOnTable v place s (record p { builder = b; input = i })
+  row_broken b i v gap extent line is puts props below_it follows units ends =
       let n = t.rows + 1 + line_count line in
       let next : Table = record t { rows = n; cells = 0 } in
-      let last = a_row (with_gap gap cell ∷ cells_of t below) in
+      let last = a_row (columns_of t.columns) gap cell (cells_of t below) in
+      let put : elements_in b ≡ lined line (last ∷ drop t.cells below) = puts ∙ ap (λ e. lined line (row_of e cell (cells_of t below) ∷ drop t.cells below)) props in
       let rows : rows_of next (elements_in b) ≡ lined line (last ∷ rows_of t below) = ap (take n) put ∙ lined_taken line t.rows last (drop t.cells below) in
       let none : 0 + n ≡ n = omega arith in
       let all : drop (0 + n) (elements_in b) ≡ outside = ap (λ n. drop n (elements_in b)) none ∙ ap (drop n) put ∙ lined_dropped line t.rows last (drop t.cells below) ∙ drop-drop t.rows t.cells below ∙ under in
-      let due : Due next place (lined (line_next (past_gap (left_of p))) (a_row (with_gap (gap_at (left_of p)) cell ∷ cells_of t below) ∷ rows_of t below)) [] (inside s p.frames.stack.items outside) (past_break (left_of p)) = λ o d. g.leads o (next_row g.next (sym ends) d) in
-      let due_below : Due next place (lined (line_next (past_gap (left_of p))) (last ∷ rows_of t below)) [] (inside s p.frames.stack.items outside) (past_break (left_of p)) = subst (λ n. Due next place (lined (line_next (past_gap (left_of p))) (a_row (with_gap n cell ∷ cells_of t below) ∷ rows_of t below)) [] (inside s p.frames.stack.items outside) (past_break (left_of p))) (sym below_it) due in
+      let due : Due next place (lined (line_next (past_gap (left_of p))) (a_row (columns_of t.columns) (gap_at (left_of p)) cell (cells_of t below) ∷ rows_of t below)) [] (inside s p.frames.stack.items outside) (past_break (left_of p)) = λ o d. g.leads o (next_row g.next (sym ends) d) in
+      let due_below : Due next place (lined (line_next (past_gap (left_of p))) (last ∷ rows_of t below)) [] (inside s p.frames.stack.items outside) (past_break (left_of p)) = subst (λ n. Due next place (lined (line_next (past_gap (left_of p))) (a_row (columns_of t.columns) n cell (cells_of t below) ∷ rows_of t below)) [] (inside s p.frames.stack.items outside) (past_break (left_of p))) (sym below_it) due in
       let due_with : Due next place (lined line (last ∷ rows_of t below)) [] (inside s p.frames.stack.items outside) (past_break (left_of p)) = subst (λ k. Due next place (lined k (last ∷ rows_of t below)) [] (inside s p.frames.stack.items outside) (past_break (left_of p))) (sym follows) due_below in
       subst (λ v. GoesOnTable v place s (record p { builder = b; input = i })) (sym is)
       (goes_on s (record p { builder = b; input = i }) next place (lined line (last ∷ rows_of t below)) [] outside g.style rows refl all (subst (λ m. Due next place (lined line (last ∷ rows_of t below)) [] (inside s p.frames.stack.items outside) m) (sym units) due_with))
@@ -198,8 +199,8 @@ text_ends_cell s p t place at n last row style left cell k =
     let due = (k _ (text_ends_table refl)).at_end at refl in
     record {
       style = style;
-      leads = subst (λ m. RuleLeads (behind_rows t (context_at l) (with_last (rows_of t (drop n (elements_of p))) (cells_of t (drop n (elements_of p))) (lone (kind_of last) (take n (elements_of p)))) at) (CoreMade l) m) (sym left)
-          (subst (λ xs. RuleLeads (behind_rows t (context_at l) (with_last (rows_of t (drop n (elements_of p))) (cells_of t (drop n (elements_of p))) xs) at) (CoreMade l) (End at)) cell due);
+      leads = subst (λ m. RuleLeads (behind_rows t (context_at l) (with_last (columns_of t.columns) (rows_of t (drop n (elements_of p))) (cells_of t (drop n (elements_of p))) (lone (kind_of last) (take n (elements_of p)))) at) (CoreMade l) m) (sym left)
+          (subst (λ xs. RuleLeads (behind_rows t (context_at l) (with_last (columns_of t.columns) (rows_of t (drop n (elements_of p))) (cells_of t (drop n (elements_of p))) xs) at) (CoreMade l) (End at)) cell due);
     }
 
 module _ (s : Start) (p : Parser) (t : Table) (count : ℕ) (kind : CodeKind) (at : ℕ) (g : EndsCells t count kind at s p) where
@@ -230,8 +231,8 @@ module _ (s : Start) (p : Parser) (t : Table) (count : ℕ) (kind : CodeKind) (a
       let (last, (rest, split)) = some_first t.rows (elements_of p) some there in
       let cells : cells_of t behind ≡ [] = ap (λ n. take n behind) no_cells in
       let no_atoms : atoms ≡ [] = ap (λ n. lone (kind_of kind) (take n (elements_of p))) empty in
-      let lines : with_last (rows_of t behind) (cells_of t behind) atoms ≡ record { last = last; others = rest } =
-      ap (λ k. with_last k (cells_of t behind) atoms) (sym others ∙ split) ∙ ap (λ k. with_last (last ∷ rest) k atoms) cells ∙ ap (with_last (last ∷ rest) []) no_atoms in
+      let lines : with_last (columns_of t.columns) (rows_of t behind) (cells_of t behind) atoms ≡ record { last = last; others = rest } =
+      ap (λ k. with_last (columns_of t.columns) k (cells_of t behind) atoms) (sym others ∙ split) ∙ ap (λ k. with_last (columns_of t.columns) (last ∷ rest) k atoms) cells ∙ ap (with_last (columns_of t.columns) (last ∷ rest) []) no_atoms in
       record {
         style = g.style;
         lines = record { last = last; others = rest };
@@ -239,15 +240,16 @@ module _ (s : Start) (p : Parser) (t : Table) (count : ℕ) (kind : CodeKind) (a
         leads = subst (λ n. Ended (record { last = last; others = rest }) (drop n (elements_of p))) beside (subst (λ k. Ended k beyond) lines g.leads);
       }
 
-  pub row_is_last : (b : Built) (n : ℕ) → n ≡ t.rows + 1 → (count ≡ 0 → t.cells ≡ 0 → t.rows ≡ 0) → count + (t.cells + t.rows) ≤ length (elements_of p) → elements_in b ≡ a_row (last_cell ∷ cells_of t behind) ∷ drop t.cells behind → EndsRows t.kind t.columns n at s (record p { builder = b })
-  row_is_last b n is no_other there put =
-      let last = a_row (last_cell ∷ cells_of t behind) in
+  pub row_is_last : (b : Built) (n : ℕ) (extent : Extent) → n ≡ t.rows + 1 → (count ≡ 0 → t.cells ≡ 0 → t.rows ≡ 0) → count + (t.cells + t.rows) ≤ length (elements_of p) → elements_in b ≡ row_of extent last_cell (cells_of t behind) ∷ drop t.cells behind → extent ≡ strut (density_in (columns_of t.columns)) 0 → EndsRows t.kind t.columns n at s (record p { builder = b })
+  row_is_last b n extent is no_other there puts props =
+      let last = a_row (columns_of t.columns) 0 last_cell (cells_of t behind) in
+      let put : elements_in b ≡ last ∷ drop t.cells behind = puts ∙ ap (λ e. row_of e last_cell (cells_of t behind) ∷ drop t.cells behind) props in
       let lines : Lines = record { last = last; others = rows_of t behind } in
       let rows_there : length (rows_of t behind) ≡ t.rows = length-take-le t.rows (drop t.cells behind) (count_left t.rows t.cells count (elements_of p) there) in
       let cells_there : length (cells_of t behind) ≡ t.cells = length-take-le t.cells behind (count_below t.cells count (elements_of p) (omega (arith, there))) in
       let atoms_there : length atoms ≡ count = lone_length (kind_of kind) (take count (elements_of p)) ∙ length-take-le count (elements_of p) (omega (arith, there)) in
-      let whole : with_last (rows_of t behind) (cells_of t behind) atoms ≡ lines =
-      kept_last (rows_of t behind) (cells_of t behind) atoms (λ e f. rows_there ∙ no_other (sym atoms_there ∙ e) (sym cells_there ∙ f)) in
+      let whole : with_last (columns_of t.columns) (rows_of t behind) (cells_of t behind) atoms ≡ lines =
+      kept_last (columns_of t.columns) (rows_of t behind) (cells_of t behind) atoms (λ e f. rows_there ∙ no_other (sym atoms_there ∙ e) (sym cells_there ∙ f)) in
       let first : take (t.rows + 1) (elements_in b) ≡ last ∷ rows_of t behind = ap (take (t.rows + 1)) put ∙ take_more t.rows last (drop t.cells behind) in
       let all : drop (t.rows + 1) (elements_in b) ≡ beyond = ap (drop (t.rows + 1)) put ∙ drop_more t.rows last (drop t.cells behind) ∙ drop-drop t.rows t.cells behind ∙ beyond_is in
       record {

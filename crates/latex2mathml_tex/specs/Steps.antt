@@ -336,7 +336,7 @@ pub record BeginsTable (k : TableKind) (columns : Columns) (place : ℕ) (s : St
 -- A table ends at this place, after its last cell, whose elements are the `count` uppermost ones, and whose last atom is of this kind.
 pub record EndsCells (t : Table) (count : ℕ) (last : AtomKind) (at : ℕ) (s : Start) (p : Parser) : Type 0 where
   pub style : s.style ≡ style_of p.style
-  pub leads : RuleLeads (behind_rows t (context_at (level (count + (t.cells + t.rows)) s p)) (with_last (rows_of t (drop count (elements_of p))) (cells_of t (drop count (elements_of p))) (lone (kind_of last) (take count (elements_of p)))) at)
+  pub leads : RuleLeads (behind_rows t (context_at (level (count + (t.cells + t.rows)) s p)) (with_last (columns_of t.columns) (rows_of t (drop count (elements_of p))) (cells_of t (drop count (elements_of p))) (lone (kind_of last) (take count (elements_of p)))) at)
       (CoreMade (level (count + (t.cells + t.rows)) s p)) (left_of p)
 
 -- The end of a table was taken at this place. Its rows are the `rows` uppermost elements.

@@ -1,10 +1,9 @@
-//! Boxes around the top element, black rectangles, and the space below rows.
+//! Boxes around the top element, black rectangles, and struts.
 ghost use Rattle.std.specs.Prelude.{◌≡◌, ◌≤◌, OnOk, length};
-ghost use Rattle.latex2mathml_elements.specs.Element.{Element, rectangle};
+ghost use Rattle.latex2mathml_elements.specs.{Element.Element, Struts.with_strut};
 ghost use Rattle.latex2mathml_attributes.specs.Arounds.{element_around, extent_of};
 ghost use Rattle.latex2mathml_builder.specs.Built.{Puts, elements_in};
 ghost use Rattle.latex2mathml_tex_grammar.specs.Makes;
-ghost use Rattle.latex2mathml_tex_grammar.specs.RowGaps.{down_to, with_gap};
 ghost use Rattle.latex2mathml_tex_commands.specs.Meanings.{box_of};
 ghost use Rattle.latex2mathml_tex_atoms.specs.Shapes.{ReplacesTop, within_any};
 
@@ -15,9 +14,6 @@ use latex2mathml_attributes::tag::Container;
 use latex2mathml_builder::builder::Builder;
 use latex2mathml_tex_commands::meaning::OperandBox;
 use std::alloc::AllocError;
-
-/// How deep a row of letters is, in thousandths of an em.
-const DEPTH_OF_ROW: i32 = 300;
 
 /// Puts the top element in a box.
 pub fn put_in_box(builder: &mut Builder, operand_box: OperandBox) -> Result<(), AllocError>
@@ -84,28 +80,11 @@ pub fn put_bar(
     Ok(())
 }
 
-/// Puts this space below the top element, in thousandths of an em, if there is any.
-pub fn put_gap(builder: &mut Builder, gap: u32) -> Result<(), AllocError>
-    requires some { 1 ≤ length (elements_in builder.old) }
-    requires small { gap ≤ 1638400 }
-    ensures { OnOk result (ReplacesTop (with_gap gap) builder.old builder.new) }
+/// Puts a strut behind the top element.
+pub fn put_strut(builder: &mut Builder, strut: Extent) -> Result<(), AllocError>
+    requires { 1 ≤ length (elements_in builder.old) }
+    ensures { OnOk result (ReplacesTop (with_strut (extent_of strut)) builder.old builder.new) }
 {
-    if gap == 0 {
-        return Ok(());
-    }
-    builder.rectangle(down_to(gap))?;
+    builder.rectangle(strut)?;
     builder.container(Container::Mrow, Attributes::plain(), 2)
-}
-
-/// Returns an invisible rectangle from the line down to the end of this space below a row, in thousandths of an em.
-fn down_to(gap: u32) -> Extent
-    requires { gap ≤ 1638400 }
-    ensures { rectangle (extent_of result) ≡ down_to gap }
-{
-    Extent {
-        width: 0,
-        height: 0,
-        depth: gap as i32 + DEPTH_OF_ROW,
-        is_black: false,
-    }
 }

@@ -2,7 +2,7 @@
 use Rattle.std.proofs.Common.{ℕ, List, [], ◌∷◌, Option, subst, reverse}
 use Rattle.latex2mathml_elements.specs.{Characters.IsAllowed, Dollars.IsDollarFree, Element.Element, Element.children}
 use Rattle.latex2mathml_elements.specs.Columns.{Columns}
-use Rattle.latex2mathml_tex_grammar.specs.{RowGaps.gap_at, RowGaps.with_gap, RowLines.line_next, Scanning.BeforeRow, Scanning.past_gap, Tables.Lines, Tables.a_row, Atoms.Atom, Atoms.Before, Atoms.After, Atoms.Nothing, DefinitionTexts.Defines, Delimiters.delimiter_of, Formulas.IsReading, Formulas.row_print, Formulas.row_print_with_source, Formulas.shown, Formulas.source_text, Laws.ReadingsAreAllowed, Macros.Table, Rows.Row, Rows.Operand, Rows.empty_row, Rows.lone, Rows.row_element, Symbols.Alphabet, Symbols.Opening, Symbols.Style, Environments.pairs, Rows.with_atom}
+use Rattle.latex2mathml_tex_grammar.specs.{RowGaps.gap_at, RowLines.line_next, Scanning.BeforeRow, Scanning.past_gap, Tables.Lines, Tables.a_row, Atoms.Atom, Atoms.Before, Atoms.After, Atoms.Nothing, DefinitionTexts.Defines, Delimiters.delimiter_of, Formulas.IsReading, Formulas.row_print, Formulas.row_print_with_source, Formulas.shown, Formulas.source_text, Laws.ReadingsAreAllowed, Macros.Table, Rows.Row, Rows.Operand, Rows.empty_row, Rows.lone, Rows.row_element, Symbols.Alphabet, Symbols.Opening, Symbols.Style, Environments.pairs, Rows.with_atom}
 use Rattle.latex2mathml_elements.proofs.{Annotated.annotated_print_as_elements, OneElement.print_as_elements}
 use Rattle.latex2mathml_tex_grammar.specs.Makes.{Core, core, divider, is_display, number, Scripts}
 use Rattle.latex2mathml_tex_grammar.specs.Reading.{Outcome, ReadsRule, rule_gives, rule_refuses, operand_read, operand_refused, core_read, core_refused, core_missing, core_stopped, atoms_read, atoms_refused, words_read, words_refused, units_taken, units_missing, unit_follows, no_unit_follows, digits_taken, delimiter_taken, delimiter_missing, ReadsOperand, group_operand, group_refused, digit_operand, other_operand, other_refused, no_operand, operand_at_end, operand_stopped, ReadsScripts, scripts_end, mark_taken, script_read, script_refused, mark_refused, ReadsAtom, divider_read, divider_refused, on_empty_row, base_read, base_refused, ReadsAtoms, text_ends, never_ended, atoms_stopped, atoms_end, atom_read, atom_refused, rest_read, change_refused, ReadsWord, word_stands, group_of_words, formula_read, formula_refused, words_in_alphabet, no_word, word_missing, word_at_end, word_stopped, ReadsWords, words_end, words_never_ended, words_stopped, word_read, word_refused, found_taken, found_refused, passed_over, rows_read, rows_refused, ReadsRows, cell_read, cell_refused, ReadsBehindCell, next_cell, next_row, table_ends, rows_to_end, text_ends_table, Read, Refused}
@@ -14,7 +14,7 @@ use Rattle.latex2mathml_tex_grammar.proofs.Allowed.{IsAllowedPiece, AreAllowedUn
 use Rattle.latex2mathml_tex_grammar.proofs.AllowedMakes.{lone_allowed, number_allowed, row_children_allowed, row_element_allowed, scripted_allowed, single_allowed, with_atom_allowed}
 use Rattle.latex2mathml_tex_grammar.proofs.AllowedMacros.{expansion_allowed, macros_allowed}
 use Rattle.latex2mathml_tex_grammar.proofs.AllowedRests.{finished_allowed, rest_allowed}
-use Rattle.latex2mathml_tex_grammar.proofs.AllowedRows.{given_allowed, lined_allowed, with_gap_allowed, past_spot_allowed, past_break_allowed, a_row_allowed, with_last_allowed}
+use Rattle.latex2mathml_tex_grammar.proofs.AllowedRows.{given_allowed, lined_allowed, past_spot_allowed, past_break_allowed, a_row_allowed, with_last_allowed}
 use Rattle.latex2mathml_tex_grammar.proofs.AllowedRules.{IsPlainStart, start_plain, delimiter_given, rule_allowed, step_allowed, accent_ended_allowed, with_word_allowed, word_rule_allowed}
 use Rattle.latex2mathml_tex_grammar.proofs.AllowedUnits.{digits_taken as digits_next_allowed, next_allowed, next_taken, past_allowed, units_allowed}
 use Rattle.latex2mathml_tex_grammar.specs.Formulas.{ReadsFormula, as_atoms, as_rows, alone}
@@ -121,13 +121,12 @@ mutual
 
   behind_cells : {end : TableEnd} {place : ℕ} {columns : Columns} {c : Context} {before cells cell : List Element} {l : Units} {o : Outcome Lines} → ReadsBehindCell end place columns c before cells cell l o → AreAllowedElements before → AreAllowedElements cells → AreAllowedElements cell → AreAllowedUnits l → IsAllowedOutcome AreAllowedLines o
   behind_cells (next_cell {cell = cell} {l = l} p s d) h i j k = tables d h (row_element_allowed cell j, i) (next_allowed l p k).1
-  behind_cells (next_row {rows = before} {cells = cells} {cell = cell} {l = l} {m = m} p s d) h i j k =
-      let last = with_gap (gap_at m) (row_element cell) in
-      let row = a_row (last ∷ cells) in
-      let all = lined_allowed (line_next (past_gap m)) (row ∷ before) (a_row_allowed (last ∷ cells) (with_gap_allowed (gap_at m) (row_element cell) (row_element_allowed cell j), i), h) in
+  behind_cells (next_row {columns = columns} {rows = before} {cells = cells} {cell = cell} {l = l} {m = m} p s d) h i j k =
+      let row = a_row columns (gap_at m) (row_element cell) cells in
+      let all = lined_allowed (line_next (past_gap m)) (row ∷ before) (a_row_allowed columns (gap_at m) (row_element cell) cells (row_element_allowed cell j) i, h) in
       tables d all tt (past_break_allowed m (next_allowed l p k).1)
-  behind_cells (table_ends {rows = before} {cells = cells} {cell = cell} p s) h i j k = (with_last_allowed before cells cell h i j, k)
-  behind_cells (text_ends_table {rows = before} {cells = cells} {cell = cell} p) h i j k = (with_last_allowed before cells cell h i j, k)
+  behind_cells (table_ends {columns = columns} {rows = before} {cells = cells} {cell = cell} p s) h i j k = (with_last_allowed columns before cells cell h i j, k)
+  behind_cells (text_ends_table {columns = columns} {rows = before} {cells = cells} {cell = cell} p) h i j k = (with_last_allowed columns before cells cell h i j, k)
 
   words : {place : ℕ} {a : Option Alphabet} {ws : Words} {l : Units} {o : Outcome Words} → ReadsWord place a ws l o → AreAllowedWords ws → AreAllowedUnits l → IsAllowedOutcome AreAllowedWords o
   words (word_stands {a = a} {ws = ws} {u = u} {w = w} s) h k =

@@ -3,13 +3,13 @@ use Rattle.std.proofs.Common.{◌≡◌, ℕ, zero, suc, Bool, true, false, not,
 use Rattle.std.proofs.lemmas.Bool.{and_parts}
 use Rattle.std.specs.{Bool.⊤, Char.encode_utf8, List.list_all, Str.bytes_eq, Str.chars}
 use Rattle.latex2mathml_elements.specs.Characters.{IsAllowed, HasAllowedTexts, EachTextOf, EachTextOfCells, EachTextOfRows}
-use Rattle.latex2mathml_elements.specs.{Columns.Columns, Columns.Centered, Columns.LeftAligned, Columns.RightAligned, Columns.Usual, Columns.Alike, Columns.Listed, Tables.are_line, Tables.cells_behind, Tables.cells_in, Lines.Line, Lines.NoLine, Lines.OneLine, Lines.TwoLines, Lines.Dashes, Lines.is_drawn, Tables.is_line as is_row_line, Tables.line_of, Tables.rows_behind}
+use Rattle.latex2mathml_elements.specs.{Struts.strut, Struts.with_strut, Columns.density_in, Columns.Columns, Columns.Centered, Columns.LeftAligned, Columns.RightAligned, Columns.Usual, Columns.Alike, Columns.Listed, Tables.are_line, Tables.cells_behind, Tables.cells_in, Lines.Line, Lines.NoLine, Lines.OneLine, Lines.TwoLines, Lines.Dashes, Lines.is_drawn, Tables.is_line as is_row_line, Tables.line_of, Tables.rows_behind}
 use Rattle.latex2mathml_elements.specs.Element.{Mrow, Msqrt, Mstyle, Mpadded, Mphantom, Element, Elements, Rows, token, space, rectangle, container, pair, triple, table, more, none}
 use Rattle.latex2mathml_tex_grammar.specs.Environments.{columns_of, line_at, written_out, Environment, Bracket, NoBracket, Position, Alignment, environments, entry_environment, environment_of}
 use Rattle.latex2mathml_tex_grammar.specs.{Rows.row_element, Symbols.Style}
 use Rattle.latex2mathml_tex_grammar.specs.Rules.{Context, ended_table, rows_rule, most_columns, listed_rule, argument_rule, bracket_rule, environment_rule}
 use Rattle.latex2mathml_tex_grammar.specs.Scanning.{Argument, Name, ColumnList, RepeatedColumns, Number, ColorName, Deed, Passes, Adds, Ends, Leaves, Misses, Refuses, Spot, deed, done, may_end, found_at_end, with_character, Found, Given, Missing, scan, behind_found, past, past_break, BeforeStar, BeforeLength, BeforeRow}
-use Rattle.latex2mathml_tex_grammar.specs.{RowGaps.with_gap, RowLines.lined}
+use Rattle.latex2mathml_tex_grammar.specs.RowLines.{lined}
 use Rattle.latex2mathml_tex_grammar.specs.Tables.{Lines, a_row, with_last, rows_onto, between_any, a_table}
 use Rattle.latex2mathml_tex_grammar.specs.Refusal.{Refusal}
 use Rattle.latex2mathml_tex_grammar.specs.Units.{Unit, Units, Next, End, Stop}
@@ -20,14 +20,14 @@ use Rattle.latex2mathml_tex_grammar.proofs.Choices.{of_either}
 
 -- Rows
 
-pub a_row_allowed : (cells : List Element) → AreAllowedElements cells → HasAllowedTexts (a_row cells)
-a_row_allowed cells h = row_children_allowed cells h
+pub a_row_allowed : (columns : Columns) (gap : ℕ) (x : Element) (cells : List Element) → HasAllowedTexts x → AreAllowedElements cells → HasAllowedTexts (a_row columns gap x cells)
+a_row_allowed columns gap x cells h k = row_children_allowed (with_strut (strut (density_in columns) gap) x ∷ cells) ((h, (tt, tt)), k)
 
-pub with_last_allowed : (rows cells cell : List Element) → AreAllowedElements rows → AreAllowedElements cells → AreAllowedElements cell → AreAllowedLines (with_last rows cells cell)
-with_last_allowed [] cells cell h k i = (a_row_allowed (row_element cell ∷ cells) (row_element_allowed cell i, k), h)
-with_last_allowed (row ∷ rows) (x ∷ cells) cell h k i = (a_row_allowed (row_element cell ∷ x ∷ cells) (row_element_allowed cell i, k), h)
-with_last_allowed (row ∷ rows) [] (x ∷ cell) h k i = (a_row_allowed (row_element (x ∷ cell) ∷ []) (row_element_allowed (x ∷ cell) i, tt), h)
-with_last_allowed (row ∷ rows) [] [] h k i = (h.0, h.1)
+pub with_last_allowed : (columns : Columns) (rows cells cell : List Element) → AreAllowedElements rows → AreAllowedElements cells → AreAllowedElements cell → AreAllowedLines (with_last columns rows cells cell)
+with_last_allowed columns [] cells cell h k i = (a_row_allowed columns 0 (row_element cell) cells (row_element_allowed cell i) k, h)
+with_last_allowed columns (row ∷ rows) (x ∷ cells) cell h k i = (a_row_allowed columns 0 (row_element cell) (x ∷ cells) (row_element_allowed cell i) k, h)
+with_last_allowed columns (row ∷ rows) [] (x ∷ cell) h k i = (a_row_allowed columns 0 (row_element (x ∷ cell)) [] (row_element_allowed (x ∷ cell) i) tt, h)
+with_last_allowed columns (row ∷ rows) [] [] h k i = (h.0, h.1)
 
 cells_behind_allowed : (k : ℕ) (columns : Columns) (x : Element) (xs : Elements) → HasAllowedTexts x → EachTextOf IsAllowed xs → EachTextOfCells IsAllowed (cells_behind k columns x xs)
 cells_behind_allowed k columns x none h i = (h, tt)
@@ -173,10 +173,6 @@ lined_allowed NoLine rows h = h
 lined_allowed OneLine rows h = (tt, h)
 lined_allowed TwoLines rows h = (tt, h)
 lined_allowed Dashes rows h = (tt, h)
-
-pub with_gap_allowed : (gap : ℕ) (x : Element) → HasAllowedTexts x → HasAllowedTexts (with_gap gap x)
-with_gap_allowed zero x h = h
-with_gap_allowed (suc n) x h = (h, (tt, tt))
 
 pub past_break_allowed : (l : Units) → AreAllowedUnits l → AreAllowedUnits (past_break l)
 past_break_allowed l h =

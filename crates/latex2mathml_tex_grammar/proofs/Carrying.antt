@@ -13,7 +13,7 @@ use Rattle.latex2mathml_tex_grammar.proofs.AlikeRests.{rest_too, no_rest_too}
 use Rattle.latex2mathml_tex_grammar.proofs.Plain.{change_start_plain, divider_plain, digit_start_plain, group_start_plain, step_plain}
 use Rattle.latex2mathml_tex_grammar.proofs.Spaces.{Front, next_stays, both_next, both_ended, both_stopped, fronts, fronts_of_words, looks_too, next_too, end_too, stop_too, refused_too, same_step, IsCalm, in_dollars, behind_plain, taken_too, missing_too, digits_too, IsPlain}
 use Rattle.latex2mathml_elements.specs.{Element.Element, Lines.Line}
-use Rattle.latex2mathml_tex_grammar.specs.{RowGaps.with_gap, RowLines.is_line_command, RowLines.line_at, RowLines.line_next, RowLines.line_of, RowLines.lined, Scanning.BeforeRow, Rows.row_element, Tables.Lines, Tables.a_row}
+use Rattle.latex2mathml_tex_grammar.specs.{RowLines.is_line_command, RowLines.line_at, RowLines.line_next, RowLines.line_of, RowLines.lined, Scanning.BeforeRow, Rows.row_element, Tables.Lines, Tables.a_row}
 use Rattle.latex2mathml_tex_grammar.proofs.{Scans.found_too, Scans.refused_too as found_refused_too, Scans.past_too, Scans.past_break_too, Scans.past_gap_too, Scans.gap_too}
 use Rattle.latex2mathml_tex_grammar.proofs.{WordPieces.word_ends, WordPieces.formula_begins, WordPieces.words_begin, WordPieces.words_follow}
 
@@ -226,10 +226,10 @@ mutual
   carry_behind_cell other ended (next_cell {u = u} p s d) calm h =
       let next = next_too h p in
       also (carry_rows other d calm (behind_plain u.piece (ended _ u p) calm next.alike)) (λ p. next_cell next.is s)
-  carry_behind_cell other ended (next_row {rows = rows} {cells = cells} {cell = cell} {u = u} p s d) calm h =
+  carry_behind_cell other ended (next_row {columns = columns} {rows = rows} {cells = cells} {cell = cell} {u = u} p s d) calm h =
       let next = next_too h p in
       let alike = behind_plain u.piece (ended _ u p) calm next.alike in
-      let row = λ (gap : ℕ). a_row (with_gap gap (row_element cell) ∷ cells) ∷ rows in
+      let row = λ (gap : ℕ). a_row columns gap (row_element cell) cells ∷ rows in
       also (lined_too (line_too (past_gap_too calm alike)) (ap row (gap_too calm alike)) (carry_rows other d calm (past_break_too calm alike))) (λ p. next_row next.is s)
   carry_behind_cell {m = m} other ended (table_ends p s) calm h = (let next = next_too h p in also_read m h (table_ends next.is s))
   carry_behind_cell {m = m} other ended (text_ends_table p) calm h = also_read m h (text_ends_table (end_too h p).1)

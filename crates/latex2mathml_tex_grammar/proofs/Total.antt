@@ -4,7 +4,7 @@ use Rattle.std.specs.Bool.{⊤}
 use Rattle.latex2mathml_elements.specs.Element.{Element}
 use Rattle.std.proofs.lemmas.Bool.{cases_Bool}
 use Rattle.std.specs.Bool.{⊤}
-use Rattle.latex2mathml_tex_grammar.specs.{Atoms.Atom, Atoms.Before, Rows.Row, Rows.Operand, Rows.empty_row, Rows.lone, Rows.row_element, Rows.with_atom, Rows.operand_of, Rows.single, Delimiters.delimiter_of, Laws.HasOneOutcome, Makes.Core, Makes.core, Makes.divider, Makes.Scripts, Makes.no_scripts, Meaning.Beside, Meaning.Change, RowGaps.gap_at, RowGaps.with_gap, RowLines.line_next, RowLines.lined, Tables.Lines, Tables.begun_cell, Tables.cell_of, Tables.a_row, Tables.with_last}
+use Rattle.latex2mathml_tex_grammar.specs.{Atoms.Atom, Atoms.Before, Rows.Row, Rows.Operand, Rows.empty_row, Rows.lone, Rows.row_element, Rows.with_atom, Rows.operand_of, Rows.single, Delimiters.delimiter_of, Laws.HasOneOutcome, Makes.Core, Makes.core, Makes.divider, Makes.Scripts, Makes.no_scripts, Meaning.Beside, Meaning.Change, RowGaps.gap_at, RowLines.line_next, RowLines.lined, Tables.Lines, Tables.begun_cell, Tables.cell_of, Tables.a_row, Tables.with_last}
 use Rattle.latex2mathml_tex_grammar.specs.Next.{follows, is_space_piece, past_space, next_are, digits_next, digits_here}
 use Rattle.latex2mathml_tex_grammar.specs.Reading.{Outcome, Read, Refused, ReadsRule, rule_gives, rule_refuses, operand_read, operand_refused, core_read, core_refused, core_missing, core_stopped, atoms_read, atoms_refused, words_read, words_refused, units_taken, units_missing, unit_follows, no_unit_follows, digits_taken, delimiter_taken, delimiter_missing, ReadsOperand, group_operand, group_refused, digit_operand, other_operand, other_refused, no_operand, operand_at_end, operand_stopped, ReadsScripts, scripts_end, mark_taken, script_read, script_refused, mark_refused, ReadsAtom, divider_read, divider_refused, on_empty_row, base_read, base_refused, ReadsAtoms, text_ends, never_ended, atoms_stopped, atoms_end, atom_read, atom_refused, rest_read, change_refused, ReadsWord, word_stands, group_of_words, formula_read, formula_refused, words_in_alphabet, no_word, word_missing, word_at_end, word_stopped, ReadsWords, words_end, words_never_ended, words_stopped, word_read, word_refused, found_taken, found_refused, passed_over, rows_read, rows_refused, ReadsRows, cell_read, cell_refused, ReadsBehindCell, next_cell, next_row, table_ends, rows_to_end, text_ends_table}
 use Rattle.latex2mathml_tex_grammar.specs.Refusal.{Refusal}
@@ -330,9 +330,9 @@ behind_cell_total k has end place columns c rows cells cell l m u p less h Parts
     with_rows (has.of_rows end place columns c rows (row_element cell ∷ cells) m h) (omega arith) (λ o. next_cell p s)
 behind_cell_total k has end place columns c rows cells cell l m u p less h EndsRow s =
     let short = size-past_break m in
-    with_rows (has.of_rows end place columns c (lined (line_next (past_gap m)) (a_row (with_gap (gap_at m) (row_element cell) ∷ cells) ∷ rows)) [] (past_break m) (omega arith)) (omega arith) (λ o. next_row p s)
+    with_rows (has.of_rows end place columns c (lined (line_next (past_gap m)) (a_row columns (gap_at m) (row_element cell) cells ∷ rows)) [] (past_break m) (omega arith)) (omega arith) (λ o. next_row p s)
 behind_cell_total k has end place columns c rows cells cell l m u p less h EndsTable s =
-    rows_come (with_last rows cells cell) l m u p less (table_ends p s)
+    rows_come (with_last columns rows cells cell) l m u p less (table_ends p s)
 
 -- there are fewer units after the next one
 size-next : (l m : Units) (u : Unit) → past_space l ≡ Next u m → size m < size l
@@ -343,7 +343,7 @@ rows_total k has end place columns c rows cells l h = elim (atoms_total k has (I
   | comes_to row n fits d ↦ elim (left_in_cell d) [
     | leaves_unit u m p ↦ (let less = size-next n m u p in
         with_rows (behind_cell_total k has end place columns c rows cells (cell_of row) n m u p less (omega arith) (cell_end u.piece) refl) fits (λ o. cell_read d))
-    | leaves_end at p ↦ rows_come_to_end (with_last rows cells (cell_of row)) n at p (cell_read d (text_ends_table p))
+    | leaves_end at p ↦ rows_come_to_end (with_last columns rows cells (cell_of row)) n at p (cell_read d (text_ends_table p))
   ]
   | is_refused r d ↦ rows_none r (cell_refused d)
 ]

@@ -5,7 +5,7 @@ use Rattle.latex2mathml_elements.specs.Columns.{Columns}
 use Rattle.latex2mathml_tex_grammar.specs.{Atoms.Atom, Atoms.Before, Makes.Core, Makes.Scripts, Rows.Row, Rows.Operand}
 use Rattle.latex2mathml_tex_grammar.specs.Reading.{Outcome, Refused, ReadsRule, rule_gives, rule_refuses, operand_read, operand_refused, core_read, core_refused, core_missing, core_stopped, atoms_read, atoms_refused, words_read, words_refused, units_taken, units_missing, unit_follows, no_unit_follows, digits_taken, delimiter_taken, delimiter_missing, ReadsOperand, group_operand, group_refused, digit_operand, other_operand, other_refused, no_operand, operand_at_end, operand_stopped, ReadsScripts, scripts_end, mark_taken, script_read, script_refused, mark_refused, ReadsAtom, divider_read, divider_refused, on_empty_row, base_read, base_refused, ReadsAtoms, text_ends, never_ended, atoms_stopped, atoms_end, atom_read, atom_refused, rest_read, change_refused, ReadsWord, word_stands, group_of_words, formula_read, formula_refused, words_in_alphabet, no_word, word_missing, word_at_end, word_stopped, ReadsWords, words_end, words_never_ended, words_stopped, word_read, word_refused, found_taken, found_refused, passed_over, rows_read, rows_to_end, rows_refused, ReadsRows, cell_read, cell_refused, ReadsBehindCell, next_cell, next_row, table_ends, text_ends_table}
 use Rattle.latex2mathml_tex_grammar.specs.Rules.{Context, Ending, Rule, TableEnd}
-use Rattle.latex2mathml_tex_grammar.specs.{Starts.step_of_mark, Starts.mark_of, Symbols.Alphabet, Words.Words, Starts.cell_end, RowGaps.with_gap, Rows.row_element, Tables.Lines, Tables.a_row}
+use Rattle.latex2mathml_tex_grammar.specs.{Starts.step_of_mark, Starts.mark_of, Symbols.Alphabet, Words.Words, Starts.cell_end, Rows.row_element, Tables.Lines, Tables.a_row}
 use Rattle.latex2mathml_tex_grammar.specs.Units.{Unit, Units}
 use Rattle.latex2mathml_tex_grammar.proofs.Following.{one_rest, rest_is, refused_alike, atom_or_change, core_is, group_is, operand_is, atom_is, rule_moved, taken_moved, found_moved, rows_moved, rows_moved_to_end, rows_next, next_row_next, one_end, cell_moved, base_moved, atoms_moved, words_moved, one_step, same_second, ended_there, word_is, scripts_go_on, script_moved}
 
@@ -269,7 +269,7 @@ mutual
 
   one_behind_cell : {end : TableEnd} {place : ℕ} {columns : Columns} {c : Context} {rows cells cell : List Element} {l : Units} {o p : Outcome Lines} → ReadsBehindCell end place columns c rows cells cell l o → ReadsBehindCell end place columns c rows cells cell l p → o ≡ p
   one_behind_cell (next_cell p s d) (next_cell q t e) = one_rows d (rows_next (λ m. m) p q e)
-  one_behind_cell (next_row {rows = rows} {cells = cells} {cell = cell} p s d) (next_row q t e) = one_rows d (next_row_next (λ gap. a_row (with_gap gap (row_element cell) ∷ cells) ∷ rows) p q e)
+  one_behind_cell (next_row {columns = columns} {rows = rows} {cells = cells} {cell = cell} p s d) (next_row q t e) = one_rows d (next_row_next (λ gap. a_row columns gap (row_element cell) cells ∷ rows) p q e)
   one_behind_cell (table_ends p s) (table_ends q t) = refl
   one_behind_cell (next_cell p s d) (next_row q t e) = cc (one_end (λ u. cell_end u.piece) p q s t)
   one_behind_cell (next_cell p s d) (table_ends q t) = cc (one_end (λ u. cell_end u.piece) p q s t)

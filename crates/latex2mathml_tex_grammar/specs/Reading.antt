@@ -5,7 +5,7 @@ use Rattle.latex2mathml_elements.specs.{Columns.Columns, Element.Element}
 use Rattle.latex2mathml_tex_grammar.specs.{Atoms.Atom, Atoms.Before, Delimiters.delimiter_of, Rows.Row, Rows.empty_row, Rows.lone, Rows.row_element, Rows.with_atom, Rows.Operand, Rows.operand_of, Rows.single}
 use Rattle.latex2mathml_tex_grammar.specs.Makes.{Core, core, number, divider, Scripts, no_scripts, scripted}
 use Rattle.latex2mathml_tex_grammar.specs.{Meaning.Beside, Meaning.Change, Next.past_space, Next.next_are, Next.follows, Next.digits_next, Next.refusal_here}
-use Rattle.latex2mathml_tex_grammar.specs.{RowGaps.gap_at, RowGaps.with_gap, RowLines.line_next, RowLines.lined}
+use Rattle.latex2mathml_tex_grammar.specs.{RowGaps.gap_at, RowLines.line_next, RowLines.lined}
 use Rattle.latex2mathml_tex_grammar.specs.Refusal.{Kind, MissingArgument, UnclosedBrace, MissingDelimiter, Refusal, refusal_at}
 use Rattle.latex2mathml_tex_grammar.specs.Rests.{GoesOnIn, NoRest, finished, rest_of}
 use Rattle.latex2mathml_tex_grammar.specs.Rules.{Context, in_context, styled, Ending, InBraces, InDollars, begun, Rule, gives, refuses, reads_operand, reads_core, reads_atoms, reads_words, takes_if, if_follows, takes_digits, takes_delimiter, rule, TableEnd, InCell, takes_found, passes_over, reads_rows}
@@ -288,17 +288,17 @@ mutual
     next_row : {end : TableEnd} {place : ℕ} {columns : Columns} {c : Context} {rows cells cell : List Element} {l m : Units} {u : Unit} {o : Outcome Lines}
         → past_space l ≡ Next u m
         → cell_end u.piece ≡ EndsRow
-        → ReadsRows end place columns c (lined (line_next (past_gap m)) (a_row (with_gap (gap_at m) (row_element cell) ∷ cells) ∷ rows)) [] (past_break m) o
+        → ReadsRows end place columns c (lined (line_next (past_gap m)) (a_row columns (gap_at m) (row_element cell) cells ∷ rows)) [] (past_break m) o
         → ReadsBehindCell end place columns c rows cells cell l o
     -- the end of the table is not taken
     table_ends : {end : TableEnd} {place : ℕ} {columns : Columns} {c : Context} {rows cells cell : List Element} {l m : Units} {u : Unit}
         → past_space l ≡ Next u m
         → cell_end u.piece ≡ EndsTable
-        → ReadsBehindCell end place columns c rows cells cell l (Read (with_last rows cells cell) l)
+        → ReadsBehindCell end place columns c rows cells cell l (Read (with_last columns rows cells cell) l)
     -- neither is the end of the text; only the cells of rows that are a whole text can end with it
     text_ends_table : {end : TableEnd} {place at : ℕ} {columns : Columns} {c : Context} {rows cells cell : List Element} {l : Units}
         → past_space l ≡ End at
-        → ReadsBehindCell end place columns c rows cells cell l (Read (with_last rows cells cell) l)
+        → ReadsBehindCell end place columns c rows cells cell l (Read (with_last columns rows cells cell) l)
 
   -- the outcome of words with one more part, in an alphabet; the place is that of what takes the part. White space counts.
   pub data ReadsWord : ℕ → Option Alphabet → Words → Units → Outcome Words → Type 0 where

@@ -1,7 +1,7 @@
 -- Tables: rows of cells. Here what was read last comes first.
 use Rattle.std.specs.Prelude.{ℕ, true, List, [], ◌∷◌, reverse, Option, Some, None}
 use Rattle.latex2mathml_elements.specs.Attributes.{plain, MathStyle}
-use Rattle.latex2mathml_elements.specs.{Columns.Alignment, Columns.SecondOfPair, Columns.Columns, Columns.column_at, Tables.attributes_in, Tables.rows_in}
+use Rattle.latex2mathml_elements.specs.{Columns.Alignment, Columns.SecondOfPair, Columns.Columns, Columns.column_at, Columns.density_in, Extents.Extent, Struts.strut, Struts.with_strut, Tables.attributes_in, Tables.rows_in}
 use Rattle.latex2mathml_elements.specs.Element.{Mrow, Element, Rows, container, table, children}
 use Rattle.latex2mathml_tex_grammar.specs.{Atoms.Before, Atoms.After, Atoms.Plain, Atoms.atom, Makes.Core, Makes.core, Makes.fenced, Makes.math_style, Rows.Row, Rows.empty_row, Rows.lone, Rows.row_element}
 use Rattle.latex2mathml_tex_grammar.specs.Symbols.{Class, Ordinary, Opening, Inner, Style, InDisplay, InText}
@@ -22,9 +22,13 @@ cell_of row = lone row.last row.elements
 
 -- Rows: until a table is made of it, a row is an `mrow` of its cells; the lines of `RowLines` are among the rows
 
--- a row of these cells, the last one first
-abbrev pub a_row : List Element → Element
-a_row cells = container Mrow plain (children (reverse cells))
+-- a row of this cell, which has the strut of the row, and of the cells before it, the last one first
+abbrev pub row_of : Extent → Element → List Element → Element
+row_of extent x cells = container Mrow plain (children (reverse (with_strut extent x ∷ cells)))
+
+-- such a row of a table in these columns, with this space below it, in thousandths of an em
+abbrev pub a_row : Columns → ℕ → Element → List Element → Element
+a_row columns gap = row_of (strut (density_in columns) gap)
 
 -- at least one row or line
 pub record Lines : Type 0 where
@@ -32,9 +36,9 @@ pub record Lines : Type 0 where
   pub others : List Element
 
 -- rows, then one of these cells and a last cell with these atoms; an empty last row counts only if it is the only one
-abbrev pub with_last : List Element → List Element → List Element → Lines
-with_last (row ∷ rows) [] [] = record { last = row; others = rows }
-with_last rows cells cell = record { last = a_row (row_element cell ∷ cells); others = rows }
+abbrev pub with_last : Columns → List Element → List Element → List Element → Lines
+with_last columns (row ∷ rows) [] [] = record { last = row; others = rows }
+with_last columns rows cells cell = record { last = a_row columns 0 (row_element cell) cells; others = rows }
 
 -- the rows of a table: those before one, the last of them first, then this one, and those after it
 abbrev pub rows_onto : Columns → List Element → Element → List Element → Rows

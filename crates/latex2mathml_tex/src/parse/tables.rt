@@ -1,11 +1,11 @@
 //! Tables: how each cell begins and ends, and what is made of the cells.
 ghost use Rattle.std.specs.Prelude.{◌≡◌, ◌+◌, ◌∷◌, ◌<◌, ◌≤◌, IfOk, MatchBool, OnOk, drop, length, option_map, reverse, string_bytes, take};
 ghost use Rattle.latex2mathml_builder.specs.{Built.elements_in, Stacks.table_with};
-ghost use Rattle.latex2mathml_attributes.specs.{Columns.columns_of, Lines.line_of};
+ghost use Rattle.latex2mathml_attributes.specs.{Arounds.extent_of, Columns.columns_of, Lines.line_of};
 ghost use Rattle.latex2mathml_elements.specs.{Attributes.styled};
 ghost use Rattle.latex2mathml_attributes.specs.Names.{math_style_of};
 ghost use Rattle.latex2mathml_tex_grammar.specs.Tables;
-ghost use Rattle.latex2mathml_tex_grammar.specs.{Meaning.Substack, RowGaps.with_gap, RowLines.lined, Starts.cell_end, Tables.a_row, Rows.lone, Rows.row_element};
+ghost use Rattle.latex2mathml_tex_grammar.specs.{Meaning.Substack, RowLines.lined, Starts.cell_end, Tables.row_of, Rows.lone, Rows.row_element};
 ghost use Rattle.latex2mathml_tex_grammar.specs.Rules.{meaning_rule, rows_of_text};
 ghost use Rattle.latex2mathml_tex_commands.specs.Meanings.{class_of, style_of};
 ghost use Rattle.latex2mathml_tex_units.specs.{Scans.spot_of, Taking.piece_of};
@@ -19,11 +19,12 @@ use crate::parse::frames::{Ending, Frame, Table, TableKind};
 use crate::parse::{Parser, State};
 use latex2mathml_attributes::attributes::{Attributes, MathStyle};
 use latex2mathml_attributes::columns::{Alignment, Columns, Density};
+use latex2mathml_attributes::extent::Extent;
 use latex2mathml_attributes::line::Line;
 use latex2mathml_attributes::tag::Container;
 use latex2mathml_builder::builder::Builder;
 use latex2mathml_tex_atoms::atoms::{Context, Core, Kind, Row};
-use latex2mathml_tex_atoms::boxes::put_gap;
+use latex2mathml_tex_atoms::boxes::put_strut;
 use latex2mathml_tex_atoms::shapes::{enclose, put_braced};
 use latex2mathml_tex_commands::meaning::{Class, Style};
 use latex2mathml_tex_units::environments::Environment;
@@ -158,7 +159,8 @@ impl<'a> Parser<'a> {
             }
             CellEnd::EndsRow => {
                 let gap = self.input.pass_gap(self.alloc)?;
-                put_last(&mut self.builder, row.count, row.last, gap, table.cells)?;
+                let strut = table.columns.density().strut(gap);
+                put_last(&mut self.builder, row.count, row.last, strut, table.cells)?;
                 let line = self.input.pass_lines(self.alloc)?;
                 let lines = put_line(&mut self.builder, line)?;
                 let _ = self.builder.len();
@@ -195,7 +197,8 @@ impl<'a> Parser<'a> {
         if is_no_row(count, table) {
             return self.end_table(table.kind, table.columns, table.rows, at, next);
         }
-        put_last(&mut self.builder, count, last, 0, table.cells)?;
+        let strut = table.columns.density().strut(0);
+        put_last(&mut self.builder, count, last, strut, table.cells)?;
         let _ = self.builder.len();
         let rows = table.rows + 1;
         self.end_table(table.kind, table.columns, rows, at, next)
@@ -334,25 +337,23 @@ fn cell_end(piece: Piece) -> CellEnd
     }
 }
 
-/// Makes a row of the cell of `count` elements, whose last atom is of this kind, and the `cells` cells before it. This space is
-/// below the row, in thousandths of an em.
+/// Makes a row of the cell of `count` elements, whose last atom is of this kind, with this strut, and the `cells` cells before it.
 fn put_last(
     builder: &mut Builder,
     count: usize,
     last: Kind,
-    gap: u32,
+    strut: Extent,
     cells: usize,
 ) -> Result<(), AllocError>
-    requires all { count + cells ≤ length (elements_in builder.old) }
-    requires small { gap ≤ 1638400 }
+    requires { count + cells ≤ length (elements_in builder.old) }
     ensures { let elements = elements_in builder.old
         in let cell = row_element (lone (kind_of last) (take count elements))
         in OnOk result (elements_in builder.new
-        ≡ a_row (with_gap gap cell ∷ take cells (drop count elements))
+        ≡ row_of (extent_of strut) cell (take cells (drop count elements))
         ∷ drop cells (drop count elements)) }
 {
     put_braced(builder, count, last)?;
-    put_gap(builder, gap)?;
+    put_strut(builder, strut)?;
     let _ = builder.len();
     builder.container(Container::Mrow, Attributes::plain(), cells + 1)
 }
