@@ -35,8 +35,10 @@ class Deep(support.Case):
         self.answers(kind.nest(LEVELS, "x"), kind.contents(LEVELS))
 
     def test_as_many_rows_as_cells(self):
-        cell = '<mtd style="padding: {}; height: 1em; line-height: 1em"><mi>x</mi></mtd>'
-        row = f"<mtr>{cell.format('0.1em 0')}{cell.format('0.1em 0 0.1em 1em') * 999}</mtr>"
+        cell = '<mtd style="padding: {}">{}</mtd>'
+        last = '<mrow><mi>x</mi><mspace width="0em" height="0.84em" depth="0.36em"/></mrow>'
+        first, later = (cell.format(space, "<mi>x</mi>") for space in ("0", "0 0 0 1em"))
+        row = f"<mtr>{first}{later * 998}{cell.format('0 0 0 1em', last)}</mtr>"
         self.answers("\\begin{matrix}" + "\\\\".join(["&".join("x" * 1000)] * 1000) + "\\end{matrix}", f"<mtable>{row * 1000}</mtable>")
 
     @support.each_row({f"is_cut_off {name}": row for name, row in KINDS.items()})
