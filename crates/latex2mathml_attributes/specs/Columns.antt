@@ -1,5 +1,5 @@
 -- The columns of the code, as values of the definitions.
-use Rattle.std.specs.Prelude.{ℕ, zero, suc, ◌==◌, ◌%◌, ◌/◌, Bool, false, nat_lt, List, [], ◌∷◌, ◌++◌, codes, length, map, take, if◌then◌else◌}
+use Rattle.std.specs.Prelude.{ℕ, zero, suc, ℤ, pos, negsuc, ◌<◌, ◌≤◌, ◌==◌, ◌%◌, ◌/◌, Bool, false, nat_lt, List, [], ◌∷◌, ◌++◌, codes, length, map, take, if◌then◌else◌}
 use Rattle.latex2mathml_elements.specs.Columns as defined
 use Rattle.latex2mathml_elements.specs.Lines as lines
 use Rattle.latex2mathml_elements.specs.Print.{alignment_style, alignment_text}
@@ -121,3 +121,8 @@ has_room columns = false
 abbrev pub listed_behind : defined.Column → defined.Columns → defined.Columns
 listed_behind column (defined.Listed line columns) = defined.Listed line (if nat_lt (length columns) MOST_COLUMNS then columns ++ column ∷ [] else columns)
 listed_behind column columns = columns
+
+-- a space that is small enough to be added to the depth of a row
+abbrev pub IsSmall : ℤ → Type 0
+IsSmall (pos n) = n ≤ 1638400
+IsSmall (negsuc n) = n < 1638400

@@ -1,10 +1,10 @@
 //! The columns of tables.
-ghost use Rattle.std.specs.Prelude.{◌≡◌, ◌<◌, ◌≤◌, ◌++◌, [], OnOk, get_or, string_bytes};
+ghost use Rattle.std.specs.Prelude.{◌≡◌, ◌<◌, ◌≤◌, ◌++◌, [], OnOk, get_or, pos, string_bytes};
 ghost use Rattle.latex2mathml_elements.specs.Print.{cell_tag, spacing_style};
-ghost use Rattle.latex2mathml_elements.specs.Struts.{strut};
+ghost use Rattle.latex2mathml_elements.specs.Struts.{deepened, least_depth, least_height, strut};
 ghost use Rattle.latex2mathml_elements.specs.Columns.{Alike, AroundRelation, Centered, InPairs, Listed, are_lined, between, column_at, density_in, spaced, unlined};
 ghost use Rattle.latex2mathml_attributes.specs.Arounds.{extent_of};
-ghost use Rattle.latex2mathml_attributes.specs.Columns.{alignment_of, behind_line, cell_start, column_of, columns_of, columns_in, density_of, has_room, line_before, listed_behind, listed_of, numbered, spacing_of};
+ghost use Rattle.latex2mathml_attributes.specs.Columns.{IsSmall, alignment_of, behind_line, cell_start, column_of, columns_of, columns_in, density_of, has_room, line_before, listed_behind, listed_of, numbered, spacing_of};
 ghost use Rattle.latex2mathml_attributes.specs.Lines.{line_of};
 
 use crate::extent::Extent;
@@ -221,20 +221,38 @@ impl Density {
     }
 
     /// Returns the strut of a row that has this space below it, in thousandths of an em.
-    pub fn strut(self, gap: u32) -> Extent
-        requires { gap ≤ 1638400 }
+    pub fn strut(self, gap: i32) -> Extent
+        requires { IsSmall gap }
         ensures { extent_of result ≡ strut (density_of self) gap }
     {
-        let (height, depth) = match self {
-            Density::Dense => (600, 257),
-            Density::Usual | Density::Opened => (840, 360),
-            Density::Stretched => (1008, 432),
-        };
         Extent {
             width: 0,
-            height,
-            depth: gap as i32 + depth,
+            height: self.least_height(),
+            depth: deepened(self.least_depth(), gap),
             is_black: false,
+        }
+    }
+
+    /// Returns how high a row is at least, in thousandths of an em.
+    fn least_height(self) -> i32
+        ensures { result ≡ pos (least_height (density_of self)) }
+    {
+        match self {
+            Density::Dense => 600,
+            Density::Usual | Density::Opened => 840,
+            Density::Stretched => 1008,
+        }
+    }
+
+    /// Returns how deep a row is at least, in thousandths of an em.
+    fn least_depth(self) -> u32
+        ensures depth { result ≡ least_depth (density_of self) }
+        ensures small { result ≤ 432 }
+    {
+        match self {
+            Density::Dense => 257,
+            Density::Usual | Density::Opened => 360,
+            Density::Stretched => 432,
         }
     }
 }
@@ -448,4 +466,17 @@ fn column_around_relation(place: usize) -> Column
         _ => Alignment::Centered,
     };
     Column::spaced(Density::Opened, Spacing::Around, alignment)
+}
+
+/// Returns this depth with this space below it. A negative space takes from it, but no more than all of it.
+fn deepened(depth: u32, gap: i32) -> i32
+    requires shallow { depth ≤ 432 }
+    requires small { IsSmall gap }
+    ensures { result ≡ pos (deepened depth gap) }
+{
+    if gap < 0 {
+        depth.saturating_sub(gap.unsigned_abs()) as i32
+    } else {
+        (depth + gap as u32) as i32
+    }
 }

@@ -1,5 +1,5 @@
 -- What holds of the parser within tables.
-use Rattle.std.proofs.Common.{◌≡◌, ℕ, zero, suc, ◌+◌, ◌<◌, ◌≤◌, List, [], ◌∷◌, drop, length, take, refl, sym, ap, subst, ◌∙◌, arith}
+use Rattle.std.proofs.Common.{◌≡◌, ℕ, ℤ, pos, zero, suc, ◌+◌, ◌<◌, ◌≤◌, List, [], ◌∷◌, drop, length, take, refl, sym, ap, subst, ◌∙◌, arith}
 use Rattle.std.proofs.lemmas.List.{drop-drop, length-drop, length-take-le}
 use Rattle.latex2mathml_elements.specs.{Columns.Columns, Columns.column_at, Columns.density_in, Extents.Extent, Struts.strut}
 use Rattle.latex2mathml_elements.specs.Element.{Element, rectangle}
@@ -138,7 +138,7 @@ lone_length last [] = refl
 lone_length last (x ∷ []) = refl
 lone_length last (x ∷ y ∷ xs) = refl
 
-kept_last : (columns : Columns) (rows cells cell : List Element) → (length cell ≡ 0 → length cells ≡ 0 → length rows ≡ 0) → with_last columns rows cells cell ≡ record { last = a_row columns 0 (row_element cell) cells; others = rows }
+kept_last : (columns : Columns) (rows cells cell : List Element) → (length cell ≡ 0 → length cells ≡ 0 → length rows ≡ 0) → with_last columns rows cells cell ≡ record { last = a_row columns (pos 0) (row_element cell) cells; others = rows }
 kept_last columns [] cells cell h = refl
 kept_last columns (row ∷ rows) (x ∷ cells) cell h = refl
 kept_last columns (row ∷ rows) [] (x ∷ cell) h = refl
@@ -173,7 +173,7 @@ module _ (s : Start) (p : Parser) (t : Table) (place : ℕ) (row : CodeRow) (u :
       subst (λ v. GoesOnTable v place s (record p { builder = b })) (sym is)
       (goes_on s (record p { builder = b }) next place (rows_of t below) (cell ∷ cells_of t below) outside g.style rows cells all (λ o d. g.leads o (next_cell g.next (sym ends) d)))
 
-  pub row_broken : (b : Built) (i : Input) (v : Table) (gap : ℕ) (extent : Extent) (line : Line) → v ≡ record t { rows = t.rows + 1 + line_count line; cells = 0 } → elements_in b ≡ lined line (row_of extent cell (cells_of t below) ∷ drop t.cells below) → extent ≡ strut (density_in (columns_of t.columns)) gap → gap ≡ gap_at (left_of p) → line ≡ line_next (past_gap (left_of p)) → units_at i ≡ past_break (left_of p) → EndsRow ≡ cell_end (piece_of u.piece) → GoesOnTable v place s (record p { builder = b; input = i })
+  pub row_broken : (b : Built) (i : Input) (v : Table) (gap : ℤ) (extent : Extent) (line : Line) → v ≡ record t { rows = t.rows + 1 + line_count line; cells = 0 } → elements_in b ≡ lined line (row_of extent cell (cells_of t below) ∷ drop t.cells below) → extent ≡ strut (density_in (columns_of t.columns)) gap → gap ≡ gap_at (left_of p) → line ≡ line_next (past_gap (left_of p)) → units_at i ≡ past_break (left_of p) → EndsRow ≡ cell_end (piece_of u.piece) → GoesOnTable v place s (record p { builder = b; input = i })
   row_broken b i v gap extent line is puts props below_it follows units ends =
       let n = t.rows + 1 + line_count line in
       let next : Table = record t { rows = n; cells = 0 } in
@@ -240,9 +240,9 @@ module _ (s : Start) (p : Parser) (t : Table) (count : ℕ) (kind : CodeKind) (a
         leads = subst (λ n. Ended (record { last = last; others = rest }) (drop n (elements_of p))) beside (subst (λ k. Ended k beyond) lines g.leads);
       }
 
-  pub row_is_last : (b : Built) (n : ℕ) (extent : Extent) → n ≡ t.rows + 1 → (count ≡ 0 → t.cells ≡ 0 → t.rows ≡ 0) → count + (t.cells + t.rows) ≤ length (elements_of p) → elements_in b ≡ row_of extent last_cell (cells_of t behind) ∷ drop t.cells behind → extent ≡ strut (density_in (columns_of t.columns)) 0 → EndsRows t.kind t.columns n at s (record p { builder = b })
+  pub row_is_last : (b : Built) (n : ℕ) (extent : Extent) → n ≡ t.rows + 1 → (count ≡ 0 → t.cells ≡ 0 → t.rows ≡ 0) → count + (t.cells + t.rows) ≤ length (elements_of p) → elements_in b ≡ row_of extent last_cell (cells_of t behind) ∷ drop t.cells behind → extent ≡ strut (density_in (columns_of t.columns)) (pos 0) → EndsRows t.kind t.columns n at s (record p { builder = b })
   row_is_last b n extent is no_other there puts props =
-      let last = a_row (columns_of t.columns) 0 last_cell (cells_of t behind) in
+      let last = a_row (columns_of t.columns) (pos 0) last_cell (cells_of t behind) in
       let put : elements_in b ≡ last ∷ drop t.cells behind = puts ∙ ap (λ e. row_of e last_cell (cells_of t behind) ∷ drop t.cells behind) props in
       let lines : Lines = record { last = last; others = rows_of t behind } in
       let rows_there : length (rows_of t behind) ≡ t.rows = length-take-le t.rows (drop t.cells behind) (count_left t.rows t.cells count (elements_of p) there) in

@@ -1,5 +1,5 @@
 -- Tables whose cells hold no character that XML forbids hold none, and the rules of tables give none.
-use Rattle.std.proofs.Common.{◌≡◌, ℕ, zero, suc, Bool, true, false, not, ◌&&◌, if◌then◌else◌, nat_le, List, [], ◌∷◌, length, Option, Some, None, refl, subst}
+use Rattle.std.proofs.Common.{◌≡◌, ℕ, zero, suc, ℤ, pos, Bool, true, false, not, ◌&&◌, if◌then◌else◌, nat_le, List, [], ◌∷◌, length, Option, Some, None, refl, subst}
 use Rattle.std.proofs.lemmas.Bool.{and_parts}
 use Rattle.std.specs.{Bool.⊤, Char.encode_utf8, List.list_all, Str.bytes_eq, Str.chars}
 use Rattle.latex2mathml_elements.specs.Characters.{IsAllowed, HasAllowedTexts, EachTextOf, EachTextOfCells, EachTextOfRows}
@@ -20,13 +20,13 @@ use Rattle.latex2mathml_tex_grammar.proofs.Choices.{of_either}
 
 -- Rows
 
-pub a_row_allowed : (columns : Columns) (gap : ℕ) (x : Element) (cells : List Element) → HasAllowedTexts x → AreAllowedElements cells → HasAllowedTexts (a_row columns gap x cells)
+pub a_row_allowed : (columns : Columns) (gap : ℤ) (x : Element) (cells : List Element) → HasAllowedTexts x → AreAllowedElements cells → HasAllowedTexts (a_row columns gap x cells)
 a_row_allowed columns gap x cells h k = row_children_allowed (with_strut (strut (density_in columns) gap) x ∷ cells) ((h, (tt, tt)), k)
 
 pub with_last_allowed : (columns : Columns) (rows cells cell : List Element) → AreAllowedElements rows → AreAllowedElements cells → AreAllowedElements cell → AreAllowedLines (with_last columns rows cells cell)
-with_last_allowed columns [] cells cell h k i = (a_row_allowed columns 0 (row_element cell) cells (row_element_allowed cell i) k, h)
-with_last_allowed columns (row ∷ rows) (x ∷ cells) cell h k i = (a_row_allowed columns 0 (row_element cell) (x ∷ cells) (row_element_allowed cell i) k, h)
-with_last_allowed columns (row ∷ rows) [] (x ∷ cell) h k i = (a_row_allowed columns 0 (row_element (x ∷ cell)) [] (row_element_allowed (x ∷ cell) i) tt, h)
+with_last_allowed columns [] cells cell h k i = (a_row_allowed columns (pos 0) (row_element cell) cells (row_element_allowed cell i) k, h)
+with_last_allowed columns (row ∷ rows) (x ∷ cells) cell h k i = (a_row_allowed columns (pos 0) (row_element cell) (x ∷ cells) (row_element_allowed cell i) k, h)
+with_last_allowed columns (row ∷ rows) [] (x ∷ cell) h k i = (a_row_allowed columns (pos 0) (row_element (x ∷ cell)) [] (row_element_allowed (x ∷ cell) i) tt, h)
 with_last_allowed columns (row ∷ rows) [] [] h k i = (h.0, h.1)
 
 cells_behind_allowed : (k : ℕ) (columns : Columns) (x : Element) (xs : Elements) → HasAllowedTexts x → EachTextOf IsAllowed xs → EachTextOfCells IsAllowed (cells_behind k columns x xs)

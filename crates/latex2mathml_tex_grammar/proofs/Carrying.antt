@@ -1,5 +1,5 @@
 -- What units are read as, units that are alike but for white space are read as too.
-use Rattle.std.proofs.Common.{◌≡◌, ℕ, List, true, [], ◌∷◌, Option, refl, sym, ap, subst, ◌∙◌}
+use Rattle.std.proofs.Common.{◌≡◌, ℕ, ℤ, List, true, [], ◌∷◌, Option, refl, sym, ap, subst, ◌∙◌}
 use Rattle.latex2mathml_elements.specs.Columns.{Columns}
 use Rattle.latex2mathml_tex_grammar.specs.{Atoms.Atom, Atoms.Before, Delimiters.delimiter_of, Makes.Core, Makes.Scripts, Refusal.MissingDelimiter, Refusal.Refusal, Rows.Row, Rows.Operand, Symbols.Alphabet, Words.Words}
 use Rattle.latex2mathml_tex_grammar.specs.Next.{digits_next, past_space}
@@ -229,7 +229,7 @@ mutual
   carry_behind_cell other ended (next_row {columns = columns} {rows = rows} {cells = cells} {cell = cell} {u = u} p s d) calm h =
       let next = next_too h p in
       let alike = behind_plain u.piece (ended _ u p) calm next.alike in
-      let row = λ (gap : ℕ). a_row columns gap (row_element cell) cells ∷ rows in
+      let row = λ (gap : ℤ). a_row columns gap (row_element cell) cells ∷ rows in
       also (lined_too (line_too (past_gap_too calm alike)) (ap row (gap_too calm alike)) (carry_rows other d calm (past_break_too calm alike))) (λ p. next_row next.is s)
   carry_behind_cell {m = m} other ended (table_ends p s) calm h = (let next = next_too h p in also_read m h (table_ends next.is s))
   carry_behind_cell {m = m} other ended (text_ends_table p) calm h = also_read m h (text_ends_table (end_too h p).1)

@@ -1,5 +1,5 @@
 -- What follows one outcome of units also follows another one, where the two are the same.
-use Rattle.std.proofs.Common.{◌≡◌, ℕ, Option, Some, None, refl, sym, ap, subst, List}
+use Rattle.std.proofs.Common.{◌≡◌, ℕ, ℤ, Option, Some, None, refl, sym, ap, subst, List}
 use Rattle.latex2mathml_elements.specs.Element.{Element}
 use Rattle.latex2mathml_elements.specs.Columns.{Columns}
 use Rattle.latex2mathml_tex_grammar.specs.{Atoms.Atom, Atoms.Before, Makes.Core, Makes.Scripts, Makes.no_scripts, Rows.Row, Rows.Operand, Rows.empty_row, Rows.with_atom}
@@ -103,7 +103,7 @@ rows_moved_to_end then {x} {y} {a} {b} {j} {k} {o} e p q d =
     let at : b ≡ a = cc in
     subst (λ n. ReadsRule (then x n) (End n) o) at (subst (λ z. ReadsRule (then z b) (End b) o) same d)
 
-pub next_row_next : {end : TableEnd} {place : ℕ} {columns : Columns} {c : Context} {cells : List Element} (rows : ℕ → List Element) {w m n : Units} {u v : Unit} {o : Outcome Lines} → w ≡ Next u m → w ≡ Next v n → ReadsRows end place columns c (lined (line_next (past_gap n)) (rows (gap_at n))) cells (past_break n) o → ReadsRows end place columns c (lined (line_next (past_gap m)) (rows (gap_at m))) cells (past_break m) o
+pub next_row_next : {end : TableEnd} {place : ℕ} {columns : Columns} {c : Context} {cells : List Element} (rows : ℤ → List Element) {w m n : Units} {u v : Unit} {o : Outcome Lines} → w ≡ Next u m → w ≡ Next v n → ReadsRows end place columns c (lined (line_next (past_gap n)) (rows (gap_at n))) cells (past_break n) o → ReadsRows end place columns c (lined (line_next (past_gap m)) (rows (gap_at m))) cells (past_break m) o
 next_row_next {end} {place} {columns} {c} {cells} rows {o = o} p q d =
     next_is (λ u m. ReadsRows end place columns c (lined (line_next (past_gap m)) (rows (gap_at m))) cells (past_break m) o) p q d
 

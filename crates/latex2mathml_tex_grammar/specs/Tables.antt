@@ -1,5 +1,5 @@
 -- Tables: rows of cells. Here what was read last comes first.
-use Rattle.std.specs.Prelude.{ℕ, true, List, [], ◌∷◌, reverse, Option, Some, None}
+use Rattle.std.specs.Prelude.{ℕ, ℤ, pos, true, List, [], ◌∷◌, reverse, Option, Some, None}
 use Rattle.latex2mathml_elements.specs.Attributes.{plain, MathStyle}
 use Rattle.latex2mathml_elements.specs.{Columns.Alignment, Columns.SecondOfPair, Columns.Columns, Columns.column_at, Columns.density_in, Extents.Extent, Struts.strut, Struts.with_strut, Tables.attributes_in, Tables.rows_in}
 use Rattle.latex2mathml_elements.specs.Element.{Mrow, Element, Rows, container, table, children}
@@ -27,7 +27,7 @@ abbrev pub row_of : Extent → Element → List Element → Element
 row_of extent x cells = container Mrow plain (children (reverse (with_strut extent x ∷ cells)))
 
 -- such a row of a table in these columns, with this space below it, in thousandths of an em
-abbrev pub a_row : Columns → ℕ → Element → List Element → Element
+abbrev pub a_row : Columns → ℤ → Element → List Element → Element
 a_row columns gap = row_of (strut (density_in columns) gap)
 
 -- at least one row or line
@@ -38,7 +38,7 @@ pub record Lines : Type 0 where
 -- rows, then one of these cells and a last cell with these atoms; an empty last row counts only if it is the only one
 abbrev pub with_last : Columns → List Element → List Element → List Element → Lines
 with_last columns (row ∷ rows) [] [] = record { last = row; others = rows }
-with_last columns rows cells cell = record { last = a_row columns 0 (row_element cell) cells; others = rows }
+with_last columns rows cells cell = record { last = a_row columns (pos 0) (row_element cell) cells; others = rows }
 
 -- the rows of a table: those before one, the last of them first, then this one, and those after it
 abbrev pub rows_onto : Columns → List Element → Element → List Element → Rows

@@ -1,7 +1,8 @@
 -- What is taken unit by unit.
 use Rattle.std.proofs.Common.{◌≡◌, ℕ, ℤ, suc, ◌≤◌, Bool, true, false, List, [], ◌++◌, Option, MatchOption, Some, None, refl, sym, ap, subst, ◌∙◌, append-nil, append_assoc, arith}
 use Rattle.std.specs.{Bool.⊤, Char.encode_utf8}
-use Rattle.latex2mathml_tex_grammar.specs.{Lengths.length_of, Lengths.most_thousandths, Lengths.thousandths_of, Lengths.width_of, Lengths.within_most, Refusal.Refusal, RowGaps.space_found, RowGaps.space_of}
+use Rattle.latex2mathml_attributes.specs.Columns.{IsSmall}
+use Rattle.latex2mathml_tex_grammar.specs.{Lengths.length_of, Lengths.thousandths_of, Lengths.width_of, Lengths.within_most, Refusal.Refusal, RowGaps.space_found, RowGaps.space_of}
 use Rattle.latex2mathml_tex_grammar.specs.Scanning as scanning
 use Rattle.latex2mathml_tex_grammar.specs.Scanning.{Found, Given, Missing, BeforeRow, BeforeLength, BeforeStar, behind_found, done, found_at_end, may_end, past, past_break, scan, with_character}
 use Rattle.latex2mathml_tex_grammar.specs.Units.{Unit, Units, Next, End, Stop}
@@ -98,7 +99,7 @@ space_taken None text before l m is none h =
     ap space_found (sym (behind_nothing (scan 0 l BeforeLength)) ∙ ap (λ t. behind_text t (scan 0 l BeforeLength)) (sym none) ∙ h)
 space_taken (Some error) text before l m is none h = absurd (grind (arith, is))
 
-small_within : (is_negative : Bool) (n : ℕ) → space_of (within_most is_negative n) ≤ most_thousandths
+small_within : (is_negative : Bool) (n : ℕ) → IsSmall (space_of (within_most is_negative n))
 small_within is_negative n = grind arith
 
 pub width_is : (width : Option ℤ) (text : List ℕ) → MatchOption width (width_of text ≡ None) (λ n. width_of text ≡ Some n) → width_of text ≡ width
@@ -106,6 +107,6 @@ width_is None text h = h
 width_is (Some n) text h = h
 
 -- no space is larger than the largest length
-pub small_space : (found : Found) → space_found found ≤ most_thousandths
+pub small_space : (found : Found) → IsSmall (space_found found)
 small_space (Given text l) = (let length = length_of text in small_within length.is_negative (thousandths_of length.first length.last length.number length.scale))
 small_space (Missing r) = omega arith

@@ -1,6 +1,6 @@
 //! Names, columns and lengths, which are found among the units that are left and taken or skipped.
 ghost use Rattle.std.specs.Prelude.{◌≡◌, ◌≤◌, ℕ, IfOk, OnOk, string_bytes};
-ghost use Rattle.latex2mathml_attributes.specs.Lines.{line_of};
+ghost use Rattle.latex2mathml_attributes.specs.{Columns.IsSmall, Lines.line_of};
 ghost use Rattle.latex2mathml_tex_grammar.specs.Next.{follows};
 ghost use Rattle.latex2mathml_tex_grammar.specs.RowGaps.{gap_at, space_found, space_of};
 ghost use Rattle.latex2mathml_tex_grammar.specs.RowLines.{is_line_command, line_next};
@@ -117,10 +117,10 @@ impl<'a> Input<'a> {
     }
 
     /// Skips the star and the length that may follow the sign that ends a row. Returns the space below the row that the length
-    /// says, in thousandths of an em: none if there is no length, or one that is negative or too large.
-    pub fn pass_gap(&mut self, alloc: Global) -> Result<u32, AllocError>
+    /// says, in thousandths of an em: none if there is no length, or one that is too large.
+    pub fn pass_gap(&mut self, alloc: Global) -> Result<i32, AllocError>
         ensures gap { IfOk result (λ gap. gap ≡ gap_at (units_at self.old)) }
-        ensures small { IfOk result (λ gap. gap ≤ 1638400) }
+        ensures small { IfOk result (λ gap. IsSmall gap) }
         ensures units { OnOk result (units_at self.new ≡ past_gap (units_at self.old)) }
     {
         self.pass(alloc, Spot::BeforeStar)?;
@@ -128,10 +128,10 @@ impl<'a> Input<'a> {
     }
 
     /// Skips a length in brackets, if it is there. Returns the space that it is, in thousandths of an em.
-    fn pass_length(&mut self, alloc: Global) -> Result<u32, AllocError>
+    fn pass_length(&mut self, alloc: Global) -> Result<i32, AllocError>
         ensures space { IfOk result (λ space.
             space ≡ space_found (scan 0 (units_at self.old) BeforeLength)) }
-        ensures small { IfOk result (λ space. space ≤ 1638400) }
+        ensures small { IfOk result (λ space. IsSmall space) }
         ensures units { OnOk result (units_at self.new ≡ past BeforeLength (units_at self.old)) }
     {
         let start = self.taken;
@@ -188,12 +188,12 @@ impl<'a> Input<'a> {
     }
 }
 
-/// Returns the space that a width is, in thousandths of an em: none if it is negative, or too large to be one.
-fn space_of(width: Option<i32>) -> u32
+/// Returns the space that a width is, in thousandths of an em: none if it is too large to be one.
+fn space_of(width: Option<i32>) -> i32
     ensures { result ≡ space_of width }
 {
     match width {
-        Some(width) if width > 0 => width as u32,
-        _ => 0,
+        Some(width) => width,
+        None => 0,
     }
 }

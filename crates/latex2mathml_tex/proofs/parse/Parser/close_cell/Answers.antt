@@ -1,4 +1,5 @@
-use Rattle.std.proofs.Common.{ℕ, ◌+◌, ap, arith, drop, length, refl, sym, ◌∙◌}
+use Rattle.std.proofs.Common.{◌≡◌, ℕ, ℤ, of_z, to_z, w32, ◌+◌, ap, arith, drop, length, refl, sym, ◌∙◌}
+use Rattle.std.proofs.lemmas.Int.{ints}
 use Rattle.latex2mathml_attributes.specs.Lines.{line_of}
 use Rattle.latex2mathml_attributes.specs.Arounds.{extent_of}
 use Rattle.latex2mathml_elements.specs.Struts.{strut}
@@ -21,13 +22,14 @@ returns-in_ok-lines-in-EndsRow-clause-holds c = λ s g.
     let ends = sym (ap cell_end_of c.in-EndsRow.is) ∙ c.cell_end.ensures in
     let line = line_of c.in_ok-line-in-EndsRow.line in
     let table : ℕ → Table = λ n. record t { rows = t.rows + 1 + n; cells = 0 } in
-    let gap = c.in_ok-gap-in-EndsRow.gap in
+    let gap : ℤ = to_z w32 (of_z w32 c.in_ok-gap-in-EndsRow.gap) in
+    let same : gap ≡ c.in_ok-gap-in-EndsRow.gap = omega (arith, ints) in
     let props = c.strut-strut.ensures ∙ ap (λ d. strut d gap) c.density.ensures in
     let puts = c.in_ok-lines-in-EndsRow.ensures.elements ∙ ap (lined line) c.in_ok-put_last-in-EndsRow.ensures in
     let behind = c.in_ok-gap-in-EndsRow.ensures.units in
     let follows = c.in_ok-line-in-EndsRow.ensures.line ∙ ap line_next behind in
     let units = c.in_ok-line-in-EndsRow.ensures.units ∙ ap (past BeforeRow) behind in
-    c.begin_cell-in-EndsRow.ensures.holds s (row_broken s c.args.self.now t c.args.place c.args.row c.args.unit g c.put_line.new.builder c.pass_lines.new.self _ gap (extent_of c.strut-strut.result) line (ap table c.in_ok-lines-in-EndsRow.ensures.count) puts props c.in_ok-gap-in-EndsRow.ensures.gap follows units ends)
+    c.begin_cell-in-EndsRow.ensures.holds s (row_broken s c.args.self.now t c.args.place c.args.row c.args.unit g c.put_line.new.builder c.pass_lines.new.self _ gap (extent_of c.strut-strut.result) line (ap table c.in_ok-lines-in-EndsRow.ensures.count) puts props (same ∙ c.in_ok-gap-in-EndsRow.ensures.gap) follows units ends)
 
 pub returns-in_ok-lines-in-EndsRow-clause-step : goal.returns-in_ok-lines-in-EndsRow-clause-step
 returns-in_ok-lines-in-EndsRow-clause-step c =
