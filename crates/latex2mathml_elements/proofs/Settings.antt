@@ -2,8 +2,8 @@
 use Rattle.std.proofs.Common.{◌≡◌, ℕ, zero, ℤ, pos, Bool, true, false, ◌&&◌, ◌==◌, IsTrue, List, [], ◌∷◌, ◌++◌, append_assoc, append-nil, Option, Some, None, refl, arith, codes, map, if◌then◌else◌}
 use Rattle.std.specs.{Cmp.Lexicographic.bytes_decides, List.flat_map, List.list_all, Str.byte, Str.bytes_eq}
 use Rattle.std.proofs.{lemmas.Grind.flat_map-append, lemmas.List.Folds.list_all-append, lemmas.List.Folds.list_all-map}
-use Rattle.latex2mathml_elements.specs.{Attributes.Attributes, Columns.Alignment, Columns.Column, Columns.Density, Columns.Spacing, Lines.Line, Lines.NoLine, Lines.OneLine, Lines.TwoLines, Lines.Dashes, Lines.RowLines}
-use Rattle.latex2mathml_elements.specs.Print.{accent_text, alignment_style, alignment_text, attributes_text, border_style, boxing_text, column_style, column_text, form_text, if_so, line_style, lines_text, math_tag, size_text, space_text, spacing_style, stretch_text, style_text}
+use Rattle.latex2mathml_elements.specs.{Attributes.Attributes, Columns.Alignment, Columns.Column, Columns.Density, Columns.Spacing, Lines.Line, Lines.RowLines}
+use Rattle.latex2mathml_elements.specs.Print.{accent_text, alignment_style, alignment_text, attributes_text, border_style, boxing_text, column_style, column_text, form_text, if_so, lines_text, math_tag, size_text, space_text, spacing_style, stretch_text, style_text}
 use Rattle.latex2mathml_elements.specs.Colors.{Color, color_code, color_text}
 use Rattle.latex2mathml_elements.specs.Extents.{Extent, black_text, ems, extent_text, length_if_any, length_text}
 use Rattle.latex2mathml_elements.proofs.Plain.{IsPlain, IsQuotable, color_quotable, ems_quotable, is_plain, name_plain, width_quotable}

@@ -4,7 +4,7 @@ use Rattle.std.specs.{Prelude.⊤, Str.chars}
 use Rattle.latex2mathml_elements.specs.{Annotated.IsAnnotatedMathElement, Annotated.annotated_print, Characters.IsAllowed, Dollars.IsDollarFree, Element.Element, Element.children, Print.formula_print}
 use Rattle.latex2mathml_elements.proofs.{Annotated.annotated_print_as_elements, OneElement.print_as_elements}
 use Rattle.latex2mathml_trees.specs.MathSchema.{IsMathElement}
-use Rattle.latex2mathml_tex_grammar.specs.{Atoms.Atom, Atoms.Before, DefinitionTexts.Defines, Macros.SameMacros, Macros.Table, Makes.Core, Makes.is_display, Makes.no_scripts, Meaning.Beside, Refusal.Kind, Refusal.Refusal, Refusal.refusal_at, Rests.finished, Rows.Row, Rows.empty_row, Rows.row_element, Rows.with_atom, Symbols.Style}
+use Rattle.latex2mathml_tex_grammar.specs.{Atoms.Atom, Atoms.Before, DefinitionTexts.Defines, Macros.SameMacros, Macros.Table, Makes.Core, Makes.is_display, Makes.no_scripts, Meaning.Beside, Refusal.Kind, Refusal.Refusal, Refusal.refusal_at, Rests.finished, Rows.Row, Rows.row_element, Rows.with_atom, Symbols.Style}
 use Rattle.latex2mathml_tex_grammar.specs.Formulas.{IsExpansion, IsReading, ReadsFormula, as_atoms, as_rows, formula_context, is_outside, row_print, row_print_with_source, shown, source_text}
 use Rattle.latex2mathml_tex_grammar.specs.Formulas as formula
 use Rattle.latex2mathml_tex_grammar.specs.Reading.{Outcome, Read, Refused, ReadsAtoms, text_ends, never_ended, atoms_stopped, atoms_end, atom_read, atom_refused, rest_read, change_refused, ReadsRule, rule_gives, rows_read, rows_to_end, ReadsScripts, scripts_end, mark_taken, script_read, script_refused, mark_refused}

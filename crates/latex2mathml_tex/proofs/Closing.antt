@@ -10,7 +10,7 @@ use Rattle.latex2mathml_tex.specs.{Frames.Start, Frames.context_at, Frames.label
 use Rattle.latex2mathml_tex_atoms.specs.Models.{context_of, core_with, kind_of, top}
 use Rattle.latex2mathml_tex_commands.specs.declared.meaning.Style.TheVariants as style
 use Rattle.latex2mathml_tex.specs.Steps.{CanMake, ClosesRow, Follows, Holds, InnermostIs, Made, core_made, elements_of, left_of, level, level_within, operand_made, to_do, words_made}
-use Rattle.latex2mathml_tex_atoms.specs.declared.{atoms.Context.Context, atoms.Core.Core as CodeCore, atoms.Operand.Operand as CodeOperand, atoms.Row.Row as CodeRow, atoms.Words.Words as CodeWords}
+use Rattle.latex2mathml_tex_atoms.specs.declared.{atoms.Context.Context, atoms.Core.Core as CodeCore, atoms.Operand.Operand as CodeOperand, atoms.Row.Row as CodeRow}
 use Rattle.latex2mathml_tex.specs.declared.parse.Parser.{Parser}
 use Rattle.latex2mathml_tex.specs.declared.parse.State.TheVariants as state
 use Rattle.latex2mathml_tex.specs.declared.parse.frames.Frame.{Frame}

@@ -1,10 +1,9 @@
 -- What holds of the parser where its innermost frame is taken off, and where a frame is pushed.
 use Rattle.std.specs.Prelude.{⊤}
-use Rattle.std.proofs.Common.{◌≡◌, ◌∙◌, ◌+◌, ◌<◌, ◌≤◌, ◌&&◌, ◌++◌, ℕ, Bool, IsTrue, List, Option, Result, [], ◌∷◌, ap, arith, drop, false, refl, reverse, subst, sum_by, sym, take, true}
+use Rattle.std.proofs.Common.{◌≡◌, ◌∙◌, ◌+◌, ◌≤◌, ◌&&◌, ◌++◌, ℕ, Bool, IsTrue, List, Option, Result, [], ◌∷◌, ap, arith, drop, false, refl, reverse, subst, sum_by, sym, take, true}
 use Rattle.std.proofs.lemmas.{Bool.and_parts, List.reverse-append, List.Sums.sum_by_push}
 use Rattle.std.specs.declared.alloc.AllocError.{AllocError}
 use Rattle.latex2mathml_tex_grammar.specs.{Makes.core, Makes.struck, Reading.Read, Rules.gives, Rules.struck_atom}
-use Rattle.latex2mathml_tex_units.specs.Left.{unit_count, units_at}
 use Rattle.latex2mathml_builder.specs.Built.{Built, elements_in}
 use Rattle.latex2mathml_tex_grammar.specs.Words as words
 use Rattle.latex2mathml_tex_grammar.specs.Words.{text_atom, with_accent_ended}
@@ -12,8 +11,7 @@ use Rattle.latex2mathml_tex_atoms.specs.Wording.{Replaced}
 use Rattle.latex2mathml_tex_atoms.specs.Models.{core_with, top, words_with}
 use Rattle.latex2mathml_tex.specs.{Frames.Start, Frames.element_count, Innermost.IsInnermost, Innermost.none_begun, Innermost.on_top}
 use Rattle.latex2mathml_tex.specs.Levels.{CoreMade, PartMade}
-use Rattle.latex2mathml_tex.specs.Steps.{Advances, Begins, CanMake, Follows, HasElements, Holds, Made, Ready, accepts, are_nested, elements_of, first_accepts, frame_weight, left_of, makes, to_do, words_made}
-use Rattle.latex2mathml_tex_units.specs.declared.input.Input.{Input}
+use Rattle.latex2mathml_tex.specs.Steps.{Advances, Begins, CanMake, Follows, HasElements, Holds, Made, accepts, are_nested, elements_of, first_accepts, frame_weight, left_of, makes, to_do, words_made}
 use Rattle.latex2mathml_tex_commands.specs.declared.meaning.{Alphabet.Alphabet, Style.Style}
 use Rattle.latex2mathml_tex_atoms.specs.declared.atoms.{Context.Context, Core.Core, Words.Words}
 use Rattle.latex2mathml_tex.specs.declared.parse.{Parser.Parser, State.State, frames.Frame.Frame, frames.Frames.Frames}

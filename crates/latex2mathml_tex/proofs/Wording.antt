@@ -1,6 +1,6 @@
 -- Words: what is put after them, and where what is in them leads.
-use Rattle.std.proofs.Common.{◌≡◌, ℕ, ◌+◌, ◌<◌, ◌≤◌, Bool, false, true, None, zero, suc, IsTrue, IsFalse, List, [], ◌∷◌, Option, Some, length, take, drop, option_map, reverse, refl, sym, ap, ◌∙◌, arith}
-use Rattle.latex2mathml_elements.specs.{Attributes.plain, Element.Element, Element.Mtext, Element.token}
+use Rattle.std.proofs.Common.{◌≡◌, ℕ, ◌+◌, ◌<◌, ◌≤◌, false, None, zero, suc, IsTrue, IsFalse, List, [], ◌∷◌, Option, Some, length, take, drop, option_map, reverse, refl, sym, ap, ◌∙◌, arith}
+use Rattle.latex2mathml_elements.specs.{Element.Element}
 use Rattle.latex2mathml_builder.specs.Built.{Built, elements_in}
 use Rattle.latex2mathml_tex_grammar.specs.{Makes.Core, Rows.empty_row, Rows.row_element, Rows.single, Rows.with_atom, Symbols.Alphabet, Symbols.InText}
 use Rattle.latex2mathml_tex_grammar.specs.Reading.{Outcome, Read, Refused, word_stopped}
@@ -9,7 +9,7 @@ use Rattle.latex2mathml_tex_grammar.specs.Rules.{gives}
 use Rattle.latex2mathml_tex_grammar.specs.Next.{past_space}
 use Rattle.latex2mathml_tex_grammar.specs.Units as grammar
 use Rattle.latex2mathml_tex_grammar.specs.Units.{Piece}
-use Rattle.latex2mathml_tex_grammar.specs.Words.{Accented, Word, Words, Formula, Nothing, IsWord, NoWord, TakesWords, with_accent_ended, with_word, word_rule, words_element}
+use Rattle.latex2mathml_tex_grammar.specs.Words.{Accented, Word, Words, Formula, Nothing, IsWord, NoWord, TakesWords, with_accent_ended, word_rule, words_element}
 use Rattle.latex2mathml_tex_units.specs.{Errors.refusal_of, Left.units_at}
 use Rattle.latex2mathml_tex.specs.Frames.{Start, Whole, inside}
 use Rattle.latex2mathml_tex.specs.Levels.{Level, PartMade, WordLeads, words}

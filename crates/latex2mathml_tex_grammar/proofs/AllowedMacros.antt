@@ -8,7 +8,7 @@ use Rattle.latex2mathml_tex_grammar.specs.Definitions.{Word, definition_of, part
 use Rattle.latex2mathml_tex_grammar.specs.ExpansionLaws.{EachFixed, EachInMacro, EachInTable, added_pieces}
 use Rattle.latex2mathml_tex_grammar.specs.{Cutting.units_of, Next.is_space_piece, Expansion.Expands, Macros.Part, Macros.Table}
 use Rattle.latex2mathml_tex_grammar.specs.{Reading.Outcome, Reading.Read, Reading.Refused}
-use Rattle.latex2mathml_tex_grammar.specs.Units.{Command, Unit, Units, Next, End, Stop}
+use Rattle.latex2mathml_tex_grammar.specs.Units.{Unit, Units, Next, End, Stop}
 use Rattle.latex2mathml_tex_grammar.specs.UsualMacros.{entry_macro, listed, macro_with, usual_entries, usual_macros}
 use Rattle.latex2mathml_tex_grammar.proofs.Adding.{EachOf, IfParts, IsPassed, Passes, behind, of_definition, of_found, of_parts, pieces_of}
 use Rattle.latex2mathml_tex_grammar.proofs.{Allowed.AreAllowedUnits, Allowed.IsAllowedPiece, AllowedUnits.units_allowed, Choices.of_either, OneList.has_units}

@@ -1,4 +1,4 @@
-use Rattle.std.proofs.Common.{◌≡◌, ◌≤◌, ◌∙◌, ◌<◌, ap, arith, length, sym, take}
+use Rattle.std.proofs.Common.{◌≡◌, ◌∙◌, ◌<◌, ap, arith, length, sym, take}
 use Rattle.latex2mathml_elements.specs.Columns.{Centered, column_at, unlined}
 use Rattle.latex2mathml_attributes.specs.{Columns.behind_line, Columns.columns_with, Columns.columns_in, Columns.line_before, Columns.listed_of, Lines.line_of}
 use Rattle.latex2mathml_attributes.proofs.Halves.{length_in}
@@ -22,9 +22,9 @@ returns-in-Listed-2 c =
     let self = c.args.self.now in
     let cs = columns_in self.listed in
     let none : column_at (columns_with c.args.self.now.kind (line_of self.before) (take self.len cs)) c.args.place ≡ unlined Centered =
-        ap (λ k. column_at (columns_with k (line_of self.before) (take self.len cs)) c.args.place) c.in-Listed-2.is
-        ∙ elim c.if-place-lt-MOST_COLUMNS.branch [
-          | then-place-lt-MOST_COLUMNS+else-place-self w ↦ none_behind (line_of self.before) cs self.len c.args.place (omega (arith, w.if-place-self.false))
-          | else-place-lt-MOST_COLUMNS w ↦ none_beyond (line_of self.before) cs self.len c.args.place (omega (arith, w.if-place-lt-MOST_COLUMNS.false, length_in self.listed, c.well_formed))
-        ] in
+    ap (λ k. column_at (columns_with k (line_of self.before) (take self.len cs)) c.args.place) c.in-Listed-2.is
+    ∙ elim c.if-place-lt-MOST_COLUMNS.branch [
+      | then-place-lt-MOST_COLUMNS+else-place-self w ↦ none_behind (line_of self.before) cs self.len c.args.place (omega (arith, w.if-place-self.false))
+      | else-place-lt-MOST_COLUMNS w ↦ none_beyond (line_of self.before) cs self.len c.args.place (omega (arith, w.if-place-lt-MOST_COLUMNS.false, length_in self.listed, c.well_formed))
+    ] in
     c.behind-in-Listed-2.ensures ∙ sym none

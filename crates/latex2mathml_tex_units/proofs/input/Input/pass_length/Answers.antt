@@ -1,7 +1,7 @@
 use Rattle.std.proofs.Common.{◌≡◌, None, ap, arith, of_z, string_bytes, subst, sym, to_z, w32, ◌∙◌}
 use Rattle.std.proofs.lemmas.Int.{ints}
 use Rattle.latex2mathml_attributes.specs.Columns.{IsSmall}
-use Rattle.latex2mathml_tex_grammar.specs.{Lengths.width_of, RowGaps.space_found, RowGaps.space_of}
+use Rattle.latex2mathml_tex_grammar.specs.{Lengths.width_of, RowGaps.space_of}
 use Rattle.latex2mathml_tex_grammar.specs.Scanning.{BeforeLength, scan}
 use Rattle.latex2mathml_tex_units.specs.Left.{units_at}
 use Rattle.latex2mathml_tex_units.proofs.Scanned.{small_space, space_taken, width_is}

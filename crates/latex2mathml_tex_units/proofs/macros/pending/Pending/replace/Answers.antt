@@ -1,6 +1,6 @@
-use Rattle.std.proofs.Common.{◌-◌, ◌≡◌, ap, arith, option_map, subst, sym, ◌∙◌}
+use Rattle.std.proofs.Common.{◌-◌, ap, arith, option_map, subst, sym, ◌∙◌}
 use Rattle.latex2mathml_tex_grammar.specs.Units as units
-use Rattle.latex2mathml_tex_units.specs.{Bodies.form_in, Bodies.macro_of, Pending.pending_units, Putting.Replaces}
+use Rattle.latex2mathml_tex_units.specs.{Bodies.form_in, Pending.pending_units, Putting.Replaces}
 use Rattle.latex2mathml_tex_units.proofs.Forms.{used_as}
 use Rattle.latex2mathml_tex_units.proofs.macros.pending.Pending.replace.Goals as goal
 
