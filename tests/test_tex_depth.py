@@ -35,7 +35,7 @@ class Deep(support.Case):
         self.answers(kind.nest(LEVELS, "x"), kind.contents(LEVELS))
 
     def test_as_many_rows_as_cells(self):
-        cell = '<mtd style="padding: {}">{}</mtd>'
+        cell = '<mtd style="padding: {}; line-height: 1">{}</mtd>'
         last = '<mrow><mi>x</mi><mspace width="0em" height="0.84em" depth="0.36em"/></mrow>'
         first, later = (cell.format(space, "<mi>x</mi>") for space in ("0", "0 0 0 1em"))
         row = f"<mtr>{first}{later * 998}{cell.format('0 0 0 1em', last)}</mtr>"

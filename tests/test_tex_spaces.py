@@ -1,6 +1,6 @@
 """The space that Chromium leaves between the atoms of a formula of `tex_to_mathml`, against TeX's table of spaces, and the space that
-both browsers leave at the sides of columns and next to an atom that begins a cell. The comparison of markup with KaTeX
-(`test_tex_katex`) does not see space."""
+both browsers leave at the sides of columns, between rows, and next to an atom that begins a cell. The comparison of markup with
+KaTeX (`test_tex_katex`) does not see space."""
 import itertools
 import math
 import unittest
@@ -33,6 +33,17 @@ TABLES = {r"\begin{matrix}c&c&c\\c\end{matrix}": [0, 1, 1, 0], r"\begin{cases}c&
           r"\begin{array}{|l|}c&c\end{array}": [1 / 2, 1, 1 / 2], r"\begin{eqnarray}c&c&c\end{eqnarray}": [1 / 2, 1, 1, 1 / 2],
           r"\begin{smallmatrix}c&c&c\end{smallmatrix}": [0, 5 / 18, 5 / 18, 0], r"x_{\substack{c\\c}}": [0, 0]}
 
+# Tables of rows with the letter c, and how many ems its line is below that of the row before it in TeX: rows are 12 points apart, in
+# `cases` a fifth more, and in `aligned` and the like 3 points more, where letters are of 10 points.
+ROWS = {r"\begin{matrix}c\\c\\c\end{matrix}": [1.2, 1.2], r"\begin{pmatrix}c&b\\c&y\\c&(\end{pmatrix}": [1.2, 1.2],
+        r"\begin{array}{|c|}\hline c\\\hline c\\\hline\end{array}": [1.2], r"\begin{cases}c&b\\c&y\\c\end{cases}": [1.44, 1.44],
+        r"\begin{aligned}c&=b\\c&=y\\c\end{aligned}": [1.5, 1.5], r"\begin{gathered}c\\bc\end{gathered}": [1.5],
+        r"\begin{eqnarray}c&=&b\\c\end{eqnarray}": [1.5], r"c\\bc": [1.5],
+        r"\begin{matrix}c\\[1ex]c\\[-2pt]c\\*[1em]c\end{matrix}": [1.2 + 0.431, 1.2 - 0.2, 1.2 + 1],
+        r"\begin{aligned}c&=b\\[0.5em]c\end{aligned}": [1.5 + 0.5]}
+# as well, but a line of text in a cell is higher in Firefox
+SMALL_ROWS = {r"\begin{smallmatrix}c\\c\end{smallmatrix}": [0.6], r"x_{\substack{c\\c}}": [0.6]}
+
 PAGE = """<!DOCTYPE html><meta charset="utf-8"><style>math { font-size: 100px }</style>%s<script>
 const gapsBetween = (boxes, em) => boxes.slice(1).map((box, place) => (box.left - boxes[place].right) / em);
 const boxesOf = elements => elements.map(element => element.getBoundingClientRect());
@@ -49,6 +60,11 @@ OF_ATOMS = """formula => {
 OF_CELLS = """formula => {
     const {left, right} = formula.querySelector("mtable").getBoundingClientRect();
     return gapsBetween([{right: left}, ...boxesOf([...formula.querySelectorAll("mtr:first-child > mtd > mi")]), {left: right}], 100);
+}"""
+# the ems between the lines of the letter c in two rows
+OF_ROWS = """formula => {
+    const letters = [...formula.querySelectorAll("mtd mi")].filter(letter => letter.textContent == "c");
+    return boxesOf(letters).map(box => box.bottom / 100).map((line, place, lines) => line - lines[place - 1]).slice(1);
 }"""
 # the ems between the left side of the first cell and its last letter, without the width of the atom that is all of the second cell
 OF_FIRST = """formula => {
@@ -127,6 +143,22 @@ class Columns(Spaces):
     @requires("firefox-esr")
     def test_in_firefox(self):
         self.compare(firefox)
+
+
+class Rows(Spaces):
+    def compare(self, browser, rows):
+        for (formula, ems), found in zip(rows.items(), self.spaces(rows, browser, OF_ROWS), strict=True):
+            with self.subTest(formula):
+                alike = all(math.isclose(line, em, abs_tol=NEARLY) for line, em in zip(found, ems, strict=True))
+                self.assertTrue(alike, msg=f"found {found}, TeX {ems}")
+
+    @requires("chromium")
+    def test_in_chromium(self):
+        self.compare(chromium, ROWS | SMALL_ROWS)
+
+    @requires("firefox-esr")
+    def test_in_firefox(self):
+        self.compare(firefox, ROWS)
 
 
 class BeginningCells(Spaces):

@@ -209,14 +209,14 @@ impl Density {
         ensures { result.now ≡ spacing_style (density_of self) (spacing_of spacing) }
     {
         match (self, spacing) {
-            (Density::Dense, Spacing::Before) => "padding: 0 0 0 0.4em",
-            (Density::Dense, Spacing::Around) => "padding: 0 0.2em",
-            (Density::Opened, Spacing::Unspaced) => "padding: 0.15em 0",
-            (Density::Opened, Spacing::Before) => "padding: 0.15em 0 0.15em 1em",
-            (Density::Opened, Spacing::Around) => "padding: 0.15em 0.5em",
-            (_, Spacing::Unspaced) => "padding: 0",
-            (_, Spacing::Before) => "padding: 0 0 0 1em",
-            (_, Spacing::Around) => "padding: 0 0.5em",
+            (Density::Dense, Spacing::Before) => "padding: 0 0 0 0.4em; line-height: 1",
+            (Density::Dense, Spacing::Around) => "padding: 0 0.2em; line-height: 1",
+            (Density::Opened, Spacing::Unspaced) => "padding: 0.15em 0; line-height: 1",
+            (Density::Opened, Spacing::Before) => "padding: 0.15em 0 0.15em 1em; line-height: 1",
+            (Density::Opened, Spacing::Around) => "padding: 0.15em 0.5em; line-height: 1",
+            (_, Spacing::Unspaced) => "padding: 0; line-height: 1",
+            (_, Spacing::Before) => "padding: 0 0 0 1em; line-height: 1",
+            (_, Spacing::Around) => "padding: 0 0.5em; line-height: 1",
         }
     }
 

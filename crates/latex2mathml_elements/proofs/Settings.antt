@@ -3,7 +3,7 @@ use Rattle.std.proofs.Common.{◌≡◌, ℕ, zero, ℤ, pos, Bool, true, false,
 use Rattle.std.specs.{Cmp.Lexicographic.bytes_decides, List.flat_map, List.list_all, Str.byte, Str.bytes_eq}
 use Rattle.std.proofs.{lemmas.Grind.flat_map-append, lemmas.List.Folds.list_all-append, lemmas.List.Folds.list_all-map}
 use Rattle.latex2mathml_elements.specs.{Attributes.Attributes, Columns.Alignment, Columns.Column, Columns.Density, Columns.Spacing, Lines.Line, Lines.RowLines}
-use Rattle.latex2mathml_elements.specs.Print.{accent_text, alignment_style, alignment_text, attributes_text, border_style, boxing_text, column_style, column_text, form_text, if_so, lines_text, math_tag, size_text, space_text, spacing_style, stretch_text, style_text}
+use Rattle.latex2mathml_elements.specs.Print.{accent_text, alignment_style, alignment_text, attributes_text, border_style, boxing_text, column_style, column_text, form_text, if_so, lines_text, math_tag, size_text, space_text, sides_style, stretch_text, style_text}
 use Rattle.latex2mathml_elements.specs.Colors.{Color, color_code, color_text}
 use Rattle.latex2mathml_elements.specs.Extents.{Extent, black_text, ems, extent_text, length_if_any, length_text}
 use Rattle.latex2mathml_elements.proofs.Plain.{IsPlain, IsQuotable, color_quotable, ems_quotable, is_plain, name_plain, width_quotable}
@@ -119,8 +119,8 @@ settings a =
 alignment_quotable : (alignment : Alignment) → IsQuotable (alignment_style alignment)
 alignment_quotable alignment = grind arith
 
-spacing_quotable : (density : Density) (spacing : Spacing) → IsQuotable (spacing_style density spacing)
-spacing_quotable density spacing = grind arith
+sides_quotable : (density : Density) (spacing : Spacing) → IsQuotable (sides_style density spacing)
+sides_quotable density spacing = grind arith
 
 before_quotable : (line : Line) → IsQuotable (border_style (codes "left") line)
 before_quotable line = grind arith
@@ -129,7 +129,7 @@ after_quotable : (line : Line) → IsQuotable (border_style (codes "right") line
 after_quotable line = grind arith
 
 column_quotable : (c : Column) → IsQuotable (column_style c)
-column_quotable c = simp (list_all-append, alignment_quotable c.alignment, spacing_quotable c.density c.spacing, before_quotable c.before, after_quotable c.after)
+column_quotable c = simp (list_all-append, alignment_quotable c.alignment, sides_quotable c.density c.spacing, before_quotable c.before, after_quotable c.after)
 
 pub column : (c : Column) → AreSettings (column_text c)
 column c = beside (words (alignment_text c.alignment) (grind arith)) (quoted (codes "style") (column_style c) [] refl refl (column_quotable c))

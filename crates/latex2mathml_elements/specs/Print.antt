@@ -147,15 +147,19 @@ alignment_style alignment = []
 
 -- The space around the contents of cells, in the same language: above, at the right, below, and at the left. Between columns is a
 -- quad, or half of one around each; dense cells have less. Struts keep rows apart, and opened rows have more between them.
+abbrev pub sides_style : Density → Spacing → List ℕ
+sides_style Opened Unspaced = codes "padding: 0.15em 0"
+sides_style Opened SpaceBefore = codes "padding: 0.15em 0 0.15em 1em"
+sides_style Opened SpaceAround = codes "padding: 0.15em 0.5em"
+sides_style Dense SpaceBefore = codes "padding: 0 0 0 0.4em"
+sides_style Dense SpaceAround = codes "padding: 0 0.2em"
+sides_style density Unspaced = codes "padding: 0"
+sides_style density SpaceBefore = codes "padding: 0 0 0 1em"
+sides_style density SpaceAround = codes "padding: 0 0.5em"
+
+-- The space in cells and around them. Some browsers make a cell as high as a line of text, which is lower than a strut by this.
 abbrev pub spacing_style : Density → Spacing → List ℕ
-spacing_style Opened Unspaced = codes "padding: 0.15em 0"
-spacing_style Opened SpaceBefore = codes "padding: 0.15em 0 0.15em 1em"
-spacing_style Opened SpaceAround = codes "padding: 0.15em 0.5em"
-spacing_style Dense SpaceBefore = codes "padding: 0 0 0 0.4em"
-spacing_style Dense SpaceAround = codes "padding: 0 0.2em"
-spacing_style density Unspaced = codes "padding: 0"
-spacing_style density SpaceBefore = codes "padding: 0 0 0 1em"
-spacing_style density SpaceAround = codes "padding: 0 0.5em"
+spacing_style density spacing = sides_style density spacing ++ codes "; line-height: 1"
 
 -- how a line is drawn, in the same language: two lines and the space between them are a pixel wide each
 abbrev pub line_style : Line → List ℕ

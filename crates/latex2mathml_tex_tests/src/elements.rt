@@ -211,7 +211,7 @@ fn rows_become_cells(rt: HostRuntime) -> Result<(), Fail> {
         rt.alloc(),
         &builder,
         1,
-        "<mtable displaystyle=\"false\" scriptlevel=\"1\"><mtr><mtd columnalign=\"right\" style=\"text-align: right; text-align: -webkit-right; padding: 0.15em 0\"><mi>a</mi></mtd><mtd columnalign=\"left\" style=\"text-align: left; padding: 0.15em 0\"><mi>b</mi></mtd></mtr><mtr><mtd columnalign=\"right\" style=\"text-align: right; text-align: -webkit-right; padding: 0.15em 0\"><mrow></mrow></mtd></mtr><mtr><mtd columnalign=\"right\" style=\"text-align: right; text-align: -webkit-right; padding: 0.15em 0\"><mi>c</mi></mtd></mtr></mtable>",
+        "<mtable displaystyle=\"false\" scriptlevel=\"1\"><mtr><mtd columnalign=\"right\" style=\"text-align: right; text-align: -webkit-right; padding: 0.15em 0; line-height: 1\"><mi>a</mi></mtd><mtd columnalign=\"left\" style=\"text-align: left; padding: 0.15em 0; line-height: 1\"><mi>b</mi></mtd></mtr><mtr><mtd columnalign=\"right\" style=\"text-align: right; text-align: -webkit-right; padding: 0.15em 0; line-height: 1\"><mrow></mrow></mtd></mtr><mtr><mtd columnalign=\"right\" style=\"text-align: right; text-align: -webkit-right; padding: 0.15em 0; line-height: 1\"><mi>c</mi></mtd></mtr></mtable>",
     )
 }
 
@@ -270,7 +270,7 @@ fn columns_of_each_kind(rt: HostRuntime) -> Result<(), Fail> {
         rt.alloc(),
         &builder,
         3,
-        "<mtable><mtr><mtd columnalign=\"right\" style=\"text-align: right; text-align: -webkit-right; padding: 0.15em 0.5em\"><mi>a</mi></mtd><mtd style=\"padding: 0.15em 0.5em\"><mi>b</mi></mtd><mtd columnalign=\"left\" style=\"text-align: left; padding: 0.15em 0.5em\"><mi>c</mi></mtd></mtr></mtable><mtable style=\"border-collapse: collapse\"><mtr><mtd columnalign=\"left\" style=\"text-align: left; padding: 0 0.5em; border-right: thin solid\"><mi>d</mi></mtd><mtd style=\"padding: 0 0.5em\"><mi>e</mi></mtd></mtr></mtable><mtable><mtr><mtd style=\"padding: 0\"><mi>f</mi></mtd></mtr></mtable>",
+        "<mtable><mtr><mtd columnalign=\"right\" style=\"text-align: right; text-align: -webkit-right; padding: 0.15em 0.5em; line-height: 1\"><mi>a</mi></mtd><mtd style=\"padding: 0.15em 0.5em; line-height: 1\"><mi>b</mi></mtd><mtd columnalign=\"left\" style=\"text-align: left; padding: 0.15em 0.5em; line-height: 1\"><mi>c</mi></mtd></mtr></mtable><mtable style=\"border-collapse: collapse\"><mtr><mtd columnalign=\"left\" style=\"text-align: left; padding: 0 0.5em; line-height: 1; border-right: thin solid\"><mi>d</mi></mtd><mtd style=\"padding: 0 0.5em; line-height: 1\"><mi>e</mi></mtd></mtr></mtable><mtable><mtr><mtd style=\"padding: 0; line-height: 1\"><mi>f</mi></mtd></mtr></mtable>",
     )
 }
 
@@ -311,6 +311,6 @@ fn push_deep_tables(builder: &mut Builder, depth: usize) -> Result<(), AllocErro
 fn deep_tables(rt: HostRuntime) -> Result<(), Fail> {
     let mut builder = Builder::new(rt.alloc());
     push_deep_tables(&mut builder, 100000)?;
-    assert!(rt; markup(rt.alloc(), &builder, 1)?.len() == 100000 * 58 + 10);
+    assert!(rt; markup(rt.alloc(), &builder, 1)?.len() == 100000 * 74 + 10);
     Ok(())
 }
