@@ -31,7 +31,8 @@ TABLES = {r"\begin{matrix}c&c&c\\c\end{matrix}": [0, 1, 1, 0], r"\begin{cases}c&
           r"\begin{pmatrix*}[r]c&c\end{pmatrix*}": [0, 1, 0], r"\begin{gathered}c\\c\end{gathered}": [0, 0],
           r"\begin{aligned}c&c&c&c&c\\c\end{aligned}": [0, 0, 1, 0, 1, 0], r"\begin{array}{c|r}c&c\\c\end{array}": [1 / 2, 1, 1 / 2],
           r"\begin{array}{|l|}c&c\end{array}": [1 / 2, 1, 1 / 2], r"\begin{eqnarray}c&c&c\end{eqnarray}": [1 / 2, 1, 1, 1 / 2],
-          r"\begin{smallmatrix}c&c&c\end{smallmatrix}": [0, 5 / 18, 5 / 18, 0], r"x_{\substack{c\\c}}": [0, 0]}
+          r"\begin{smallmatrix}c&c&c\end{smallmatrix}": [0, 5 / 18, 5 / 18, 0], r"x_{\substack{c\\c}}": [0, 0],
+          r"x_{\begin{subarray}{l}c\\c\end{subarray}}": [0, 0]}
 
 # Tables of rows with the letter c, and how many ems its line is below that of the row before it in TeX: rows are 12 points apart, in
 # `cases` a fifth more, and in `aligned` and the like 3 points more, where letters are of 10 points.
@@ -42,7 +43,8 @@ ROWS = {r"\begin{matrix}c\\c\\c\end{matrix}": [1.2, 1.2], r"\begin{pmatrix}c&b\\
         r"\begin{matrix}c\\[1ex]c\\[-2pt]c\\*[1em]c\end{matrix}": [1.2 + 0.431, 1.2 - 0.2, 1.2 + 1],
         r"\begin{aligned}c&=b\\[0.5em]c\end{aligned}": [1.5 + 0.5]}
 # as well, but a line of text in a cell is higher in Firefox
-SMALL_ROWS = {r"\begin{smallmatrix}c\\c\end{smallmatrix}": [0.6], r"x_{\substack{c\\c}}": [0.6]}
+SMALL_ROWS = {r"\begin{smallmatrix}c\\c\end{smallmatrix}": [0.6], r"x_{\substack{c\\c}}": [0.6],
+              r"x_{\begin{subarray}{l}c\\c\end{subarray}}": [0.6]}
 
 PAGE = """<!DOCTYPE html><meta charset="utf-8"><style>math { font-size: 100px }</style>%s<script>
 const gapsBetween = (boxes, em) => boxes.slice(1).map((box, place) => (box.left - boxes[place].right) / em);

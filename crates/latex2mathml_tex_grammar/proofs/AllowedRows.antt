@@ -5,7 +5,7 @@ use Rattle.std.specs.{Bool.⊤, Char.encode_utf8, List.list_all, Str.bytes_eq, S
 use Rattle.latex2mathml_elements.specs.Characters.{IsAllowed, HasAllowedTexts, EachTextOf, EachTextOfCells, EachTextOfRows}
 use Rattle.latex2mathml_elements.specs.{Struts.strut, Struts.with_strut, Columns.density_in, Columns.Columns, Columns.Centered, Columns.LeftAligned, Columns.RightAligned, Columns.Usual, Columns.Alike, Columns.Listed, Tables.are_line, Tables.cells_behind, Tables.cells_in, Lines.Line, Lines.NoLine, Lines.OneLine, Lines.TwoLines, Lines.Dashes, Lines.is_drawn, Tables.is_line as is_row_line, Tables.line_of, Tables.rows_behind}
 use Rattle.latex2mathml_elements.specs.Element.{Mrow, Msqrt, Mstyle, Mpadded, Mphantom, Element, Elements, Rows, token, space, rectangle, container, pair, triple, table, more, none}
-use Rattle.latex2mathml_tex_grammar.specs.Environments.{columns_of, line_at, written_out, Environment, Bracket, NoBracket, Position, Alignment, environments, entry_environment, environment_of}
+use Rattle.latex2mathml_tex_grammar.specs.Environments.{columns_of, fitted, listed, written_out, Environment, Bracket, NoBracket, Position, Alignment, environments, entry_environment, environment_of}
 use Rattle.latex2mathml_tex_grammar.specs.{Rows.row_element, Symbols.Style}
 use Rattle.latex2mathml_tex_grammar.specs.Rules.{Context, ended_table, rows_rule, most_columns, listed_rule, argument_rule, bracket_rule, environment_rule}
 use Rattle.latex2mathml_tex_grammar.specs.Scanning.{Argument, Name, ColumnList, RepeatedColumns, Number, ColorName, Deed, Passes, Adds, Ends, Leaves, Misses, Refuses, Spot, deed, done, may_end, found_at_end, with_character, Found, Given, Missing, scan, behind_found, past, past_break, BeforeStar, BeforeLength, BeforeRow}
@@ -110,7 +110,7 @@ rows_rule_allowed : (place : ℕ) (c : Context) (name : List ℕ) (e : Environme
 rows_rule_allowed place c name e columns h = λ lines at k other. ended_allowed at c e columns lines (bytes_eq other name) h k
 
 listed_allowed : (place : ℕ) (c : Context) (name : List ℕ) (e : Environment) (signs : List ℕ) → are_allowed_delimiters e.delimiters ≡ true → IsAllowedRule (listed_rule place c name e signs)
-listed_allowed place c name e signs h = of_either IsAllowedRule (nat_le (length (columns_of signs)) most_columns) (rows_rule_allowed place c name e (Listed (line_at signs) (columns_of signs)) h) tt
+listed_allowed place c name e signs h = of_either IsAllowedRule (nat_le (length (columns_of signs)) most_columns) (rows_rule_allowed place c name e (fitted (density_in e.columns) (listed signs)) h) tt
 
 argument_allowed : (place : ℕ) (c : Context) (name : List ℕ) (e : Environment) (argument : Option Argument) → are_allowed_delimiters e.delimiters ≡ true → IsAllowedRule (argument_rule place c name e argument)
 argument_allowed place c name e None h = rows_rule_allowed place c name e e.columns h

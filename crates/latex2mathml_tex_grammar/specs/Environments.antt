@@ -1,7 +1,7 @@
 -- The environments: each is a table. A name is its bytes.
 use Rattle.std.specs.Prelude.{ℕ, ◌+◌, ◌-◌, ◌*◌, ◌==◌, ◌||◌, Bool, true, false, List, [], ◌∷◌, ◌++◌, Option, Some, None, codes, if◌then◌else◌}
 use Rattle.std.specs.{List.after_first, List.before_first, List.repeat, Str.byte, Str.bytes_eq}
-use Rattle.latex2mathml_elements.specs.Columns.{Centered, LeftAligned, RightAligned, Dense, Usual, Stretched, Opened, SpaceAround, Column, Columns, Alike, InPairs, AroundRelation}
+use Rattle.latex2mathml_elements.specs.Columns.{Centered, LeftAligned, RightAligned, Density, Dense, Usual, Stretched, Opened, SpaceAround, Column, Columns, Alike, InPairs, AroundRelation, Listed, column_at}
 use Rattle.latex2mathml_elements.specs.Lines.{Line, NoLine, OneLine, TwoLines, Dashes}
 use Rattle.latex2mathml_tex_grammar.specs.Scanning.{Argument, ColumnList, Number}
 use Rattle.latex2mathml_tex_grammar.specs.Symbols.{Style, InDisplay, InText, InScript}
@@ -62,6 +62,15 @@ column_of c line = record {
 abbrev pub columns_of : List ℕ → List Column
 columns_of [] = []
 columns_of (c ∷ cs) = if is_line_sign c then columns_of cs else column_of c (line_at cs) ∷ columns_of cs
+
+-- the columns that these signs say
+abbrev pub listed : List ℕ → Columns
+listed signs = Listed (line_at signs) (columns_of signs)
+
+-- listed columns in an environment: dense rows are one column, aligned like the first of these
+abbrev pub fitted : Density → Columns → Columns
+fitted Dense columns = Alike Dense (column_at columns 0).alignment
+fitted density columns = columns
 
 -- Environments
 

@@ -2,12 +2,12 @@
 ghost use Rattle.std.specs.Prelude.{◌≡◌, MatchOption, Some, false, length, true, nat_le};
 ghost use Rattle.latex2mathml_attributes.specs.Columns.{columns_of, listed_of};
 ghost use Rattle.latex2mathml_attributes.specs.Lines.{line_of};
-ghost use Rattle.latex2mathml_elements.specs.Columns.{Listed};
+ghost use Rattle.latex2mathml_elements.specs.Columns.{density_in};
 ghost use Rattle.latex2mathml_tex_grammar.specs.Environments;
 ghost use Rattle.latex2mathml_tex_grammar.specs.{Meaning.BeginTable};
 ghost use Rattle.latex2mathml_tex_grammar.specs.Scanning.{BeforeArgument, ColumnList, Number};
 ghost use Rattle.latex2mathml_tex_grammar.specs.Rules.{alignment_rule, argument_rule, environment_rule, listed_rule, meaning_rule, most_columns, rows_rule, takes_found};
-ghost use Rattle.latex2mathml_tex_units.specs.{Scans.argument_of, Environments.environment_of};
+ghost use Rattle.latex2mathml_tex_units.specs.{Scans.argument_of, Environments.environment_of, Environments.layout_of};
 ghost use Rattle.latex2mathml_tex_atoms.specs.Models.{context_of};
 ghost use Rattle.latex2mathml_tex.specs.Steps.{BeginsIn, CanBegin, Advances, LeadsOn};
 
@@ -16,7 +16,7 @@ use crate::parse::{Parser, State};
 use latex2mathml_attributes::columns::{Alignment, Columns, Density, ListedColumn};
 use latex2mathml_attributes::line::Line;
 use latex2mathml_tex_atoms::atoms::Context;
-use latex2mathml_tex_units::environments::{Bracket, Environment};
+use latex2mathml_tex_units::environments::{Bracket, Environment, Layout};
 use latex2mathml_tex_units::error::TexErrorKind;
 use latex2mathml_tex_units::scanning::{Argument, Spot};
 use latex2mathml_tex_units::{environments, repetitions};
@@ -223,7 +223,8 @@ impl<'a> Parser<'a> {
             *next = self.refuse(TexErrorKind::TooManyColumns, place);
             return Ok(());
         };
-        self.begin_rows(environment, columns, place, context, next)
+        let fitted = fitted(environment.layout, columns);
+        self.begin_rows(environment, fitted, place, context, next)
     }
 
     /// Begins the rows of an environment.
@@ -297,12 +298,23 @@ fn line_at(signs: &[u8]) -> Line
     }
 }
 
+/// Returns listed columns as an environment of this layout has them: small rows are one column, aligned like the first of these.
+fn fitted(layout: Layout, columns: Columns) -> Columns
+    ensures { columns_of result
+        ≡ Environments.fitted (density_in (layout_of layout)) (columns_of columns) }
+{
+    match layout.columns().density() {
+        Density::Dense => Columns::alike(Density::Dense, columns.column_at(0).alignment()),
+        Density::Usual | Density::Stretched | Density::Opened => columns,
+    }
+}
+
 /// Returns the columns that these signs specify, unless there are too many.
 fn listed(signs: &str) -> Option<Columns>
     ensures { let columns = Environments.columns_of signs.now
         in MatchOption result (nat_le (length columns) most_columns ≡ false)
         (λ few. (nat_le (length columns) most_columns ≡ true)
-        × (columns_of few ≡ Listed (Environments.line_at signs.now) columns)) }
+        × (columns_of few ≡ Environments.listed signs.now)) }
 {
     let mut rest = signs.as_bytes();
     let mut columns = Columns::none(line_at(rest));

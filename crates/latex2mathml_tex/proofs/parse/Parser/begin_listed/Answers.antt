@@ -1,5 +1,5 @@
 use Rattle.std.proofs.Common.{◌≡◌, ℕ, List, ap, arith, refl, length, nat_le, string_bytes, subst, sym, ◌∙◌, if◌then◌else◌}
-use Rattle.latex2mathml_elements.specs.Columns.{Listed}
+use Rattle.latex2mathml_elements.specs.Columns.{density_in}
 use Rattle.latex2mathml_tex_grammar.specs.Environments as grammar
 use Rattle.latex2mathml_tex_grammar.specs.Refusal.{TooManyColumns, refusal_at}
 use Rattle.latex2mathml_tex_grammar.specs.Rules.{Rule, listed_rule, most_columns, refuses, rows_rule}
@@ -33,7 +33,7 @@ returns-in_default-listed-clause-holds c = λ s g.
     let written : c.as_str.result.now ≡ signs = c.as_str.ensures.value ∙ c.in_ok-signs.ensures in
     let many = ap (λ k. nat_le (length (grammar.columns_of k)) most_columns) (sym written) ∙ c.in_default-listed.ensures in
     let r = refusal_at TooManyColumns place in
-    let k = subst (λ b. RuleLeads (if b then rows_rule place (context_of c.args.context) e.name.now (environment_of e) (Listed (grammar.line_at signs) (grammar.columns_of signs)) else refuses r) (CoreMade (level 0 s p)) (left_of q)) many (found rule took.1 g.leads) in
+    let k = subst (λ b. RuleLeads (if b then rows_rule place (context_of c.args.context) e.name.now (environment_of e) (grammar.fitted (density_in (environment_of e).columns) (grammar.listed signs)) else refuses r) (CoreMade (level 0 s p)) (left_of q)) many (found rule took.1 g.leads) in
     refused_behind p q place (BeforeArgument ColumnList) text took c.refuse.new.self c.refuse.result _ c.refuse.ensures.parser c.refuse.ensures.state s 0 r refl g.style (core_refuses r (level 0 s p) (refused k))
 
 pub returns-in_default-listed-clause-step : goal.returns-in_default-listed-clause-step
@@ -55,9 +55,10 @@ returns-clause-holds c = λ s g.
     let rule : List ℕ → Rule = λ text. listed_rule place (context_of c.args.context) e.name.now (environment_of e) (grammar.written_out text) in
     let written : c.as_str.result.now ≡ signs = c.as_str.ensures.value ∙ c.in_ok-signs.ensures in
     let few = ap (λ k. nat_le (length (grammar.columns_of k)) most_columns) (sym written) ∙ c.in-Some-listed.ensures.0 in
-    let own : columns_of c.in-Some-listed.columns ≡ Listed (grammar.line_at signs) (grammar.columns_of signs) = c.in-Some-listed.ensures.1 ∙ ap (λ k. Listed (grammar.line_at k) (grammar.columns_of k)) written in
+    let density = density_in (environment_of e).columns in
+    let own : columns_of c.fitted-fitted.result ≡ grammar.fitted density (grammar.listed signs) = c.fitted-fitted.ensures ∙ ap (grammar.fitted density) (c.in-Some-listed.ensures.1 ∙ ap grammar.listed written) in
     let begins = text_taken p q place (BeforeArgument ColumnList) text took s c.args.context rule g in
-    let rows = subst (λ b. BeginsIn c.args.context (if b then rows_rule place (context_of c.args.context) e.name.now (environment_of e) (Listed (grammar.line_at signs) (grammar.columns_of signs)) else refuses (refusal_at TooManyColumns place)) 0 s q) few begins in
+    let rows = subst (λ b. BeginsIn c.args.context (if b then rows_rule place (context_of c.args.context) e.name.now (environment_of e) (grammar.fitted (density_in (environment_of e).columns) (grammar.listed signs)) else refuses (refusal_at TooManyColumns place)) 0 s q) few begins in
     c.begin_rows.ensures.holds s (subst (λ k. BeginsIn c.args.context (rows_rule place (context_of c.args.context) e.name.now (environment_of e) k) 0 s q) (sym own) rows)
 
 pub returns-clause-step : goal.returns-clause-step
