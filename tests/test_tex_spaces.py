@@ -61,7 +61,7 @@ OF_ATOMS = """formula => {
 }"""
 OF_CELLS = """formula => {
     const {left, right} = formula.querySelector("mtable").getBoundingClientRect();
-    return gapsBetween([{right: left}, ...boxesOf([...formula.querySelectorAll("mtr:first-child > mtd > mi")]), {left: right}], 100);
+    return gapsBetween([{right: left}, ...boxesOf([...formula.querySelectorAll("mtr:first-child mi")]), {left: right}], 100);
 }"""
 # the ems between the lines of the letter c in two rows
 OF_ROWS = """formula => {
@@ -71,7 +71,8 @@ OF_ROWS = """formula => {
 # the ems between the left side of the first cell and its last letter, without the width of the atom that is all of the second cell
 OF_FIRST = """formula => {
     const [first, second] = formula.querySelectorAll(":scope > mtable > mtr > mtd");
-    const [cell, letter, atom] = boxesOf([first, first.firstElementChild.lastElementChild, second.firstElementChild]);
+    const [inFirst, inSecond] = [first, second].map(cell => cell.firstElementChild.firstElementChild);  // a strut is behind it
+    const [cell, letter, atom] = boxesOf([first, inFirst.lastElementChild, inSecond]);
     return [(letter.left - cell.left - atom.width) / 100];
 }"""
 

@@ -1,5 +1,6 @@
 //! Rectangles and lengths.
-ghost use Rattle.std.specs.Prelude.{◌≡◌, ℕ, List, ◌++◌, OnOk, codes, string_bytes, unsigned_abs};
+ghost use Rattle.std.specs.Prelude.{◌≡◌, ℕ, List, ◌++◌, MatchOption, OnOk, codes, string_bytes, unsigned_abs};
+ghost use Rattle.std.specs.Bool.{⊤};
 ghost use Rattle.latex2mathml_elements.specs.Extents.{black_text, ems, extent_text, length_if_any, wide};
 ghost use Rattle.latex2mathml_trees.specs.Width.{thousandths_text};
 ghost use Rattle.latex2mathml_elements.specs.Tables.{line_as};
@@ -88,10 +89,30 @@ fn append_length(beginning: &'static str, length: i32, out: &mut String) -> Resu
 fn append_ems(length: i32, out: &mut String) -> Result<(), AllocError>
     ensures { OnOk result (string_bytes out.new ≡ string_bytes out.old ++ ems length) }
 {
+    if let Some(text) = usual_ems(length) {
+        return out.push_str(text);
+    }
     if length < 0 {
         out.push_str("-")?;
     }
     append_thousandths(length.unsigned_abs(), out)
+}
+
+/// Returns how a length is written in ems, if it is zero or a length of a strut. Formatting each of these anew would take most of
+/// the time for the rows of tables.
+fn usual_ems(length: i32) -> Option<&'static str>
+    ensures { MatchOption result ⊤ (λ text. text.now ≡ ems length) }
+{
+    match length {
+        0 => Some("0"),
+        257 => Some("0.257"),
+        360 => Some("0.36"),
+        432 => Some("0.432"),
+        600 => Some("0.6"),
+        840 => Some("0.84"),
+        1008 => Some("1.008"),
+        _ => None,
+    }
 }
 
 /// Appends a number of thousandths as a decimal fraction, without zeros at its end.
