@@ -1,4 +1,4 @@
--- The space below a row, as in `\\\\[1ex]`.
+-- The space below a row, as in `\\[1ex]`.
 use Rattle.std.specs.Prelude.{ℤ, pos, Option, Some, None}
 use Rattle.latex2mathml_tex_grammar.specs.{Lengths.width_of, Scanning.Found, Scanning.Given, Scanning.Missing, Scanning.BeforeLength, Scanning.BeforeStar, Scanning.past, Scanning.scan}
 use Rattle.latex2mathml_tex_grammar.specs.Units.{Units}
