@@ -13,6 +13,8 @@ enum { LEVELS = 1000000, MANY = 100000, RANDOM_INPUTS = 10000, THREADS = 4, CALL
 #define MATH(display, contents) "<math xmlns=\"http://www.w3.org/1998/Math/MathML\" display=\"" display "\">" contents "</math>"
 #define LESS "<mi>x</mi><mo>&lt;</mo><mi>y</mi>"
 #define FRACTION "<mfrac><mn>1</mn><mn>2</mn></mfrac>"
+#define UNFENCED "<mpadded style=\"padding: 0 calc(0.12em - 1px)\">"
+#define TEX_FRACTION UNFENCED FRACTION "</mpadded>"
 #define OPEN_BRACE "The token \"RBrace\" is expected, but the token \"EOF\" is found.\""
 #define NO_TEXT "The input is not UTF-8 text."
 #define NO_DEFINITIONS "The definitions are not UTF-8 text."
@@ -55,11 +57,11 @@ static const struct {
     {"a document that is no text", GIVEN(DOCUMENT, "$x$ \xFF"), CODED(LATEX2MATHML_NOT_UTF8, NO_TEXT)},
 
     {"TeX in a line", GIVEN(TEX_INLINE, "x_i^2"), DONE("inline", "<msubsup><mi>x</mi><mi>i</mi><mn>2</mn></msubsup>")},
-    {"TeX in a block", GIVEN(TEX_BLOCK, "\\frac12"), DONE("block", FRACTION)},
+    {"TeX in a block", GIVEN(TEX_BLOCK, "\\frac12"), DONE("block", TEX_FRACTION)},
     {"TeX with bytes behind it", {TEX_INLINE, "x<y{", 3, "\\def\\a{x}{", 9, 0}, DONE("inline", LESS)},
     {"TeX without bytes", GIVEN(TEX_INLINE, ""), DONE("inline", "")},
-    {"a macro", TEX(TEX_INLINE, "\\newcommand{\\half}[1]{\\frac{#1}{2}}", "\\half1"), DONE("inline", FRACTION)},
-    {"a macro that a formula defines anew", TEX(TEX_BLOCK, "\\def\\a{x}", "\\def\\a{\\frac12}\\a"), DONE("block", FRACTION)},
+    {"a macro", TEX(TEX_INLINE, "\\newcommand{\\half}[1]{\\frac{#1}{2}}", "\\half1"), DONE("inline", TEX_FRACTION)},
+    {"a macro that a formula defines anew", TEX(TEX_BLOCK, "\\def\\a{x}", "\\def\\a{\\frac12}\\a"), DONE("block", TEX_FRACTION)},
     {"definitions without one", TEX(TEX_INLINE, " % none\n", "x<y"), DONE("inline", LESS)},
     {"a usual macro", GIVEN(TEX_INLINE, "\\LaTeX"), DONE("inline", "<mtext>LaTeX</mtext>")},
     {"an unknown command", GIVEN(TEX_INLINE, "x + \\foo"), REFUSED_AT(4, "unknown command \\foo at 4")},
@@ -216,7 +218,7 @@ static const struct nest tex_nests[] = {
     {"TeX rows", "{a", "x", "}", LATEX2MATHML_DONE, "<mrow><mi>a</mi>", "<mi>x</mi>", "</mrow>"},
     {"TeX scripts", "x^{", "x", "}", LATEX2MATHML_DONE, "<msup><mi>x</mi>", "<mi>x</mi>", "</msup>"},
     {"TeX roots", "\\sqrt{", "x", "}", LATEX2MATHML_DONE, "<msqrt>", "<mi>x</mi>", "</msqrt>"},
-    {"TeX fractions", "\\frac1{", "x", "}", LATEX2MATHML_DONE, "<mfrac><mn>1</mn>", "<mi>x</mi>", "</mfrac>"},
+    {"TeX fractions", "\\frac1{", "x", "}", LATEX2MATHML_DONE, UNFENCED "<mfrac><mn>1</mn>", "<mi>x</mi>", "</mfrac></mpadded>"},
     {"TeX words", "\\text{$", "x", "$}", LATEX2MATHML_DONE, "", "<mi>x</mi>", ""},
 };
 

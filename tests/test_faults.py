@@ -11,7 +11,9 @@ from tests.faulty import Fault, open_input
 from tests.texts import LESS, LESS_BLOCK, NO_TEXT, STOPPED, UNCLOSED, UNPAIRED, UNREAD, USAGE, X, error, math
 
 FORMULA = rb"a<\frac12"
-OF_FORMULA = math("<mi>a</mi><mo>&lt;</mo><mfrac><mn>1</mn><mn>2</mn></mfrac>") + b"\n"
+HALF = "<mfrac><mn>1</mn><mn>2</mn></mfrac>"
+OF_FORMULA = math(f"<mi>a</mi><mo>&lt;</mo>{HALF}") + b"\n"
+OF_TEX_FORMULA = math(f'<mi>a</mi><mo>&lt;</mo><mpadded style="padding: 0 calc(0.12em - 1px)">{HALF}</mpadded>') + b"\n"
 DOCUMENT = "é $x$ é".encode()
 OF_DOCUMENT = "é ".encode() + X + " é".encode()
 ENERGY = math("<mi>E</mi><mo>=</mo><mi>m</mi><msup><mi>c</mi><mn>2</mn></msup>") + b" is"
@@ -24,7 +26,7 @@ RUNS = {
     "inline": (LATEX, ["inline"], [(FORMULA, OF_FORMULA), (b"x<y", LESS + b"\n")]),
     "block": (LATEX, ["block"], [(b"x<y", LESS_BLOCK + b"\n")]),
     "document": (LATEX, ["document"], [(DOCUMENT, OF_DOCUMENT), (b"$E = m c^2$ is", ENERGY)]),
-    "tex": (TEX, [], [(FORMULA, OF_FORMULA)]),
+    "tex": (TEX, [], [(FORMULA, OF_TEX_FORMULA)]),
     "tex block": (TEX, ["--display", "block"], [("é".encode(), math('<mi mathvariant="normal">é</mi>', "block") + b"\n")]),
     "tex many": (TEX, ["--null"], [
         (b"x\0{\0y", b"mathml\n%s\0error\n{ is not closed at 0\0mathml\n%s\0" % (X, math("<mi>y</mi>")))]),

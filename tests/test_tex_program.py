@@ -70,7 +70,8 @@ class Definitions(Case):
     def test_data(self):
         """The file of the program's own run."""
         words = ["--definitions", ROOT / "crates/latex2mathml_tex_app/data/macros.tex"]
-        self.expect(ask(*words, stdin=b"\\half{\\R}"), stdout=math("<mfrac><mi>ℝ</mi><mn>2</mn></mfrac>".encode()) + b"\n")
+        half = '<mpadded style="padding: 0 calc(0.12em - 1px)"><mfrac><mi>ℝ</mi><mn>2</mn></mfrac></mpadded>'
+        self.expect(ask(*words, stdin=b"\\half{\\R}"), stdout=math(half.encode()) + b"\n")
 
     @each_row(cases.by_heading("tex_definition_refusals.txt"))
     def are_refused(self, *refused):

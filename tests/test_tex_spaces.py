@@ -1,6 +1,6 @@
 """The space that Chromium leaves between the atoms of a formula of `tex_to_mathml`, against TeX's table of spaces, and the space that
-both browsers leave at the sides of columns, between rows, and next to an atom that begins a cell. The comparison of markup with
-KaTeX (`test_tex_katex`) does not see space."""
+both browsers leave at the sides of fractions and of columns, between rows, and next to an atom that begins a cell. The comparison
+of markup with KaTeX (`test_tex_katex`) does not see space."""
 import itertools
 import math
 import unittest
@@ -14,9 +14,8 @@ from tests.test_page import judge, settle, spaces_between
 SIZED = r"\bigm|"
 # operators that are signs, to which a browser gives a space of their own
 SUMS = {r"\sum", r"\int_c"}
-# Atoms that are not compared at the beginning of a cell: a relation with a size keeps its space, as after an opening sign, and
-# Firefox leaves room next to a fraction.
-KEEPING = {SIZED, r"\frac cd"}
+# An atom that is not compared at the beginning of a cell: a relation with a size keeps its space, as after an opening sign.
+KEEPING = {SIZED}
 # atoms of each class of TeX
 ATOMS = {"ordinary": ["c", "2", r"\frac cd", r"\sqrt c", "{=}", "{,}", "|"], "operator": [r"\sin", r"\mathop{c}", r"\lim_c", *SUMS],
          "binary": ["+", "-"], "relation": ["=", r"\to", ":", SIZED], "opening": ["(", r"\bigl("], "closing": [")", r"\rangle"],
@@ -25,6 +24,10 @@ ATOMS = {"ordinary": ["c", "2", r"\frac cd", r"\sqrt c", "{=}", "{,}", "|"], "op
 EMS = {"0": 0, "1": 3 / 18, "2": 4 / 18, "3": 5 / 18}
 # Rounding to thousandths of an em, to a pixel at each side of a fraction, and to 64ths of a pixel: less than a third of a thin space.
 NEARLY = 0.05
+
+# Formulas with fractions, and the ems that TeX leaves between the lines of fractions and what is next to them
+FRACTIONS = {r"\frac cd\frac cd": [0.24], r"c\frac cd c": [0.12, 0.12], r"c\tfrac cd": [0.12], r"{c\atop d}c": [0.12],
+             r"2\frac cd(": [0.12, 0.12], r"\genfrac{}{}{}{}cd c": [0.12]}
 
 # Tables of letters, and the ems that TeX leaves in the first row: before the first letter, between the letters, and after the last.
 TABLES = {r"\begin{matrix}c&c&c\\c\end{matrix}": [0, 1, 1, 0], r"\begin{cases}c&c\\c\end{cases}": [0, 1, 0],
@@ -46,6 +49,9 @@ ROWS = {r"\begin{matrix}c\\c\\c\end{matrix}": [1.2, 1.2], r"\begin{pmatrix}c&b\\
 SMALL_ROWS = {r"\begin{smallmatrix}c\\c\end{smallmatrix}": [0.6], r"x_{\substack{c\\c}}": [0.6],
               r"x_{\begin{subarray}{l}c\\c\end{subarray}}": [0.6]}
 
+# A formula that is broken into lines, and how much of the room of its shorter lines is at the left of each
+BROKEN = {r"\begin{multline}c\\c\\ccccc\\c\end{multline}": [0, 1 / 2, 1], r"\begin{multline*}ccc\\c\end{multline*}": [1]}
+
 PAGE = """<!DOCTYPE html><meta charset="utf-8"><style>math { font-size: 100px }</style>%s<script>
 const gapsBetween = (boxes, em) => boxes.slice(1).map((box, place) => (box.left - boxes[place].right) / em);
 const boxesOf = elements => elements.map(element => element.getBoundingClientRect());
@@ -59,6 +65,9 @@ OF_ATOMS = """formula => {
     const boxes = boxesOf([...row.children].filter(child => child.localName !== "mspace"));
     return gapsBetween(boxes, parseFloat(getComputedStyle(row).fontSize));
 }"""
+OF_FRACTIONS = """formula => {
+    return gapsBetween(boxesOf([...formula.children].map(child => child.querySelector("mfrac") ?? child)), 100);
+}"""
 OF_CELLS = """formula => {
     const {left, right} = formula.querySelector("mtable").getBoundingClientRect();
     return gapsBetween([{right: left}, ...boxesOf([...formula.querySelectorAll("mtr:first-child mi")]), {left: right}], 100);
@@ -67,6 +76,13 @@ OF_CELLS = """formula => {
 OF_ROWS = """formula => {
     const letters = [...formula.querySelectorAll("mtd mi")].filter(letter => letter.textContent == "c");
     return boxesOf(letters).map(box => box.bottom / 100).map((line, place, lines) => line - lines[place - 1]).slice(1);
+}"""
+# how much of the room of each line that has some is at its left
+OF_BROKEN = """formula => {
+    const table = formula.querySelector("mtable").getBoundingClientRect();
+    const lines = [...formula.querySelectorAll("mtr")].map(row => boxesOf([...row.querySelectorAll("mi")]));
+    const rooms = lines.map(letters => [letters[0].left - table.left, table.right - letters.at(-1).right]);
+    return rooms.filter(([left, right]) => left + right > 1).map(([left, right]) => left / (left + right));
 }"""
 # the ems between the left side of the first cell and its last letter, without the width of the atom that is all of the second cell
 OF_FIRST = """formula => {
@@ -132,36 +148,52 @@ class AsTexSpaces(Spaces):
         self.compare("x^{{{}}}", in_script=True)
 
 
-class Columns(Spaces):
-    def compare(self, browser):
-        for (formula, ems), gaps in zip(TABLES.items(), self.spaces(TABLES, browser, OF_CELLS), strict=True):
+class Gaps(Spaces):
+    def compare(self, browser, formulas, gaps_of):
+        for (formula, ems), gaps in zip(formulas.items(), self.spaces(formulas, browser, gaps_of), strict=True):
             with self.subTest(formula):
                 alike = all(math.isclose(gap, em, abs_tol=NEARLY) for gap, em in zip(gaps, ems, strict=True))
                 self.assertTrue(alike, msg=f"found {gaps}, TeX {ems}")
 
+
+class Fractions(Gaps):
     @requires("chromium")
     def test_in_chromium(self):
-        self.compare(chromium)
+        self.compare(chromium, FRACTIONS, OF_FRACTIONS)
 
     @requires("firefox-esr")
     def test_in_firefox(self):
-        self.compare(firefox)
+        self.compare(firefox, FRACTIONS, OF_FRACTIONS)
 
 
-class Rows(Spaces):
-    def compare(self, browser, rows):
-        for (formula, ems), found in zip(rows.items(), self.spaces(rows, browser, OF_ROWS), strict=True):
-            with self.subTest(formula):
-                alike = all(math.isclose(line, em, abs_tol=NEARLY) for line, em in zip(found, ems, strict=True))
-                self.assertTrue(alike, msg=f"found {found}, TeX {ems}")
-
+class Columns(Gaps):
     @requires("chromium")
     def test_in_chromium(self):
-        self.compare(chromium, ROWS | SMALL_ROWS)
+        self.compare(chromium, TABLES, OF_CELLS)
 
     @requires("firefox-esr")
     def test_in_firefox(self):
-        self.compare(firefox, ROWS)
+        self.compare(firefox, TABLES, OF_CELLS)
+
+
+class Rows(Gaps):
+    @requires("chromium")
+    def test_in_chromium(self):
+        self.compare(chromium, ROWS | SMALL_ROWS, OF_ROWS)
+
+    @requires("firefox-esr")
+    def test_in_firefox(self):
+        self.compare(firefox, ROWS, OF_ROWS)
+
+
+class BrokenLines(Gaps):
+    @requires("chromium")
+    def test_in_chromium(self):
+        self.compare(chromium, BROKEN, OF_BROKEN)
+
+    @requires("firefox-esr")
+    def test_in_firefox(self):
+        self.compare(firefox, BROKEN, OF_BROKEN)
 
 
 class BeginningCells(Spaces):

@@ -107,6 +107,8 @@ abbrev pub columns_with : Kind → lines.Line → List defined.Column → define
 columns_with (kind.Alike density alignment) line listed = defined.Alike (density_of density) (alignment_of alignment)
 columns_with kind.InPairs line listed = defined.InPairs
 columns_with kind.AroundRelation line listed = defined.AroundRelation
+columns_with kind.Broken line listed = defined.Broken
+columns_with kind.BrokenOn line listed = defined.BrokenOn
 columns_with kind.Listed line listed = defined.Listed line listed
 
 abbrev pub columns_of : Columns → defined.Columns

@@ -2,7 +2,7 @@
 ghost use Rattle.std.specs.Prelude.{◌≡◌, ◌<◌, ◌≤◌, ◌++◌, [], OnOk, get_or, pos, string_bytes};
 ghost use Rattle.latex2mathml_elements.specs.Print.{cell_tag, spacing_style};
 ghost use Rattle.latex2mathml_elements.specs.Struts.{deepened, least_depth, least_height, strut};
-ghost use Rattle.latex2mathml_elements.specs.Columns.{Alike, AroundRelation, Centered, InPairs, Listed, are_lined, between, column_at, density_in, spaced, unlined};
+ghost use Rattle.latex2mathml_elements.specs.Columns.{Alike, AroundRelation, Broken, Centered, InPairs, Listed, are_lined, behind_row, between, column_at, density_in, in_last_row, spaced, unlined};
 ghost use Rattle.latex2mathml_attributes.specs.Arounds.{extent_of};
 ghost use Rattle.latex2mathml_attributes.specs.Columns.{IsSmall, alignment_of, behind_line, cell_start, column_of, columns_of, columns_in, density_of, has_room, line_before, listed_behind, listed_of, numbered, spacing_of};
 ghost use Rattle.latex2mathml_attributes.specs.Lines.{line_of};
@@ -89,6 +89,8 @@ enum Kind {
     Alike(Density, Alignment),
     InPairs,
     AroundRelation,
+    Broken,
+    BrokenOn,
     Listed,
 }
 
@@ -323,6 +325,17 @@ impl Columns {
         }
     }
 
+    /// Returns columns for the lines of a formula that is broken: the first is at the left, the last at the right, and those
+    /// between them are in the middle.
+    pub fn broken() -> Columns
+        ensures { columns_of result ≡ Broken }
+    {
+        Columns {
+            kind: Kind::Broken,
+            ..Columns::none(Line::Nothing)
+        }
+    }
+
     /// Returns an empty list of columns, with this line before the first. The listed columns are followed by centered ones.
     pub fn none(before: Line) -> Columns
         ensures { columns_of result ≡ Listed (line_of before) [] }
@@ -380,6 +393,12 @@ impl Columns {
             }
             Kind::InPairs => column_of_pair(place),
             Kind::AroundRelation => column_around_relation(place),
+            Kind::Broken => {
+                Column::spaced(Density::Opened, spacing_between(place), Alignment::LeftAligned)
+            }
+            Kind::BrokenOn => {
+                Column::spaced(Density::Opened, spacing_between(place), Alignment::Centered)
+            }
             Kind::Listed if place < MOST_COLUMNS && place < self.len as usize => {
                 self.listed_at(place).behind(self.line_before(place))
             }
@@ -398,13 +417,36 @@ impl Columns {
         }
     }
 
+    /// Returns the columns of the rows that follow one in these columns.
+    pub fn behind_row(self) -> Columns
+        ensures { columns_of result ≡ behind_row (columns_of self) }
+    {
+        match self.kind {
+            Kind::Broken => Columns {
+                kind: Kind::BrokenOn,
+                ..self
+            },
+            _ => self,
+        }
+    }
+
+    /// Returns the columns of the last row of a table.
+    pub fn in_last_row(self) -> Columns
+        ensures { columns_of result ≡ in_last_row (columns_of self) }
+    {
+        match self.kind {
+            Kind::BrokenOn => Columns::alike(Density::Opened, Alignment::RightAligned),
+            _ => self,
+        }
+    }
+
     /// Returns how far apart the rows are.
     pub fn density(&self) -> Density
         ensures { density_of result ≡ density_in (columns_of self.now) }
     {
         match self.kind {
             Kind::Alike(density, _) => density,
-            Kind::InPairs | Kind::AroundRelation => Density::Opened,
+            Kind::InPairs | Kind::AroundRelation | Kind::Broken | Kind::BrokenOn => Density::Opened,
             Kind::Listed => Density::Usual,
         }
     }

@@ -1,12 +1,12 @@
 -- How the rows and the cells of a table are written, and how much there is to write.
-use Rattle.std.proofs.Common.{codes, ◌≡◌, ℕ, zero, suc, ◌+◌, ◌-◌, ◌<◌, ◌≤◌, Bool, true, false, not, ◌&&◌, ◌||◌, nat_eq, if◌then◌else◌, List, [], ◌∷◌, ◌++◌, length, append_assoc, append-nil, drop, take, refl, sym, ap, ◌∙◌, arith}
-use Rattle.latex2mathml_elements.specs.{Columns.Columns, Columns.are_lined, Columns.column_at}
+use Rattle.std.proofs.Common.{codes, ◌≡◌, ℕ, zero, suc, ◌+◌, ◌-◌, ◌<◌, ◌≤◌, Bool, true, false, not, ◌&&◌, ◌||◌, nat_eq, if◌then◌else◌, List, [], ◌∷◌, ◌++◌, length, append_assoc, append-nil, length-drop, drop, take, refl, sym, ap, ◌∙◌, arith}
+use Rattle.latex2mathml_elements.specs.Columns.{Columns, are_lined, behind_row, column_at, in_last_row}
 use Rattle.latex2mathml_elements.specs.Attributes.{Attributes}
 use Rattle.latex2mathml_elements.specs.Element.{Mrow, Msqrt, Mstyle, Mpadded, Mphantom, Element, Elements, Rows, Cells, token, space, rectangle, container, pair, triple, table, none, more, one_row, more_rows, one_cell, children}
 use Rattle.latex2mathml_elements.specs.Print.{cell_print, cell_tag, cells_print, end_tag, have_line, print, prints, row_print, rows_print, start_tag, table_attributes}
 use Rattle.latex2mathml_elements.specs.Lines.{Line, NoLine, OneLine, TwoLines, Dashes, RowLines, is_drawn, row_lines}
 use Rattle.latex2mathml_elements.specs.Tables.{are_line, attributes_in, cells_behind, cells_in, is_line, last_line, line_of, rows_behind}
-use Rattle.latex2mathml_builder.specs.Due.{cell_loads, cell_prints, cell_weights, first_line, has_line, in_cells, listed, row_loads, row_prints, row_weights, weight, weights}
+use Rattle.latex2mathml_builder.specs.Due.{cell_loads, cell_prints, cell_weights, columns_before, first_line, has_line, in_cells, is_last, listed, row_loads, row_prints, row_weights, weight, weights}
 use Rattle.latex2mathml_builder.specs.Stacks.{table_with}
 use Rattle.latex2mathml_builder.proofs.Written.{first_taken}
 
@@ -74,13 +74,13 @@ row_loaded columns (triple t a x y z) ys = cells_loaded zero columns (triple t a
 row_loaded columns (table a rows) ys = cells_loaded zero columns (table a rows) none
 
 -- a row, and what comes after it
-row_first : (columns : Columns) (line : Line) (x : Element) (xs : List Element) → (not (is_drawn line) && is_line x) ≡ false → row_prints columns line (x ∷ xs) ≡ row_print (row_lines line (last_line xs)) (cells_print (cells_in columns x)) ++ (if are_line xs then [] else row_prints columns NoLine xs)
+row_first : (columns : Columns) (line : Line) (x : Element) (xs : List Element) → (not (is_drawn line) && is_line x) ≡ false → row_prints columns line (x ∷ xs) ≡ row_print (row_lines line (last_line xs)) (cells_print (cells_in (columns_before xs columns) x)) ++ (if are_line xs then [] else row_prints (behind_row columns) NoLine xs)
 row_first columns line x xs h =
-    ap (λ b. if b then row_prints columns (line_of x) xs else row_print (row_lines line (last_line xs)) (cells_print (cells_in columns x)) ++ (if are_line xs then [] else row_prints columns NoLine xs)) h
+    ap (λ b. if b then row_prints columns (line_of x) xs else row_print (row_lines line (last_line xs)) (cells_print (cells_in (columns_before xs columns) x)) ++ (if are_line xs then [] else row_prints (behind_row columns) NoLine xs)) h
 
-row_load_first : (columns : Columns) (line : Line) (x : Element) (xs : List Element) → (not (is_drawn line) && is_line x) ≡ false → row_loads columns line (x ∷ xs) ≡ 3 + (cell_weights (cells_in columns x) + (if are_line xs then 0 else row_loads columns NoLine xs))
+row_load_first : (columns : Columns) (line : Line) (x : Element) (xs : List Element) → (not (is_drawn line) && is_line x) ≡ false → row_loads columns line (x ∷ xs) ≡ 3 + (cell_weights (cells_in (columns_before xs columns) x) + (if are_line xs then 0 else row_loads (behind_row columns) NoLine xs))
 row_load_first columns line x xs h =
-    ap (λ b. if b then row_loads columns (line_of x) xs else 3 + (cell_weights (cells_in columns x) + (if are_line xs then 0 else row_loads columns NoLine xs))) h
+    ap (λ b. if b then row_loads columns (line_of x) xs else 3 + (cell_weights (cells_in (columns_before xs columns) x) + (if are_line xs then 0 else row_loads (behind_row columns) NoLine xs))) h
 
 -- nothing comes after the last row
 rest_written : (columns : Columns) (b : Bool) (n : ℕ) (xs : List Element) → (if b then [] else row_prints columns NoLine (take n xs)) ≡ row_prints columns NoLine (take (if b then 0 else n) xs)
@@ -101,17 +101,17 @@ not_one_line (suc (suc n)) (x ∷ y ∷ xs) h other = refl
 
 -- Tables
 
-last_written : (columns : Columns) (line l : Line) (b : Bool) (x : Element) → (b ≡ true → is_drawn l ≡ true) → rows_print (if b then one_row (row_lines l NoLine) (one_cell (column_at columns zero) none) else one_row (row_lines line NoLine) (cells_in columns x)) ≡ (if b then row_prints columns l [] else row_print (row_lines line NoLine) (cells_print (cells_in columns x)) ++ [])
+last_written : (columns : Columns) (line l : Line) (b : Bool) (x : Element) → (b ≡ true → is_drawn l ≡ true) → rows_print (if b then one_row (row_lines l NoLine) (one_cell (column_at columns zero) none) else one_row (row_lines line NoLine) (cells_in (in_last_row columns) x)) ≡ (if b then row_prints columns l [] else row_print (row_lines line NoLine) (cells_print (cells_in (in_last_row columns) x)) ++ [])
 last_written columns line l true x drawn =
     sym (ap (λ b. if b then row_print (row_lines l NoLine) (cell_print (column_at columns zero) []) else []) (drawn refl))
-last_written columns line l false x drawn = sym (append-nil (row_print (row_lines line NoLine) (cells_print (cells_in columns x))))
+last_written columns line l false x drawn = sym (append-nil (row_print (row_lines line NoLine) (cells_print (cells_in (in_last_row columns) x))))
 
-more_written : (b c : Bool) (under : Rows) (lines others : RowLines) (cells : Cells) (rows : Rows) (next rest : List ℕ) (is : RowLines) → rows_print under ≡ next → rows_print rows ≡ rest → is ≡ (if c then lines else others) → rows_print (if b then under else if c then one_row lines cells else more_rows others cells rows) ≡ (if b then next else row_print is (cells_print cells) ++ (if c then [] else rest))
-more_written true c under lines others cells rows next rest is e f g = e
-more_written false true under lines others cells rows next rest is e f g =
-    ap (λ l. row_print l (cells_print cells)) (sym g) ∙ sym (append-nil (row_print is (cells_print cells)))
-more_written false false under lines others cells rows next rest is e f g =
-    ap (λ l. row_print l (cells_print cells) ++ rows_print rows) (sym g) ∙ ap (λ l. row_print is (cells_print cells) ++ l) f
+more_written : (b c : Bool) (under : Rows) (lines others : RowLines) (last here : Columns) (x : Element) (rows : Rows) (next rest : List ℕ) (is : RowLines) → rows_print under ≡ next → rows_print rows ≡ rest → is ≡ (if c then lines else others) → rows_print (if b then under else if c then one_row lines (cells_in last x) else more_rows others (cells_in here x) rows) ≡ (if b then next else row_print is (cells_print (cells_in (if c then last else here) x)) ++ (if c then [] else rest))
+more_written true c under lines others last here x rows next rest is e f g = e
+more_written false true under lines others last here x rows next rest is e f g =
+    ap (λ l. row_print l (cells_print (cells_in last x))) (sym g) ∙ sym (append-nil (row_print is (cells_print (cells_in last x))))
+more_written false false under lines others last here x rows next rest is e f g =
+    ap (λ l. row_print l (cells_print (cells_in here x)) ++ rows_print rows) (sym g) ∙ ap (λ l. row_print is (cells_print (cells_in here x)) ++ l) f
 
 lines_are : (line below : Line) → row_lines line below ≡ (if is_drawn below then row_lines line below else row_lines line NoLine)
 lines_are line NoLine = refl
@@ -127,25 +127,25 @@ line_drawn false c h = h
 rows_written : (columns : Columns) (line : Line) (x : Element) (xs : List Element) → rows_print (rows_behind columns line x xs) ≡ row_prints columns line (x ∷ xs)
 rows_written columns line x [] = last_written columns line (line_of x) (not (is_drawn line) && is_line x) x (line_drawn (is_drawn line) (is_line x))
 rows_written columns line x (y ∷ ys) =
-    more_written (not (is_drawn line) && is_line x) (are_line (y ∷ ys)) _ _ _ (cells_in columns x) _ _ _ _ (rows_written columns (line_of x) y ys) (rows_written columns NoLine y ys) (lines_are line (last_line (y ∷ ys)))
+    more_written (not (is_drawn line) && is_line x) (are_line (y ∷ ys)) _ _ _ (in_last_row columns) columns x _ _ _ _ (rows_written columns (line_of x) y ys) (rows_written (behind_row columns) NoLine y ys) (lines_are line (last_line (y ∷ ys)))
 
-last_loaded : (columns : Columns) (line l : Line) (b : Bool) (x : Element) → (b ≡ true → is_drawn l ≡ true) → row_weights (if b then one_row (row_lines l NoLine) (one_cell (column_at columns zero) none) else one_row (row_lines line NoLine) (cells_in columns x)) ≡ (if b then row_loads columns l [] else 3 + (cell_weights (cells_in columns x) + 0))
+last_loaded : (columns : Columns) (line l : Line) (b : Bool) (x : Element) → (b ≡ true → is_drawn l ≡ true) → row_weights (if b then one_row (row_lines l NoLine) (one_cell (column_at columns zero) none) else one_row (row_lines line NoLine) (cells_in (in_last_row columns) x)) ≡ (if b then row_loads columns l [] else 3 + (cell_weights (cells_in (in_last_row columns) x) + 0))
 last_loaded columns line l true x drawn = sym (ap (λ (b : Bool). if b then 6 else 0) (drawn refl))
 last_loaded columns line l false x drawn = omega arith
 
-more_loaded : (b c : Bool) (under : Rows) (lines others : RowLines) (cells : Cells) (rows : Rows) (next rest : ℕ) → row_weights under ≡ next → row_weights rows ≡ rest → row_weights (if b then under else if c then one_row lines cells else more_rows others cells rows) ≡ (if b then next else 3 + (cell_weights cells + (if c then 0 else rest)))
-more_loaded true c under lines others cells rows next rest e f = e
-more_loaded false true under lines others cells rows next rest e f = omega arith
-more_loaded false false under lines others cells rows next rest e f = omega (arith, f)
+more_loaded : (b c : Bool) (under : Rows) (lines others : RowLines) (last here : Columns) (x : Element) (rows : Rows) (next rest : ℕ) → row_weights under ≡ next → row_weights rows ≡ rest → row_weights (if b then under else if c then one_row lines (cells_in last x) else more_rows others (cells_in here x) rows) ≡ (if b then next else 3 + (cell_weights (cells_in (if c then last else here) x) + (if c then 0 else rest)))
+more_loaded true c under lines others last here x rows next rest e f = e
+more_loaded false true under lines others last here x rows next rest e f = omega arith
+more_loaded false false under lines others last here x rows next rest e f = omega (arith, f)
 
 rows_loaded : (columns : Columns) (line : Line) (x : Element) (xs : List Element) → row_weights (rows_behind columns line x xs) ≡ row_loads columns line (x ∷ xs)
 rows_loaded columns line x [] = last_loaded columns line (line_of x) (not (is_drawn line) && is_line x) x (line_drawn (is_drawn line) (is_line x))
 rows_loaded columns line x (y ∷ ys) =
-    more_loaded (not (is_drawn line) && is_line x) (are_line (y ∷ ys)) _ _ _ (cells_in columns x) _ _ _ (rows_loaded columns (line_of x) y ys) (rows_loaded columns NoLine y ys)
+    more_loaded (not (is_drawn line) && is_line x) (are_line (y ∷ ys)) _ _ _ (in_last_row columns) columns x _ _ _ (rows_loaded columns (line_of x) y ys) (rows_loaded (behind_row columns) NoLine y ys)
 
 -- a table has a line where one of its elements is a line
 
-last_lined : (columns : Columns) (line l : Line) (x : Element) → have_line (if not (is_drawn line) && is_drawn l then one_row (row_lines l NoLine) (one_cell (column_at columns zero) none) else one_row (row_lines line NoLine) (cells_in columns x)) ≡ (is_drawn line || (is_drawn l || false))
+last_lined : (columns : Columns) (line l : Line) (x : Element) → have_line (if not (is_drawn line) && is_drawn l then one_row (row_lines l NoLine) (one_cell (column_at columns zero) none) else one_row (row_lines line NoLine) (cells_in (in_last_row columns) x)) ≡ (is_drawn line || (is_drawn l || false))
 last_lined columns NoLine NoLine x = refl
 last_lined columns NoLine OneLine x = refl
 last_lined columns NoLine TwoLines x = refl
@@ -154,26 +154,26 @@ last_lined columns OneLine l x = refl
 last_lined columns TwoLines l x = refl
 last_lined columns Dashes l x = refl
 
-more_lined : (line l below : Line) (last rest : Bool) (under rows : Rows) (cells : Cells) → (is_drawn below ≡ true → last ≡ true) → have_line under ≡ (is_drawn l || (last || rest)) → have_line rows ≡ (last || rest) → have_line (if not (is_drawn line) && is_drawn l then under else if is_drawn below then one_row (row_lines line below) cells else more_rows (row_lines line NoLine) cells rows) ≡ (is_drawn line || (is_drawn l || (last || rest)))
-more_lined NoLine NoLine NoLine last rest under rows cells h e f = f
-more_lined NoLine NoLine OneLine last rest under rows cells h e f = sym (ap (λ b. b || rest) (h refl))
-more_lined NoLine NoLine TwoLines last rest under rows cells h e f = sym (ap (λ b. b || rest) (h refl))
-more_lined NoLine NoLine Dashes last rest under rows cells h e f = sym (ap (λ b. b || rest) (h refl))
-more_lined NoLine OneLine below last rest under rows cells h e f = e
-more_lined NoLine TwoLines below last rest under rows cells h e f = e
-more_lined NoLine Dashes below last rest under rows cells h e f = e
-more_lined OneLine l NoLine last rest under rows cells h e f = refl
-more_lined OneLine l OneLine last rest under rows cells h e f = refl
-more_lined OneLine l TwoLines last rest under rows cells h e f = refl
-more_lined OneLine l Dashes last rest under rows cells h e f = refl
-more_lined TwoLines l NoLine last rest under rows cells h e f = refl
-more_lined TwoLines l OneLine last rest under rows cells h e f = refl
-more_lined TwoLines l TwoLines last rest under rows cells h e f = refl
-more_lined TwoLines l Dashes last rest under rows cells h e f = refl
-more_lined Dashes l NoLine last rest under rows cells h e f = refl
-more_lined Dashes l OneLine last rest under rows cells h e f = refl
-more_lined Dashes l TwoLines last rest under rows cells h e f = refl
-more_lined Dashes l Dashes last rest under rows cells h e f = refl
+more_lined : (line l below : Line) (last rest : Bool) (under rows : Rows) (ending cells : Cells) → (is_drawn below ≡ true → last ≡ true) → have_line under ≡ (is_drawn l || (last || rest)) → have_line rows ≡ (last || rest) → have_line (if not (is_drawn line) && is_drawn l then under else if is_drawn below then one_row (row_lines line below) ending else more_rows (row_lines line NoLine) cells rows) ≡ (is_drawn line || (is_drawn l || (last || rest)))
+more_lined NoLine NoLine NoLine last rest under rows ending cells h e f = f
+more_lined NoLine NoLine OneLine last rest under rows ending cells h e f = sym (ap (λ b. b || rest) (h refl))
+more_lined NoLine NoLine TwoLines last rest under rows ending cells h e f = sym (ap (λ b. b || rest) (h refl))
+more_lined NoLine NoLine Dashes last rest under rows ending cells h e f = sym (ap (λ b. b || rest) (h refl))
+more_lined NoLine OneLine below last rest under rows ending cells h e f = e
+more_lined NoLine TwoLines below last rest under rows ending cells h e f = e
+more_lined NoLine Dashes below last rest under rows ending cells h e f = e
+more_lined OneLine l NoLine last rest under rows ending cells h e f = refl
+more_lined OneLine l OneLine last rest under rows ending cells h e f = refl
+more_lined OneLine l TwoLines last rest under rows ending cells h e f = refl
+more_lined OneLine l Dashes last rest under rows ending cells h e f = refl
+more_lined TwoLines l NoLine last rest under rows ending cells h e f = refl
+more_lined TwoLines l OneLine last rest under rows ending cells h e f = refl
+more_lined TwoLines l TwoLines last rest under rows ending cells h e f = refl
+more_lined TwoLines l Dashes last rest under rows ending cells h e f = refl
+more_lined Dashes l NoLine last rest under rows ending cells h e f = refl
+more_lined Dashes l OneLine last rest under rows ending cells h e f = refl
+more_lined Dashes l TwoLines last rest under rows ending cells h e f = refl
+more_lined Dashes l Dashes last rest under rows ending cells h e f = refl
 
 line_first : (y : Element) (ys : List Element) → are_line (y ∷ ys) ≡ true → is_line y ≡ true
 line_first y [] h = h
@@ -182,7 +182,7 @@ line_first y (z ∷ ys) h = absurd (cc h)
 rows_lined : (columns : Columns) (line : Line) (x : Element) (xs : List Element) → have_line (rows_behind columns line x xs) ≡ (is_drawn line || has_line (x ∷ xs))
 rows_lined columns line x [] = last_lined columns line (line_of x) x
 rows_lined columns line x (y ∷ ys) =
-    more_lined line (line_of x) (last_line (y ∷ ys)) (is_line y) (has_line ys) _ _ (cells_in columns x) (line_first y ys) (rows_lined columns (line_of x) y ys) (rows_lined columns NoLine y ys)
+    more_lined line (line_of x) (last_line (y ∷ ys)) (is_line y) (has_line ys) _ _ (cells_in (in_last_row columns) x) (cells_in columns x) (line_first y ys) (rows_lined columns (line_of x) y ys) (rows_lined (behind_row columns) NoLine y ys)
 
 -- the attributes of a table whose columns or whose rows have lines
 joined_once : (b c : Bool) (a : Attributes) → table_attributes c (table_attributes b a) ≡ table_attributes (b || c) a
@@ -200,6 +200,26 @@ table_written a columns (x ∷ xs) h =
 pub table_loaded : (a : Attributes) (columns : Columns) (xs : List Element) → 0 < length xs → weight (table_with a columns xs) ≡ 4 + row_loads columns NoLine xs
 table_loaded a columns [] h = absurd (omega arith)
 table_loaded a columns (x ∷ xs) h = omega (arith, rows_loaded columns NoLine x xs)
+
+-- nothing is left after the last row, and something after another one
+
+none_left : (n : ℕ) (xs : List Element) → (if is_drawn (last_line (take n xs)) then 0 else n) ≡ 0 → is_last (take n xs) ≡ true
+none_left zero xs nothing = refl
+none_left (suc n) [] nothing = refl
+none_left (suc n) (x ∷ xs) nothing = drawn_last (is_drawn (last_line (take (suc n) (x ∷ xs)))) n nothing
+  where
+    drawn_last : (b : Bool) (n : ℕ) → (if b then 0 else suc n) ≡ 0 → b ≡ true
+    drawn_last true n nothing = refl
+    drawn_last false n nothing = cc
+
+some_left : (n : ℕ) (xs : List Element) → n ≤ length xs → ((if is_drawn (last_line (take n xs)) then 0 else n) ≡ 0 → ⊥) → is_last (take n xs) ≡ false
+some_left zero xs enough some = absurd (some refl)
+some_left (suc n) [] enough some = absurd (omega arith)
+some_left (suc n) (x ∷ xs) enough some = not_drawn (is_drawn (last_line (take (suc n) (x ∷ xs)))) (suc n) some
+  where
+    not_drawn : (b : Bool) (n : ℕ) → ((if b then 0 else n) ≡ 0 → ⊥) → b ≡ false
+    not_drawn true n some = absurd (some refl)
+    not_drawn false n some = refl
 
 -- Some elements are the first of them and the others
 
@@ -226,6 +246,9 @@ module _ (columns : Columns) (xs : List Element) (first count : ℕ) (some : 0 <
       let next : first + 1 ≡ suc first = omega arith in
       first_taken count (drop first xs) (drop (first + 1) xs) there.0 some (there.1 ∙ ap (λ n. there.0 ∷ drop n xs) (sym next))
 
+  enough_others : count - 1 ≤ length (drop (first + 1) xs)
+  enough_others = (let size = length-drop (first + 1) xs in omega (arith, enough, some, size))
+
   one_is : one ≡ there.0 ∷ []
   one_is = ap (take 1) there.1
 
@@ -236,22 +259,33 @@ module _ (columns : Columns) (xs : List Element) (first count : ℕ) (some : 0 <
   abbrev after : List Element
   after = take left (drop (first + 1) xs)
 
+  -- the columns of that row
+  abbrev pub here : Columns
+  here = columns_before others columns
+
+  -- that row is the last one exactly if nothing is left after it
+  pub last_there : (if is_drawn (last_line others) then 0 else count - 1) ≡ 0 → here ≡ in_last_row columns
+  last_there nothing = ap (λ b. if b then in_last_row columns else columns) (none_left (count - 1) (drop (first + 1) xs) nothing)
+
+  pub more_there : ((if is_drawn (last_line others) then 0 else count - 1) ≡ 0 → ⊥) → here ≡ columns
+  more_there some = ap (λ b. if b then in_last_row columns else columns) (some_left (count - 1) (drop (first + 1) xs) enough_others some)
+
   is_row : (line : Line) → (not (is_drawn line) && is_drawn (first_line (drop first xs))) ≡ false → (not (is_drawn line) && is_line there.0) ≡ false
   is_row line h = sym (ap (λ l. not (is_drawn line) && is_drawn (first_line l)) there.1) ∙ h
 
   -- the row of the first one, and the rows after it
-  pub row_taken : (line : Line) → (not (is_drawn line) && is_drawn (first_line (drop first xs))) ≡ false → row_prints columns line all ≡ row_print (row_lines line (last_line others)) (cell_prints columns zero (in_cells (drop first xs))) ++ row_prints columns NoLine after
+  pub row_taken : (line : Line) → (not (is_drawn line) && is_drawn (first_line (drop first xs))) ≡ false → row_prints columns line all ≡ row_print (row_lines line (last_line others)) (cell_prints here zero (in_cells (drop first xs))) ++ row_prints (behind_row columns) NoLine after
   row_taken line h =
       ap (row_prints columns line) all_are
       ∙ row_first columns line there.0 others (is_row line h)
-      ∙ ap (λ l. row_print (row_lines line (last_line others)) (cells_print (cells_in columns there.0)) ++ l) (rest_written columns (are_line others) (count - 1) (drop (first + 1) xs))
-      ∙ ap (λ l. row_print (row_lines line (last_line others)) l ++ row_prints columns NoLine after) (row_written columns there.0 (drop (suc first) xs) ∙ ap (λ l. cell_prints columns zero (in_cells l)) (sym there.1))
+      ∙ ap (λ l. row_print (row_lines line (last_line others)) (cells_print (cells_in here there.0)) ++ l) (rest_written (behind_row columns) (are_line others) (count - 1) (drop (first + 1) xs))
+      ∙ ap (λ l. row_print (row_lines line (last_line others)) l ++ row_prints (behind_row columns) NoLine after) (row_written here there.0 (drop (suc first) xs) ∙ ap (λ l. cell_prints here zero (in_cells l)) (sym there.1))
 
-  pub row_load_taken : (line : Line) → (not (is_drawn line) && is_drawn (first_line (drop first xs))) ≡ false → row_loads columns line all ≡ 3 + (cell_loads (in_cells (drop first xs)) + row_loads columns NoLine after)
+  pub row_load_taken : (line : Line) → (not (is_drawn line) && is_drawn (first_line (drop first xs))) ≡ false → row_loads columns line all ≡ 3 + (cell_loads (in_cells (drop first xs)) + row_loads (behind_row columns) NoLine after)
   row_load_taken line h =
-      let is : row_loads columns line all ≡ 3 + (cell_weights (cells_in columns there.0) + (if are_line others then 0 else row_loads columns NoLine others)) = ap (row_loads columns line) all_are ∙ row_load_first columns line there.0 others (is_row line h) in
-      let rest = rest_loaded columns (are_line others) (count - 1) (drop (first + 1) xs) in
-      let cells : cell_weights (cells_in columns there.0) ≡ cell_loads (in_cells (drop first xs)) = row_loaded columns there.0 (drop (suc first) xs) ∙ ap (λ l. cell_loads (in_cells l)) (sym there.1) in
+      let is : row_loads columns line all ≡ 3 + (cell_weights (cells_in here there.0) + (if are_line others then 0 else row_loads (behind_row columns) NoLine others)) = ap (row_loads columns line) all_are ∙ row_load_first columns line there.0 others (is_row line h) in
+      let rest = rest_loaded (behind_row columns) (are_line others) (count - 1) (drop (first + 1) xs) in
+      let cells : cell_weights (cells_in here there.0) ≡ cell_loads (in_cells (drop first xs)) = row_loaded here there.0 (drop (suc first) xs) ∙ ap (λ l. cell_loads (in_cells l)) (sym there.1) in
       omega (arith, is, rest, cells)
 
   -- a line before the others
@@ -265,13 +299,13 @@ module _ (columns : Columns) (xs : List Element) (first count : ℕ) (some : 0 <
   pub line_taken : is_drawn (first_line (drop first xs)) ≡ true → row_prints columns NoLine all ≡ row_prints columns (first_line (drop first xs)) others
   line_taken h =
       ap (row_prints columns NoLine) all_are
-      ∙ ap (λ b. if b then row_prints columns (line_of there.0) others else row_print (row_lines NoLine (last_line others)) (cells_print (cells_in columns there.0)) ++ (if are_line others then [] else row_prints columns NoLine others)) (is_first h)
+      ∙ ap (λ b. if b then row_prints columns (line_of there.0) others else row_print (row_lines NoLine (last_line others)) (cells_print (cells_in here there.0)) ++ (if are_line others then [] else row_prints (behind_row columns) NoLine others)) (is_first h)
       ∙ ap (λ l. row_prints columns l others) (sym first_is)
 
   pub line_load_taken : is_drawn (first_line (drop first xs)) ≡ true → row_loads columns NoLine all ≡ row_loads columns (first_line (drop first xs)) others
   line_load_taken h =
       ap (row_loads columns NoLine) all_are
-      ∙ ap (λ b. if b then row_loads columns (line_of there.0) others else 3 + (cell_weights (cells_in columns there.0) + (if are_line others then 0 else row_loads columns NoLine others))) (is_first h)
+      ∙ ap (λ b. if b then row_loads columns (line_of there.0) others else 3 + (cell_weights (cells_in here there.0) + (if are_line others then 0 else row_loads (behind_row columns) NoLine others))) (is_first h)
       ∙ ap (λ l. row_loads columns l others) (sym first_is)
 
   -- whether there is a line: the first element is one, or one of the others

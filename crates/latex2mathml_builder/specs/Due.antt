@@ -2,7 +2,7 @@
 use Rattle.std.specs.Prelude.{◌≡◌, ℕ, zero, suc, ◌+◌, ◌-◌, ◌≤◌, Bool, true, false, not, ◌&&◌, ◌||◌, List, [], ◌∷◌, ◌++◌, codes, drop, if◌then◌else◌, length, reverse, sum_by, take}
 use Rattle.std.specs.List.{All, flat_map}
 use Rattle.latex2mathml_elements.specs.Element.{Element, Elements, Rows, Cells, token, space, rectangle, container, pair, triple, table, none, more, one_row, more_rows, one_cell, more_cells, children, Mrow}
-use Rattle.latex2mathml_elements.specs.Columns.{Columns, column_at}
+use Rattle.latex2mathml_elements.specs.Columns.{Columns, behind_row, column_at, in_last_row}
 use Rattle.latex2mathml_elements.specs.Print.{cell_print, cells_print, prints, row_print}
 use Rattle.latex2mathml_elements.specs.Lines.{Line, NoLine, is_drawn, row_lines}
 use Rattle.latex2mathml_elements.specs.Tables.{are_line, cells_in, is_line, last_line, line_of}
@@ -31,12 +31,21 @@ abbrev pub has_line : List Element → Bool
 has_line [] = false
 has_line (x ∷ xs) = is_line x || has_line xs
 
+-- whether a row before these elements is the last one: only a line may be below it
+abbrev pub is_last : List Element → Bool
+is_last [] = true
+is_last xs = are_line xs
+
+-- the columns of a row before these elements
+abbrev pub columns_before : List Element → Columns → Columns
+columns_before xs columns = if is_last xs then in_last_row columns else columns
+
 -- the rows that these elements become, where a line may come before them
 abbrev pub row_prints : Columns → Line → List Element → List ℕ
 row_prints columns line [] = if is_drawn line then row_print (row_lines line NoLine) (cell_print (column_at columns zero) []) else []
 row_prints columns line (x ∷ xs) =
     if not (is_drawn line) && is_line x then row_prints columns (line_of x) xs
-    else row_print (row_lines line (last_line xs)) (cells_print (cells_in columns x)) ++ (if are_line xs then [] else row_prints columns NoLine xs)
+    else row_print (row_lines line (last_line xs)) (cells_print (cells_in (columns_before xs columns) x)) ++ (if are_line xs then [] else row_prints (behind_row columns) NoLine xs)
 
 -- the elements of a run
 abbrev pub elements_of : Built → Run → List Element
@@ -109,7 +118,7 @@ abbrev pub row_loads : Columns → Line → List Element → ℕ
 row_loads columns line [] = if is_drawn line then 6 else 0
 row_loads columns line (x ∷ xs) =
     if not (is_drawn line) && is_line x then row_loads columns (line_of x) xs
-    else 3 + (cell_weights (cells_in columns x) + (if are_line xs then 0 else row_loads columns NoLine xs))
+    else 3 + (cell_weights (cells_in (columns_before xs columns) x) + (if are_line xs then 0 else row_loads (behind_row columns) NoLine xs))
 
 -- how much there is to write of a work, and of all works
 abbrev pub run_weight : Built → Run → ℕ

@@ -84,9 +84,10 @@ impl Builder {
         let _ = self.settled_len();
         let below = self.last_line(first, count);
         let left = rows_left(count, below);
-        self.push_work(Work::Rows(columns, first + 1, left), works)?;
+        self.push_work(Work::Rows(columns.behind_row(), first + 1, left), works)?;
         out.push_str(row_tag(line, below))?;
-        self.write_row(columns, first, works, out)
+        let here = if left == 0 { columns.in_last_row() } else { columns };
+        self.write_row(here, first, works, out)
     }
 
     /// Returns the line that follows the first of some elements, if nothing else follows it.

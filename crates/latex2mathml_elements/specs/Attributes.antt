@@ -59,6 +59,8 @@ pub data Boxing : Type 0 where
   StruckUp : Boxing
   StruckDown : Boxing
   StruckTwice : Boxing
+  -- TeX's null delimiters are at its sides, which are space
+  NullDelimiters : Boxing
   -- a table in which the lines of all cells of a row are one line
   JoinedLines : Boxing
 

@@ -1,7 +1,7 @@
 -- Tables that are made of other elements: a rectangle becomes a line between rows, and each other element a row.
 use Rattle.std.specs.Prelude.{ℕ, zero, suc, ℤ, pos, Bool, true, false, not, ◌&&◌, List, [], ◌∷◌, if◌then◌else◌}
 use Rattle.latex2mathml_elements.specs.Attributes.{Attributes}
-use Rattle.latex2mathml_elements.specs.Columns.{Columns, are_lined, column_at}
+use Rattle.latex2mathml_elements.specs.Columns.{Columns, are_lined, behind_row, column_at, in_last_row}
 use Rattle.latex2mathml_elements.specs.Extents.{Extent}
 use Rattle.latex2mathml_elements.specs.Element.{Mrow, Element, Elements, Rows, Cells, rectangle, container, none, more, one_row, more_rows, one_cell, more_cells}
 use Rattle.latex2mathml_elements.specs.Print.{table_attributes}
@@ -62,11 +62,11 @@ are_line xs = is_drawn (last_line xs)
 abbrev pub rows_behind : Columns → Line → Element → List Element → Rows
 rows_behind columns line x [] =
     if not (is_drawn line) && is_line x then one_row (row_lines (line_of x) NoLine) (one_cell (column_at columns zero) none)
-    else one_row (row_lines line NoLine) (cells_in columns x)
+    else one_row (row_lines line NoLine) (cells_in (in_last_row columns) x)
 rows_behind columns line x (y ∷ ys) =
     if not (is_drawn line) && is_line x then rows_behind columns (line_of x) y ys
-    else if are_line (y ∷ ys) then one_row (row_lines line (last_line (y ∷ ys))) (cells_in columns x)
-    else more_rows (row_lines line NoLine) (cells_in columns x) (rows_behind columns NoLine y ys)
+    else if are_line (y ∷ ys) then one_row (row_lines line (last_line (y ∷ ys))) (cells_in (in_last_row columns) x)
+    else more_rows (row_lines line NoLine) (cells_in columns x) (rows_behind (behind_row columns) NoLine y ys)
 
 -- the rows that this element and these become
 abbrev pub rows_in : Columns → Element → List Element → Rows

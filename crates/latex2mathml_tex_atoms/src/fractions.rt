@@ -4,9 +4,10 @@ ghost use Rattle.latex2mathml_builder.specs.Built.{elements_in};
 ghost use Rattle.latex2mathml_attributes.specs.Names.{attributes_of};
 ghost use Rattle.latex2mathml_tex_grammar.specs.Makes;
 ghost use Rattle.latex2mathml_tex_commands.specs.{Delimiters.delimiter_text, Meanings.fraction_rule_of, Meanings.style_of};
-ghost use Rattle.latex2mathml_tex_atoms.specs.Models.{top};
+ghost use Rattle.latex2mathml_tex_atoms.specs.{Models.top, Shapes.ReplacesTop};
 
 use crate::shapes::enclose;
+use latex2mathml_attributes::around::{Around, Boxing};
 use latex2mathml_attributes::attributes::Attributes;
 use latex2mathml_attributes::tag::{Container, Pair};
 use latex2mathml_builder::builder::Builder;
@@ -60,11 +61,17 @@ fn put_quotient(builder: &mut Builder, rule: FractionRule) -> Result<(), AllocEr
         (top (elements_in builder.old)) ∷ drop 2 (elements_in builder.old)) }
 {
     match rule {
-        FractionRule::Bar => builder.pair(Pair::Mfrac, Attributes::plain(), false),
+        FractionRule::Bar => {
+            builder.pair(Pair::Mfrac, Attributes::plain(), false)?;
+            put_null_delimiters(builder)
+        }
         FractionRule::NoBar => put_between(builder, '(', ')'),
         FractionRule::Braced => put_between(builder, '{', '}'),
         FractionRule::Bracketed => put_between(builder, '[', ']'),
-        FractionRule::Bare => put_without_bar(builder),
+        FractionRule::Bare => {
+            put_without_bar(builder)?;
+            put_null_delimiters(builder)
+        }
     }
 }
 
@@ -78,6 +85,14 @@ fn put_between(builder: &mut Builder, opening: char, closing: char) -> Result<()
 {
     put_without_bar(builder)?;
     enclose(builder, true, Some(opening), Some(closing))
+}
+
+/// Puts null delimiters, which are space, around the top element.
+pub fn put_null_delimiters(builder: &mut Builder) -> Result<(), AllocError>
+    requires { 1 ≤ length (elements_in builder.old) }
+    ensures { OnOk result (ReplacesTop Makes.unfenced builder.old builder.new) }
+{
+    builder.surround(Around::Boxed(Boxing::NullDelimiters))
 }
 
 /// Makes the two top elements a fraction without its bar.

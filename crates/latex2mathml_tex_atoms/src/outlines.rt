@@ -6,7 +6,7 @@ ghost use Rattle.latex2mathml_tex_grammar.specs.Rules;
 ghost use Rattle.latex2mathml_tex_commands.specs.{Delimiters.delimiter_text, Meanings.style_of};
 ghost use Rattle.latex2mathml_tex_atoms.specs.{Models.top, Outlines.outline_of};
 
-use crate::fractions::{put_in_style, put_without_bar};
+use crate::fractions::{put_in_style, put_null_delimiters, put_without_bar};
 use crate::shapes::enclose;
 use latex2mathml_attributes::attributes::Attributes;
 use latex2mathml_attributes::tag::Pair;
@@ -63,7 +63,7 @@ fn put_quotient(builder: &mut Builder, has_line: bool) -> Result<(), AllocError>
     put_without_bar(builder)
 }
 
-/// Puts the top element between delimiters, if there are any.
+/// Puts the top element between delimiters, or between null delimiters if there are none.
 fn put_between_any(
     builder: &mut Builder,
     opening: Option<char>,
@@ -75,7 +75,7 @@ fn put_between_any(
         (top (elements_in builder.old)) ∷ drop 1 (elements_in builder.old)) }
 {
     if opening.is_none() && closing.is_none() {
-        return Ok(());
+        return put_null_delimiters(builder);
     }
     enclose(builder, true, opening, closing)
 }

@@ -261,9 +261,27 @@ module _ (P : Piece → Type 0) where
     closing : P Close
     closing = added.1.0
 
+    star_sign : P (Character (byte "*"))
+    star_sign = added.1.1.0
+
+    operator_name : P (Command (codes "operatorname"))
+    operator_name = added.1.1.1.0
+
+    as_opening : P (Command (codes "mathopen"))
+    as_opening = added.1.1.1.1.0
+
+    as_closing : P (Command (codes "mathclose"))
+    as_closing = added.1.1.1.1.1.0
+
+    at_left : P (Command (codes "left"))
+    at_left = added.1.1.1.1.1.1.0
+
+    at_right : P (Command (codes "right"))
+    at_right = added.1.1.1.1.1.1.1.0
+
     of_operator_parts : (star : Bool) (parts : List Part) → EachFixed P parts → EachFixed P (operator_parts star parts)
-    of_operator_parts true parts h = (added.1.1.1.0, (added.1.1.0, (opening, fixed_both parts (Fixed Close ∷ []) h (closing, tt))))
-    of_operator_parts false parts h = (added.1.1.1.0, (opening, fixed_both parts (Fixed Close ∷ []) h (closing, tt)))
+    of_operator_parts true parts h = (operator_name, (star_sign, (opening, fixed_both parts (Fixed Close ∷ []) h (closing, tt))))
+    of_operator_parts false parts h = (operator_name, (opening, fixed_both parts (Fixed Close ∷ []) h (closing, tt)))
 
     of_operator : (place : ℕ) (l : Units) → EachPiece P l → Passes IsPassed (operator_definition place l)
     of_operator place l h =
@@ -275,22 +293,22 @@ module _ (P : Piece → Type 0) where
 
     of_enclosed : (left right : List Part) → EachFixed P left → EachFixed P right → EachFixed P (enclosed_parts left right)
     of_enclosed left right h k =
-        fixed_both (sized_parts (codes "mathopen") left) (Argument 1 ∷ sized_parts (codes "mathclose") right) (of_sized (codes "mathopen") left added.1.1.1.1.0 h) (of_sized (codes "mathclose") right added.1.1.1.1.1.0 k)
+        fixed_both (sized_parts (codes "mathopen") left) (Argument 1 ∷ sized_parts (codes "mathclose") right) (of_sized (codes "mathopen") left as_opening h) (of_sized (codes "mathclose") right as_closing k)
 
     of_stretched : (left right : List Part) → EachFixed P left → EachFixed P right → EachFixed P (stretched_parts left right)
     of_stretched left right h k = (
-      added.1.1.1.1.0,
+      as_opening,
       (
         opening,
         (
           closing,
           (
-            added.1.1.1.1.1.0,
+            as_closing,
             (
               opening,
               (
-                added.1.1.1.1.1.1.0,
-                fixed_both left (Argument 0 ∷ Fixed (Command (codes "right")) ∷ (right ++ Fixed Close ∷ [])) h (added.1.1.1.1.1.1.1.0, fixed_both right (Fixed Close ∷ []) k (closing, tt)),
+                at_left,
+                fixed_both left (Argument 0 ∷ Fixed (Command (codes "right")) ∷ (right ++ Fixed Close ∷ [])) h (at_right, fixed_both right (Fixed Close ∷ []) k (closing, tt)),
               ),
             ),
           ),

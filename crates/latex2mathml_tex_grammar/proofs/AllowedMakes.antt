@@ -256,8 +256,8 @@ pub fenced_allowed : (high : Bool) (opening closing : List ℕ) (inside : Elemen
 fenced_allowed high opening closing inside h k i = (h, (i, (k, tt)))
 
 fraction_element_allowed : (rule : FractionRule) (above below : Element) → HasAllowedTexts above → HasAllowedTexts below → HasAllowedTexts (fraction_element rule above below)
-fraction_element_allowed Bar above below h k = (h, k)
-fraction_element_allowed Bare above below h k = (h, k)
+fraction_element_allowed Bar above below h k = ((h, k), tt)
+fraction_element_allowed Bare above below h k = ((h, k), tt)
 fraction_element_allowed NoBar above below h k =
     (allowed_plain (codes "(") refl, ((h, k), (allowed_plain (codes ")") refl, tt)))
 fraction_element_allowed Braced above below h k =

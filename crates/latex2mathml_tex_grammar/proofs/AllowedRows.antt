@@ -3,7 +3,7 @@ use Rattle.std.proofs.Common.{◌≡◌, ℕ, zero, suc, ℤ, pos, Bool, true, f
 use Rattle.std.proofs.lemmas.Bool.{and_parts}
 use Rattle.std.specs.{Bool.⊤, Char.encode_utf8, List.list_all, Str.bytes_eq, Str.chars}
 use Rattle.latex2mathml_elements.specs.Characters.{IsAllowed, HasAllowedTexts, EachTextOf, EachTextOfCells, EachTextOfRows}
-use Rattle.latex2mathml_elements.specs.{Struts.strut, Struts.with_strut, Columns.density_in, Columns.Columns, Columns.Centered, Columns.LeftAligned, Columns.RightAligned, Columns.Usual, Columns.Alike, Columns.Listed, Tables.are_line, Tables.cells_behind, Tables.cells_in, Lines.Line, Lines.NoLine, Lines.OneLine, Lines.TwoLines, Lines.Dashes, Lines.is_drawn, Tables.is_line as is_row_line, Tables.line_of, Tables.rows_behind}
+use Rattle.latex2mathml_elements.specs.{Struts.strut, Struts.with_strut, Columns.density_in, Columns.behind_row, Columns.in_last_row, Columns.Columns, Columns.Centered, Columns.LeftAligned, Columns.RightAligned, Columns.Usual, Columns.Alike, Columns.Listed, Tables.are_line, Tables.cells_behind, Tables.cells_in, Lines.Line, Lines.NoLine, Lines.OneLine, Lines.TwoLines, Lines.Dashes, Lines.is_drawn, Tables.is_line as is_row_line, Tables.line_of, Tables.rows_behind}
 use Rattle.latex2mathml_elements.specs.Element.{Mrow, Msqrt, Mstyle, Mpadded, Mphantom, Element, Elements, Rows, token, space, rectangle, container, pair, triple, table, more, none}
 use Rattle.latex2mathml_tex_grammar.specs.Environments.{columns_of, fitted, listed, written_out, Environment, Bracket, NoBracket, Position, Alignment, environments, entry_environment, environment_of}
 use Rattle.latex2mathml_tex_grammar.specs.{Rows.row_element, Symbols.Style}
@@ -52,10 +52,10 @@ either_allowed true xs ys h k = h
 either_allowed false xs ys h k = k
 
 rows_in_allowed : (columns : Columns) (line : Line) (x : Element) (xs : List Element) → HasAllowedTexts x → AreAllowedElements xs → EachTextOfRows IsAllowed (rows_behind columns line x xs)
-rows_in_allowed columns line x [] h k = either_allowed (not (is_drawn line) && is_row_line x) _ _ tt (cells_in_allowed columns x h)
+rows_in_allowed columns line x [] h k = either_allowed (not (is_drawn line) && is_row_line x) _ _ tt (cells_in_allowed (in_last_row columns) x h)
 rows_in_allowed columns line x (y ∷ ys) h k =
-    let cells = cells_in_allowed columns x h in
-    either_allowed (not (is_drawn line) && is_row_line x) _ _ (rows_in_allowed columns (line_of x) y ys k.0 k.1) (either_allowed (are_line (y ∷ ys)) _ _ cells (cells, rows_in_allowed columns NoLine y ys k.0 k.1))
+    either_allowed (not (is_drawn line) && is_row_line x) _ _ (rows_in_allowed columns (line_of x) y ys k.0 k.1)
+    (either_allowed (are_line (y ∷ ys)) _ _ (cells_in_allowed (in_last_row columns) x h) (cells_in_allowed columns x h, rows_in_allowed (behind_row columns) NoLine y ys k.0 k.1))
 
 rows_onto_allowed : (columns : Columns) (ys : List Element) (x : Element) (xs : List Element) → AreAllowedElements ys → HasAllowedTexts x → AreAllowedElements xs → EachTextOfRows IsAllowed (rows_onto columns ys x xs)
 rows_onto_allowed columns [] x xs h k i = rows_in_allowed columns NoLine x xs k i

@@ -215,7 +215,7 @@ quotient_allowed true above below h k = (h, k)
 quotient_allowed false above below h k = (h, k)
 
 between_any_allowed : (opening closing : List ℕ) (x : Element) → IsAllowed opening → IsAllowed closing → HasAllowedTexts x → HasAllowedTexts (between_any opening closing x)
-between_any_allowed [] [] x h k i = i
+between_any_allowed [] [] x h k i = (i, tt)
 between_any_allowed [] (c ∷ cs) x h k i = fenced_allowed true [] (c ∷ cs) x h k i
 between_any_allowed (c ∷ cs) closing x h k i = fenced_allowed true (c ∷ cs) closing x h k i
 

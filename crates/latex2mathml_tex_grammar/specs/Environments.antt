@@ -1,7 +1,7 @@
 -- The environments: each is a table. A name is its bytes.
 use Rattle.std.specs.Prelude.{ℕ, ◌+◌, ◌-◌, ◌*◌, ◌==◌, ◌||◌, Bool, true, false, List, [], ◌∷◌, ◌++◌, Option, Some, None, codes, if◌then◌else◌}
 use Rattle.std.specs.{List.after_first, List.before_first, List.repeat, Str.byte, Str.bytes_eq}
-use Rattle.latex2mathml_elements.specs.Columns.{Centered, LeftAligned, RightAligned, Density, Dense, Usual, Stretched, Opened, SpaceAround, Column, Columns, Alike, InPairs, AroundRelation, Listed, column_at}
+use Rattle.latex2mathml_elements.specs.Columns.{Centered, LeftAligned, RightAligned, Density, Dense, Usual, Stretched, Opened, SpaceAround, Column, Columns, Alike, InPairs, AroundRelation, Broken, Listed, column_at}
 use Rattle.latex2mathml_elements.specs.Lines.{Line, NoLine, OneLine, TwoLines, Dashes}
 use Rattle.latex2mathml_tex_grammar.specs.Scanning.{Argument, ColumnList, Number}
 use Rattle.latex2mathml_tex_grammar.specs.Symbols.{Style, InDisplay, InText, InScript}
@@ -135,7 +135,7 @@ cases = cells_in (Alike Stretched LeftAligned)
 
 -- one formula that is broken into lines
 abbrev pub broken : Environment
-broken = cells_in (Alike Opened LeftAligned) InDisplay
+broken = cells_in Broken InDisplay
 
 -- small rows in a script, or in a line of text
 abbrev pub small : Environment

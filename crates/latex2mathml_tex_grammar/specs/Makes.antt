@@ -1,7 +1,7 @@
 -- The atoms of each construct.
 use Rattle.std.specs.Prelude.{ℕ, zero, suc, ◌==◌, ◌||◌, ℤ, pos, Bool, true, false, List, [], ◌∷◌, ◌++◌, map, Option, Some, None, codes, if◌then◌else◌}
 use Rattle.std.specs.{Char.encode_utf8, Option.is_some, Str.encode_utf8_all}
-use Rattle.latex2mathml_elements.specs.Attributes.{Attributes, Side, Above, Below, Form, Prefix, Postfix, Stretch, Stretching, Rigid, Space, NoSpace, Narrow, Thick, Size, Boxing, NoWidth, Flat, NoHeight, NoDepth, ByItsWidth, ByHalfItsWidth, Framed, StruckUp, StruckDown, StruckTwice, boxed, MathStyle, DisplayStyle, TextStyle, ScriptStyle, plain}
+use Rattle.latex2mathml_elements.specs.Attributes.{Attributes, Side, Above, Below, Form, Prefix, Postfix, Stretch, Stretching, Rigid, Space, NoSpace, Narrow, Thick, Size, Boxing, NoWidth, Flat, NoHeight, NoDepth, ByItsWidth, ByHalfItsWidth, Framed, StruckUp, StruckDown, StruckTwice, NullDelimiters, boxed, MathStyle, DisplayStyle, TextStyle, ScriptStyle, plain}
 use Rattle.latex2mathml_elements.specs.Element.{Mi, Mn, Mo, Mrow, Msqrt, Mstyle, Mpadded, Mphantom, Mfrac, Mroot, Msub, Msup, Munder, Mover, Msubsup, Munderover, Element, token, space, rectangle, container, pair, triple, children}
 use Rattle.latex2mathml_elements.specs.Extents.{wide}
 use Rattle.latex2mathml_tex_grammar.specs.{Alphabets.in_alphabet, Rows.Row, Rows.Operand, Rows.lone, Rows.row_element}
@@ -302,17 +302,22 @@ abbrev pub fenced : Bool → List ℕ → List ℕ → Element → Element
 fenced high opening closing inside =
     container Mrow plain (children (delimiter high Prefix opening ∷ inside ∷ delimiter high Postfix closing ∷ []))
 
+-- Null delimiters are around a fraction that has no others. In a box of its own it is ordinary in Firefox too, which leaves more
+-- space next to a fraction.
+abbrev pub unfenced : Element → Element
+unfenced = around NullDelimiters
+
 -- a fraction without its line
 abbrev pub without_bar : Element → Element → Element
 without_bar above below = pair Mfrac (record plain { no_line = true }) above below
 
 -- a fraction, and what its rule puts around it
 abbrev pub fraction_element : FractionRule → Element → Element → Element
-fraction_element Bar above below = pair Mfrac plain above below
+fraction_element Bar above below = unfenced (pair Mfrac plain above below)
 fraction_element NoBar above below = fenced true (codes "(") (codes ")") (without_bar above below)
 fraction_element Braced above below = fenced true (codes "{") (codes "}") (without_bar above below)
 fraction_element Bracketed above below = fenced true (codes "[") (codes "]") (without_bar above below)
-fraction_element Bare above below = without_bar above below
+fraction_element Bare above below = unfenced (without_bar above below)
 
 -- a fraction in a style of its own, where it has one
 abbrev pub fraction : FractionRule → Option Style → Element → Element → Core
@@ -331,9 +336,9 @@ abbrev pub quotient : Bool → Element → Element → Element
 quotient true above below = pair Mfrac plain above below
 quotient false above below = without_bar above below
 
--- an element between delimiters, where there are any
+-- an element between delimiters, or between null delimiters if there are none
 abbrev pub between_any : List ℕ → List ℕ → Element → Element
-between_any [] [] x = x
+between_any [] [] x = unfenced x
 between_any opening closing x = fenced true opening closing x
 
 -- a fraction that is drawn as this says

@@ -1,6 +1,6 @@
 -- The environments of the code, as the definitions describe them.
 use Rattle.std.specs.Prelude.{ℕ, List, option_map, Option}
-use Rattle.latex2mathml_elements.specs.Columns.{Centered, LeftAligned, Dense, Usual, Stretched, Opened, Columns, Alike, InPairs, AroundRelation}
+use Rattle.latex2mathml_elements.specs.Columns.{Centered, LeftAligned, Dense, Usual, Stretched, Opened, Columns, Alike, InPairs, AroundRelation, Broken}
 use Rattle.latex2mathml_tex_grammar.specs.Environments as environments
 use Rattle.latex2mathml_tex_commands.specs.{Delimiters.delimiter_text, Meanings.style_of}
 use Rattle.latex2mathml_tex_units.specs.Scans.{argument_of}
@@ -12,7 +12,7 @@ abbrev pub layout_of : Layout → Columns
 layout_of layout.Matrix = Alike Usual Centered
 layout_of layout.Cases = Alike Stretched LeftAligned
 layout_of layout.Lines = Alike Opened Centered
-layout_of layout.BrokenLine = Alike Opened LeftAligned
+layout_of layout.Broken = Broken
 layout_of layout.Small = Alike Dense Centered
 layout_of layout.InPairs = InPairs
 layout_of layout.AroundRelation = AroundRelation

@@ -43,8 +43,8 @@ pub enum Layout {
     Cases,
     /// In the middle, with rows as far apart as lines.
     Lines,
-    /// On the left, with rows as far apart as lines.
-    BrokenLine,
+    /// The first row on the left, the last on the right, and the others in the middle, as far apart as lines.
+    Broken,
     /// In the middle, with little space around them.
     Small,
     InPairs,
@@ -61,7 +61,7 @@ impl Layout {
             Layout::Matrix => Columns::alike(Density::Usual, Alignment::Centered),
             Layout::Cases => Columns::alike(Density::Stretched, Alignment::LeftAligned),
             Layout::Lines => Columns::alike(Density::Opened, Alignment::Centered),
-            Layout::BrokenLine => Columns::alike(Density::Opened, Alignment::LeftAligned),
+            Layout::Broken => Columns::broken(),
             Layout::Small => Columns::alike(Density::Dense, Alignment::Centered),
             Layout::InPairs => Columns::in_pairs(),
             Layout::AroundRelation => Columns::around_relation(),
@@ -133,8 +133,8 @@ static ENVIRONMENTS: [Environment; 40] = [
     Environment { name: "math", delimiters: None, layout: Layout::Matrix, style: Style::InText, bracket: Bracket::Nothing, argument: None },
     Environment { name: "matrix", delimiters: None, layout: Layout::Matrix, style: Style::InText, bracket: Bracket::Nothing, argument: None },
     Environment { name: "matrix*", delimiters: None, layout: Layout::Matrix, style: Style::InText, bracket: Bracket::Alignment, argument: None },
-    Environment { name: "multline", delimiters: None, layout: Layout::BrokenLine, style: Style::InDisplay, bracket: Bracket::Nothing, argument: None },
-    Environment { name: "multline*", delimiters: None, layout: Layout::BrokenLine, style: Style::InDisplay, bracket: Bracket::Nothing, argument: None },
+    Environment { name: "multline", delimiters: None, layout: Layout::Broken, style: Style::InDisplay, bracket: Bracket::Nothing, argument: None },
+    Environment { name: "multline*", delimiters: None, layout: Layout::Broken, style: Style::InDisplay, bracket: Bracket::Nothing, argument: None },
     Environment { name: "pmatrix", delimiters: Some((Some('('), Some(')'))), layout: Layout::Matrix, style: Style::InText, bracket: Bracket::Nothing, argument: None },
     Environment { name: "pmatrix*", delimiters: Some((Some('('), Some(')'))), layout: Layout::Matrix, style: Style::InText, bracket: Bracket::Alignment, argument: None },
     Environment { name: "rcases", delimiters: Some((None, Some('}'))), layout: Layout::Cases, style: Style::InText, bracket: Bracket::Nothing, argument: None },

@@ -12,6 +12,11 @@ fn math(display: DisplayStyle, content: &str) -> String {
     )
 }
 
+/// A half of some content.
+fn half(above: &str) -> String {
+    format!(r#"<mpadded style="padding: 0 calc(0.12em - 1px)"><mfrac>{}<mn>2</mn></mfrac></mpadded>"#, above)
+}
+
 /// The `math` element that shows some content, with its source, which is already escaped.
 fn annotated(display: DisplayStyle, shown: &str, source: &str) -> String {
     let annotation = format!(r#"<annotation encoding="application/x-tex">{}</annotation>"#, source);
@@ -27,10 +32,10 @@ fn formulas() {
     for (tex, content) in [
         ("", ""),
         ("x_i^2", "<msubsup><mi>x</mi><mi>i</mi><mn>2</mn></msubsup>"),
-        (r"\frac12", "<mfrac><mn>1</mn><mn>2</mn></mfrac>"),
+        (r"\frac12", half("<mn>1</mn>").as_str()),
         (r"a \le b", "<mi>a</mi><mo>≤</mo><mi>b</mi>"),
         (r"\R", "<mi>ℝ</mi>"),
-        (r"\half{x}", "<mfrac><mi>x</mi><mn>2</mn></mfrac>"),
+        (r"\half{x}", half("<mi>x</mi>").as_str()),
     ] {
         for display in [DisplayStyle::Inline, DisplayStyle::Block] {
             assert_eq!(

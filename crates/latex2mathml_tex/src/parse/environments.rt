@@ -223,8 +223,8 @@ impl<'a> Parser<'a> {
             *next = self.refuse(TexErrorKind::TooManyColumns, place);
             return Ok(());
         };
-        let fitted = fitted(environment.layout, columns);
-        self.begin_rows(environment, fitted, place, context, next)
+        let columns = fitted(environment.layout, columns);
+        self.begin_rows(environment, columns, place, context, next)
     }
 
     /// Begins the rows of an environment.

@@ -56,7 +56,7 @@ returns-clause-holds c = λ s g.
     let written : c.as_str.result.now ≡ signs = c.as_str.ensures.value ∙ c.in_ok-signs.ensures in
     let few = ap (λ k. nat_le (length (grammar.columns_of k)) most_columns) (sym written) ∙ c.in-Some-listed.ensures.0 in
     let density = density_in (environment_of e).columns in
-    let own : columns_of c.fitted-fitted.result ≡ grammar.fitted density (grammar.listed signs) = c.fitted-fitted.ensures ∙ ap (grammar.fitted density) (c.in-Some-listed.ensures.1 ∙ ap grammar.listed written) in
+    let own : columns_of c.fitted-columns.result ≡ grammar.fitted density (grammar.listed signs) = c.fitted-columns.ensures ∙ ap (grammar.fitted density) (c.in-Some-listed.ensures.1 ∙ ap grammar.listed written) in
     let begins = text_taken p q place (BeforeArgument ColumnList) text took s c.args.context rule g in
     let rows = subst (λ b. BeginsIn c.args.context (if b then rows_rule place (context_of c.args.context) e.name.now (environment_of e) (grammar.fitted (density_in (environment_of e).columns) (grammar.listed signs)) else refuses (refusal_at TooManyColumns place)) 0 s q) few begins in
     c.begin_rows.ensures.holds s (subst (λ k. BeginsIn c.args.context (rows_rule place (context_of c.args.context) e.name.now (environment_of e) k) 0 s q) (sym own) rows)
