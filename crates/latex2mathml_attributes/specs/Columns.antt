@@ -108,7 +108,7 @@ columns_with (kind.Alike density alignment) line listed = defined.Alike (density
 columns_with kind.InPairs line listed = defined.InPairs
 columns_with kind.AroundRelation line listed = defined.AroundRelation
 columns_with kind.Broken line listed = defined.Broken
-columns_with kind.BrokenOn line listed = defined.BrokenOn
+columns_with kind.BrokenAfterFirst line listed = defined.BrokenAfterFirst
 columns_with kind.Listed line listed = defined.Listed line listed
 
 abbrev pub columns_of : Columns → defined.Columns

@@ -90,7 +90,7 @@ enum Kind {
     InPairs,
     AroundRelation,
     Broken,
-    BrokenOn,
+    BrokenAfterFirst,
     Listed,
 }
 
@@ -394,9 +394,13 @@ impl Columns {
             Kind::InPairs => column_of_pair(place),
             Kind::AroundRelation => column_around_relation(place),
             Kind::Broken => {
-                Column::spaced(Density::Opened, spacing_between(place), Alignment::LeftAligned)
+                Column::spaced(
+                    Density::Opened,
+                    spacing_between(place),
+                    Alignment::LeftAligned,
+                )
             }
-            Kind::BrokenOn => {
+            Kind::BrokenAfterFirst => {
                 Column::spaced(Density::Opened, spacing_between(place), Alignment::Centered)
             }
             Kind::Listed if place < MOST_COLUMNS && place < self.len as usize => {
@@ -423,7 +427,7 @@ impl Columns {
     {
         match self.kind {
             Kind::Broken => Columns {
-                kind: Kind::BrokenOn,
+                kind: Kind::BrokenAfterFirst,
                 ..self
             },
             _ => self,
@@ -435,7 +439,7 @@ impl Columns {
         ensures { columns_of result ≡ in_last_row (columns_of self) }
     {
         match self.kind {
-            Kind::BrokenOn => Columns::alike(Density::Opened, Alignment::RightAligned),
+            Kind::BrokenAfterFirst => Columns::alike(Density::Opened, Alignment::RightAligned),
             _ => self,
         }
     }
@@ -446,7 +450,8 @@ impl Columns {
     {
         match self.kind {
             Kind::Alike(density, _) => density,
-            Kind::InPairs | Kind::AroundRelation | Kind::Broken | Kind::BrokenOn => Density::Opened,
+            Kind::InPairs | Kind::AroundRelation | Kind::Broken | Kind::BrokenAfterFirst =>
+                Density::Opened,
             Kind::Listed => Density::Usual,
         }
     }

@@ -86,7 +86,11 @@ impl Builder {
         let left = rows_left(count, below);
         self.push_work(Work::Rows(columns.behind_row(), first + 1, left), works)?;
         out.push_str(row_tag(line, below))?;
-        let here = if left == 0 { columns.in_last_row() } else { columns };
+        let here = if left == 0 {
+            columns.in_last_row()
+        } else {
+            columns
+        };
         self.write_row(here, first, works, out)
     }
 

@@ -54,7 +54,7 @@ pub data Columns : Type 0 where
   -- the lines of a formula that is broken: the first is at the left, the last at the right, and those between them in the middle
   Broken : Columns
   -- such lines without the first one
-  BrokenOn : Columns
+  BrokenAfterFirst : Columns
   -- these, with this line before the first, followed by centered ones
   Listed : Line → List Column → Columns
 
@@ -75,19 +75,19 @@ column_at AroundRelation (suc zero) = spaced Opened SpaceAround Centered
 column_at AroundRelation (suc (suc zero)) = spaced Opened SpaceAround LeftAligned
 column_at AroundRelation (suc (suc (suc k))) = spaced Opened SpaceAround Centered
 column_at Broken k = spaced Opened (between k) LeftAligned
-column_at BrokenOn k = spaced Opened (between k) Centered
+column_at BrokenAfterFirst k = spaced Opened (between k) Centered
 column_at (Listed line []) k = unlined Centered
 column_at (Listed line (column ∷ columns)) zero = record column { before = line }
 column_at (Listed line (column ∷ columns)) (suc k) = column_at (Listed NoLine columns) k
 
 -- the columns of the rows that follow one in these columns
 abbrev pub behind_row : Columns → Columns
-behind_row Broken = BrokenOn
+behind_row Broken = BrokenAfterFirst
 behind_row columns = columns
 
 -- the columns of the last row of a table
 abbrev pub in_last_row : Columns → Columns
-in_last_row BrokenOn = Alike Opened RightAligned
+in_last_row BrokenAfterFirst = Alike Opened RightAligned
 in_last_row columns = columns
 
 -- how far apart the rows of a table in these columns are
@@ -96,7 +96,7 @@ density_in (Alike density alignment) = density
 density_in InPairs = Opened
 density_in AroundRelation = Opened
 density_in Broken = Opened
-density_in BrokenOn = Opened
+density_in BrokenAfterFirst = Opened
 density_in (Listed line columns) = Usual
 
 -- whether one of these columns has a line after it

@@ -88,7 +88,7 @@ fn put_between(builder: &mut Builder, opening: char, closing: char) -> Result<()
 }
 
 /// Puts null delimiters, which are space, around the top element.
-pub fn put_null_delimiters(builder: &mut Builder) -> Result<(), AllocError>
+pub(crate) fn put_null_delimiters(builder: &mut Builder) -> Result<(), AllocError>
     requires { 1 ≤ length (elements_in builder.old) }
     ensures { OnOk result (ReplacesTop Makes.unfenced builder.old builder.new) }
 {

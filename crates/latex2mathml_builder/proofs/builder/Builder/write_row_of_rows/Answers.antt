@@ -26,9 +26,9 @@ returns-clause-print c =
     let old = due b c.args.works.now.items in
     let out = string_bytes c.args.out.now in
     let puts =
-        c.in_ok-push_work.ensures.print
-        ∙ ap (λ k. (row_prints k NoLine (settled_from b (first + 1) c.rows_left-left.result) ++ codes "</mtable>") ++ old) c.behind_row.ensures
-        ∙ ap (λ n. (row_prints (behind_row columns) NoLine (settled_from b (first + 1) n) ++ codes "</mtable>") ++ old) left in
+    c.in_ok-push_work.ensures.print
+    ∙ ap (λ k. (row_prints k NoLine (settled_from b (first + 1) c.rows_left-left.result) ++ codes "</mtable>") ++ old) c.behind_row.ensures
+    ∙ ap (λ n. (row_prints (behind_row columns) NoLine (settled_from b (first + 1) n) ++ codes "</mtable>") ++ old) left in
     let tag = c.in_ok-push_str.ensures.bytes ∙ ap (λ l. out ++ l) (c.row_tag.ensures ∙ ap (λ k. row_tag (row_lines line k)) c.last_line-below.ensures) in
     let is : columns_of c.if-left-eq0.here ≡ here = elim c.if-left-eq0.branch [
       | then-left-eq0 w ↦ ap columns_of w.here-is ∙ w.in_last_row-here.ensures ∙ sym (last_there columns xs first count c.requires.some enough (sym left ∙ w.if-left-eq0.true))
@@ -51,8 +51,8 @@ returns-clause-weight c =
     let enough : first + count ≤ length xs = omega (arith, settled_count b.texts b.settled, c.requires.all) in
     let left = c.rows_left-left.ensures ∙ ap (λ k. if is_drawn k then 0 else count - 1) c.last_line-below.ensures in
     let rest =
-        ap (λ k. row_loads k NoLine (settled_from b (first + 1) c.rows_left-left.result)) c.behind_row.ensures
-        ∙ ap (λ n. row_loads (behind_row columns) NoLine (settled_from b (first + 1) n)) left in
+    ap (λ k. row_loads k NoLine (settled_from b (first + 1) c.rows_left-left.result)) c.behind_row.ensures
+    ∙ ap (λ n. row_loads (behind_row columns) NoLine (settled_from b (first + 1) n)) left in
     let parts = row_load_taken columns xs first count c.requires.some enough (line_of c.args.line) c.requires.row in
     IfOk-weaker c.write_row.result _ _
     (λ run h. omega (arith, h, parts, rest, c.in_ok-push_work.ensures.weight))
