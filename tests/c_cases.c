@@ -144,7 +144,7 @@ static void judge_with_refusals(struct given given, struct due due, const char *
 }
 
 /* The most bytes that such a call asks for in all: room for a short answer, and for the parts of a short formula and of a macro. */
-enum { MOST_ASKED = 4608 };
+enum { MOST_ASKED = 5120 };
 
 /* How many bytes such a call asks for if its text needs less room than there is. */
 static size_t asked_for(struct given given) {
