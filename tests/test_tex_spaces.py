@@ -1,6 +1,6 @@
 """The space that Chromium leaves between the atoms of a formula of `tex_to_mathml`, against TeX's table of spaces, and the space that
-both browsers leave at the sides of fractions and of columns, between rows, and next to an atom that begins a cell. The comparison
-of markup with KaTeX (`test_tex_katex`) does not see space."""
+both browsers leave at the sides of fractions and of columns, between rows, and next to an atom that begins a cell. Also the room
+that they leave for delimiters. The comparison of markup with KaTeX (`test_tex_katex`) does not see space."""
 import itertools
 import math
 import unittest
@@ -52,6 +52,13 @@ SMALL_ROWS = {r"\begin{smallmatrix}c\\c\end{smallmatrix}": [0.6], r"x_{\substack
 # A formula that is broken into lines, and how much of the room of its shorter lines is at the left of each
 BROKEN = {r"\begin{multline}c\\c\\ccccc\\c\end{multline}": [0, 1 / 2, 1], r"\begin{multline*}ccc\\c\end{multline*}": [1]}
 
+# Delimiters, and how many ems wide they are at least and at most. Those with a size are as wide as TeX's. Those that stretch are at
+# least as wide as the lowest form of TeX's, and at most as wide as the highest one.
+DELIMITERS = {r"\big(": (0.458, 0.458), r"\Big)": (0.597, 0.597), r"\bigg[": (0.528, 0.528), r"\Bigg]": (0.583, 0.583),
+              r"\bigl\{": (0.583, 0.583), r"\Bigr\rangle": (0.611, 0.611), r"\big/": (0.578, 0.578), r"\bigm\backslash": (0.578, 0.578),
+              r"\Bigl\lfloor": (0.528, 0.528), r"\left(c^2\right)": (0.458, 0.736), r"\left[\frac cd\right]": (0.417, 0.528),
+              r"\left.\frac cd\middle/c\right.": (0.578, 1.044), r"\binom cd": (0.458, 0.736)}
+
 PAGE = """<!DOCTYPE html><meta charset="utf-8"><style>math { font-size: 100px }</style>%s<script>
 const gapsBetween = (boxes, em) => boxes.slice(1).map((box, place) => (box.left - boxes[place].right) / em);
 const boxesOf = elements => elements.map(element => element.getBoundingClientRect());
@@ -71,6 +78,11 @@ OF_FRACTIONS = """formula => {
 OF_CELLS = """formula => {
     const {left, right} = formula.querySelector("mtable").getBoundingClientRect();
     return gapsBetween([{right: left}, ...boxesOf([...formula.querySelectorAll("mtr:first-child mi")]), {left: right}], 100);
+}"""
+# how many ems wide the first delimiter is
+OF_DELIMITERS = """formula => {
+    const [sign] = boxesOf([...formula.querySelectorAll("mo")].filter(sign => sign.textContent));
+    return [sign.width / 100];
 }"""
 # the ems between the lines of the letter c in two rows
 OF_ROWS = """formula => {
@@ -164,6 +176,16 @@ class Fractions(Gaps):
     @requires("firefox-esr")
     def test_in_firefox(self):
         self.compare(firefox, FRACTIONS, OF_FRACTIONS)
+
+
+@requires("chromium")
+class Delimiters(Spaces):
+    """Chromium leaves as much room as for the widest form of a delimiter, unless the markup says otherwise."""
+
+    def test_in_chromium(self):
+        for (formula, (least, most)), [found] in zip(DELIMITERS.items(), self.spaces(DELIMITERS, chromium, OF_DELIMITERS), strict=True):
+            with self.subTest(formula):
+                self.assertTrue(least - NEARLY < found < most + NEARLY, f"found {found}, TeX from {least} to {most}")
 
 
 class Columns(Gaps):

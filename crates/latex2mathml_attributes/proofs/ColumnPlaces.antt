@@ -1,7 +1,7 @@
 -- The columns that the code finds are those of the definitions.
 use Rattle.std.proofs.Common.{◌≡◌, ℕ, zero, suc, ◌%◌, ◌<◌, ◌≤◌, Bool, false, ◌||◌, List, [], ◌∷◌, drop, length, take, refl, sym, ap, ◌∙◌, arith}
 use Rattle.std.proofs.Math.ListN.{get_or}
-use Rattle.latex2mathml_elements.specs.Columns.{Centered, Column, RightAligned, SecondOfPair, Opened, Unspaced, SpaceBefore, InPairs, Listed, any_lined, column_at, spaced, unlined}
+use Rattle.latex2mathml_elements.specs.Columns.{Centered, Column, RightAligned, Continued, Opened, Unspaced, SpaceBefore, InPairs, Listed, any_lined, column_at, spaced, unlined}
 use Rattle.latex2mathml_elements.specs.Lines.{Line, NoLine, is_drawn}
 use Rattle.latex2mathml_attributes.specs.{Columns.behind_line, Columns.line_before}
 
@@ -13,7 +13,7 @@ later_pair (suc zero) i h = absurd (omega arith)
 later_pair (suc (suc zero)) i h = refl
 later_pair (suc (suc (suc k))) i h = later_pair (suc k) (omega arith) (omega arith)
 
-pub second_of_pair : (k : ℕ) → k % 2 ≡ 1 → column_at InPairs k ≡ spaced Opened Unspaced SecondOfPair
+pub second_of_pair : (k : ℕ) → k % 2 ≡ 1 → column_at InPairs k ≡ spaced Opened Unspaced Continued
 second_of_pair zero h = absurd (omega arith)
 second_of_pair (suc zero) h = refl
 second_of_pair (suc (suc zero)) h = absurd (omega arith)

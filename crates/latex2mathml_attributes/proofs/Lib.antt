@@ -1,3 +1,4 @@
 pub mod Appended
 pub mod ColumnPlaces
 pub mod Halves
+pub mod Lengths

@@ -22,7 +22,7 @@ abbrev pub alignment_of : Alignment → defined.Alignment
 alignment_of alignment.Centered = defined.Centered
 alignment_of alignment.LeftAligned = defined.LeftAligned
 alignment_of alignment.RightAligned = defined.RightAligned
-alignment_of alignment.SecondOfPair = defined.SecondOfPair
+alignment_of alignment.Continued = defined.Continued
 
 abbrev pub density_of : Density → defined.Density
 density_of density.Dense = defined.Dense

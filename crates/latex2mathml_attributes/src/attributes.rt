@@ -1,9 +1,10 @@
 //! The attributes of elements.
 ghost use Rattle.std.specs.Prelude.{◌≡◌, ◌++◌, true, IfSome, OnOk, codes, option_map, string_bytes};
-ghost use Rattle.latex2mathml_elements.specs.Attributes.{plain, styled};
-ghost use Rattle.latex2mathml_elements.specs.Print.{accent_text, attributes_text, form_text, if_so, size_text, space_text, start_tag, stretch_text, style_text};
+ghost use Rattle.latex2mathml_elements.specs.Attributes.{AtMost, plain, styled};
+ghost use Rattle.latex2mathml_elements.specs.Print.{accent_text, attributes_text, boxing_text, form_text, if_so, size_text, space_text, start_tag, stretch_text, style_text};
 ghost use Rattle.latex2mathml_attributes.specs.Names.{attributes_if_any, attributes_of, form_of, math_style_of, side_of, size_of, space_of, stretch_of};
 
+use crate::extent::append_length;
 use std::alloc::AllocError;
 
 /// The side of its base on which a mark is.
@@ -82,6 +83,8 @@ pub struct Attributes {
     pub no_line: bool,
     /// The style of what is in it, whatever the style around it is.
     pub style: Option<MathStyle>,
+    /// How wide it is at most, in thousandths of an em.
+    pub room: Option<u16>,
 }
 
 impl Attributes {
@@ -101,6 +104,7 @@ impl Attributes {
             accent: None,
             no_line: false,
             style: None,
+            room: None,
         }
     }
 
@@ -142,6 +146,7 @@ impl Attributes {
                 accent: None,
                 no_line: false,
                 style: None,
+                room: None,
             } => None,
             attributes => Some(attributes),
         }
@@ -166,6 +171,7 @@ impl Attributes {
                 accent: None,
                 no_line: false,
                 style: None,
+                room: None,
             } => usual_tag(form, stretch, space),
             _ => None,
         }
@@ -187,6 +193,7 @@ impl Attributes {
         append_some(accent_text(self.accent), out)?;
         append_some(text_if(self.no_line, " linethickness=\"0\""), out)?;
         append_some(style_text(self.style), out)?;
+        append_room(self.room, out)?;
         Ok(())
     }
 }
@@ -236,6 +243,17 @@ fn append_some(text: &'static str, out: &mut String) -> Result<(), AllocError>
         return Ok(());
     }
     out.push_str(text)
+}
+
+/// Appends the attribute for an element that is at most this many thousandths of an em wide, if it is.
+fn append_room(room: Option<u16>, out: &mut String) -> Result<(), AllocError>
+    ensures { OnOk result (string_bytes out.new
+        ≡ string_bytes out.old ++ boxing_text (option_map AtMost room)) }
+{
+    if let Some(width) = room {
+        append_length(" style=\"max-width: ", i32::from(width), out)?;
+    }
+    Ok(())
 }
 
 fn text_if(flag: bool, text: &'static str) -> &'static str

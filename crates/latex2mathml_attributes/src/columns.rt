@@ -20,8 +20,8 @@ pub enum Alignment {
     Centered,
     LeftAligned,
     RightAligned,
-    /// Aligned left, as the second of two columns with no space between them.
-    SecondOfPair,
+    /// Aligned left, where cells continue something ordinary, such as the other cell of a pair, or the line before them.
+    Continued,
 }
 
 /// How far apart the rows of a table are, and what is in them.
@@ -197,7 +197,7 @@ impl Alignment {
     {
         match self {
             Alignment::Centered => "<mtd style=\"",
-            Alignment::LeftAligned | Alignment::SecondOfPair =>
+            Alignment::LeftAligned | Alignment::Continued =>
                 "<mtd columnalign=\"left\" style=\"text-align: left; ",
             Alignment::RightAligned =>
                 "<mtd columnalign=\"right\" style=\"text-align: right; text-align: -webkit-right; ",
@@ -397,7 +397,7 @@ impl Columns {
                 Column::spaced(
                     Density::Opened,
                     spacing_between(place),
-                    Alignment::LeftAligned,
+                    Alignment::Continued,
                 )
             }
             Kind::BrokenAfterFirst => {
@@ -499,7 +499,7 @@ fn column_of_pair(place: usize) -> Column
     if place % 2 == 0 {
         return Column::spaced(Density::Opened, Spacing::Before, Alignment::RightAligned);
     }
-    Column::spaced(Density::Opened, Spacing::Unspaced, Alignment::SecondOfPair)
+    Column::spaced(Density::Opened, Spacing::Unspaced, Alignment::Continued)
 }
 
 /// Returns the column that follows `place` others, where the first three are the left side of a relation, the relation, and its

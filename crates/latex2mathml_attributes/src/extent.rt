@@ -75,7 +75,11 @@ pub fn append_if_any(
 }
 
 /// Appends the beginning of an attribute, then its length and the closing quotation mark.
-fn append_length(beginning: &'static str, length: i32, out: &mut String) -> Result<(), AllocError>
+pub(crate) fn append_length(
+    beginning: &'static str,
+    length: i32,
+    out: &mut String,
+) -> Result<(), AllocError>
     ensures { OnOk result (string_bytes out.new
         ≡ string_bytes out.old ++ (beginning.now ++ (ems length ++ codes "em\""))) }
 {
@@ -98,8 +102,8 @@ fn append_ems(length: i32, out: &mut String) -> Result<(), AllocError>
     append_thousandths(length.unsigned_abs(), out)
 }
 
-/// Returns how a length is written in ems, if it is zero or a length of a strut. Formatting each of these anew would take most of
-/// the time for the rows of tables.
+/// Returns how a length is written in ems, if it is zero, a length of a strut or a usual width of a delimiter. Formatting each of
+/// these anew would take most of the time for the rows of tables.
 fn usual_ems(length: i32) -> Option<&'static str>
     ensures { MatchOption result ⊤ (λ text. text.now ≡ ems length) }
 {
@@ -108,7 +112,11 @@ fn usual_ems(length: i32) -> Option<&'static str>
         257 => Some("0.257"),
         360 => Some("0.36"),
         432 => Some("0.432"),
+        472 => Some("0.472"),
+        597 => Some("0.597"),
         600 => Some("0.6"),
+        611 => Some("0.611"),
+        667 => Some("0.667"),
         840 => Some("0.84"),
         1008 => Some("1.008"),
         _ => None,

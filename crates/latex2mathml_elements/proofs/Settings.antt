@@ -2,7 +2,8 @@
 use Rattle.std.proofs.Common.{◌≡◌, ℕ, zero, ℤ, pos, Bool, true, false, ◌&&◌, ◌==◌, IsTrue, List, [], ◌∷◌, ◌++◌, append_assoc, append-nil, Option, Some, None, refl, arith, codes, map, if◌then◌else◌}
 use Rattle.std.specs.{Cmp.Lexicographic.bytes_decides, List.flat_map, List.list_all, Str.byte, Str.bytes_eq}
 use Rattle.std.proofs.{lemmas.Grind.flat_map-append, lemmas.List.Folds.list_all-append, lemmas.List.Folds.list_all-map}
-use Rattle.latex2mathml_elements.specs.{Attributes.Attributes, Columns.Alignment, Columns.Column, Columns.Density, Columns.Spacing, Lines.Line, Lines.RowLines}
+use Rattle.latex2mathml_elements.specs.{Attributes.Attributes, Attributes.Boxing, Columns.Alignment, Columns.Column, Columns.Density, Columns.Spacing, Lines.Line, Lines.RowLines}
+use Rattle.latex2mathml_elements.specs.Attributes as boxes
 use Rattle.latex2mathml_elements.specs.Print.{accent_text, alignment_style, alignment_text, attributes_text, border_style, boxing_text, column_style, column_text, form_text, if_so, lines_text, math_tag, size_text, space_text, sides_style, stretch_text, style_text}
 use Rattle.latex2mathml_elements.specs.Colors.{Color, color_code, color_text}
 use Rattle.latex2mathml_elements.specs.Extents.{Extent, black_text, ems, extent_text, length_if_any, length_text}
@@ -98,6 +99,23 @@ color : (name : List ℕ) → IsTrue (is_name name) → (c : Option Color) → A
 color name valid None = nothing
 color name valid (Some c) = quoted name (color_code c) [] valid refl (color_quotable c)
 
+boxing : (change : Option Boxing) → AreSettings (boxing_text change)
+boxing None = nothing
+boxing (Some boxes.NoWidth) = words _ refl
+boxing (Some boxes.Flat) = words _ refl
+boxing (Some boxes.NoHeight) = words _ refl
+boxing (Some boxes.NoDepth) = words _ refl
+boxing (Some boxes.ByItsWidth) = words _ refl
+boxing (Some boxes.ByHalfItsWidth) = words _ refl
+boxing (Some boxes.Framed) = words _ refl
+boxing (Some boxes.StruckUp) = words _ refl
+boxing (Some boxes.StruckDown) = words _ refl
+boxing (Some boxes.StruckTwice) = words _ refl
+boxing (Some boxes.NullDelimiters) = words _ refl
+boxing (Some boxes.JoinedLines) = words _ refl
+boxing (Some (boxes.AtMost width)) =
+    quoted (codes "style") (codes "max-width: " ++ ems (pos width)) (codes "em") refl refl (ems_quotable (pos width))
+
 pub settings : (a : Attributes) → AreSettings (attributes_text a)
 settings a =
     beside (words (if_so a.upright (codes " mathvariant=\"normal\"")) (grind arith))
@@ -111,7 +129,7 @@ settings a =
     (beside (words (accent_text a.accent) (grind arith))
     (beside (words (if_so a.no_line (codes " linethickness=\"0\"")) (grind arith))
     (beside (words (style_text a.style) (grind arith))
-    (beside (words (boxing_text a.boxing) (grind arith))
+    (beside (boxing a.boxing)
     (beside (measure_if_any (codes "voffset") refl a.raised)
     (beside (color (codes "mathcolor") refl a.color)
     (color (codes "mathbackground") refl a.background))))))))))))))

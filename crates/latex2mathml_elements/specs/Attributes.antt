@@ -1,5 +1,5 @@
 -- The attributes of an element. Each has a field of its own, so none occurs twice.
-use Rattle.std.specs.Prelude.{ℤ, pos, Bool, false, Option, Some, None}
+use Rattle.std.specs.Prelude.{ℕ, ℤ, pos, Bool, false, Option, Some, None}
 use Rattle.latex2mathml_elements.specs.Colors.{Color}
 
 -- the side of its base on which a mark is
@@ -63,6 +63,8 @@ pub data Boxing : Type 0 where
   NullDelimiters : Boxing
   -- a table in which the lines of all cells of a row are one line
   JoinedLines : Boxing
+  -- it is at most this wide, in thousandths of an em
+  AtMost : ℕ → Boxing
 
 -- the attributes of an element; one that is `None` or false is not written
 pub record Attributes : Type 0 where

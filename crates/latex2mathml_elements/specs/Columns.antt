@@ -7,8 +7,8 @@ pub data Alignment : Type 0 where
   Centered : Alignment
   LeftAligned : Alignment
   RightAligned : Alignment
-  -- aligned left, without space between it and the column before it, with which it is a pair
-  SecondOfPair : Alignment
+  -- aligned left, where cells continue something ordinary, such as the other cell of a pair, or the line before them
+  Continued : Alignment
 
 -- where space is left at the sides of a column
 pub data Spacing : Type 0 where
@@ -67,14 +67,14 @@ between (suc k) = SpaceBefore
 abbrev pub column_at : Columns → ℕ → Column
 column_at (Alike density alignment) k = spaced density (between k) alignment
 column_at InPairs zero = spaced Opened Unspaced RightAligned
-column_at InPairs (suc zero) = spaced Opened Unspaced SecondOfPair
+column_at InPairs (suc zero) = spaced Opened Unspaced Continued
 column_at InPairs (suc (suc zero)) = spaced Opened SpaceBefore RightAligned
 column_at InPairs (suc (suc (suc k))) = column_at InPairs (suc k)
 column_at AroundRelation zero = spaced Opened SpaceAround RightAligned
 column_at AroundRelation (suc zero) = spaced Opened SpaceAround Centered
 column_at AroundRelation (suc (suc zero)) = spaced Opened SpaceAround LeftAligned
 column_at AroundRelation (suc (suc (suc k))) = spaced Opened SpaceAround Centered
-column_at Broken k = spaced Opened (between k) LeftAligned
+column_at Broken k = spaced Opened (between k) Continued
 column_at BrokenAfterFirst k = spaced Opened (between k) Centered
 column_at (Listed line []) k = unlined Centered
 column_at (Listed line (column ∷ columns)) zero = record column { before = line }

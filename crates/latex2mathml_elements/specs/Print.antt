@@ -1,12 +1,12 @@
 -- How elements are written.
 use Rattle.std.specs.Prelude.{ℕ, Bool, true, false, ◌||◌, List, [], ◌++◌, Option, Some, None, codes}
-use Rattle.latex2mathml_elements.specs.Attributes.{Attributes, Side, Above, Below, Form, Prefix, Infix, Postfix, Stretch, Stretching, Rigid, Space, NoSpace, Narrow, Thick, NoSpaceBefore, ThickAfter, Size, Big, Bigger, VeryBig, Biggest, MathStyle, DisplayStyle, TextStyle, ScriptStyle, Boxing, NoWidth, Flat, NoHeight, NoDepth, ByItsWidth, ByHalfItsWidth, Framed, StruckUp, StruckDown, StruckTwice, NullDelimiters, JoinedLines}
-use Rattle.latex2mathml_elements.specs.Columns.{Alignment, LeftAligned, RightAligned, SecondOfPair, Density, Dense, Opened, Spacing, Unspaced, SpaceBefore, SpaceAround, Column}
+use Rattle.latex2mathml_elements.specs.Attributes.{Attributes, Side, Above, Below, Form, Prefix, Infix, Postfix, Stretch, Stretching, Rigid, Space, NoSpace, Narrow, Thick, NoSpaceBefore, ThickAfter, Size, Big, Bigger, VeryBig, Biggest, MathStyle, DisplayStyle, TextStyle, ScriptStyle, Boxing, NoWidth, Flat, NoHeight, NoDepth, ByItsWidth, ByHalfItsWidth, Framed, StruckUp, StruckDown, StruckTwice, NullDelimiters, JoinedLines, AtMost}
+use Rattle.latex2mathml_elements.specs.Columns.{Alignment, LeftAligned, RightAligned, Continued, Density, Dense, Opened, Spacing, Unspaced, SpaceBefore, SpaceAround, Column}
 use Rattle.latex2mathml_elements.specs.Element.{Token, Mi, Mn, Mo, Mtext, Container, Mrow, Msqrt, Mstyle, Mpadded, Mphantom, Pair, Mfrac, Mroot, Msub, Msup, Munder, Mover, Triple, Msubsup, Munderover, Element, Elements, Rows, Cells, token, space, rectangle, container, pair, triple, table, none, more, one_row, more_rows, one_cell, more_cells}
 use Rattle.latex2mathml_elements.specs.Lines.{Line, NoLine, OneLine, TwoLines, Dashes, RowLines, is_lined}
 use Rattle.latex2mathml_elements.specs.{Colors.color_text, Extents.extent_text, Extents.length_if_any}
 use Rattle.latex2mathml_tokens.specs.Escape.{content}
-use Rattle.latex2mathml_trees.specs.Width.{width_text}
+use Rattle.latex2mathml_trees.specs.Width.{thousandths_text, width_text}
 
 -- The names of elements
 
@@ -98,7 +98,7 @@ abbrev pub line_down : List ℕ
 line_down = codes "linear-gradient(to top right, transparent calc(50% - 0.04em), currentcolor, transparent calc(50% + 0.04em))"
 
 -- What MathML Core has no attribute for is written in the language of style sheets. A null delimiter is 0.12 em wide, and browsers
--- leave a pixel of that at the sides of a fraction themselves.
+-- leave a pixel of that at the sides of a fraction themselves. What is wider than its box is in the middle of it.
 abbrev pub boxing_text : Option Boxing → List ℕ
 boxing_text None = []
 boxing_text (Some NoWidth) = codes " width=\"0\""
@@ -113,6 +113,7 @@ boxing_text (Some StruckDown) = codes " style=\"background: " ++ (line_down ++ c
 boxing_text (Some StruckTwice) = codes " style=\"background: " ++ (line_up ++ (codes ", " ++ (line_down ++ codes "\"")))
 boxing_text (Some NullDelimiters) = codes " style=\"padding: 0 calc(0.12em - 1px)\""
 boxing_text (Some JoinedLines) = codes " style=\"border-collapse: collapse\""
+boxing_text (Some (AtMost width)) = codes " style=\"max-width: " ++ (thousandths_text width ++ codes "em\"")
 
 -- all attributes, each with a space before it
 abbrev pub attributes_text : Attributes → List ℕ
@@ -136,14 +137,14 @@ attributes_text a =
 -- the alignment of a column is written twice: some browsers read this attribute, others the style
 abbrev pub alignment_text : Alignment → List ℕ
 alignment_text LeftAligned = codes " columnalign=\"left\""
-alignment_text SecondOfPair = codes " columnalign=\"left\""
+alignment_text Continued = codes " columnalign=\"left\""
 alignment_text RightAligned = codes " columnalign=\"right\""
 alignment_text alignment = []
 
 -- how cells are aligned, in the language of style sheets
 abbrev pub alignment_style : Alignment → List ℕ
 alignment_style LeftAligned = codes "text-align: left; "
-alignment_style SecondOfPair = codes "text-align: left; "
+alignment_style Continued = codes "text-align: left; "
 alignment_style RightAligned = codes "text-align: right; text-align: -webkit-right; "
 alignment_style alignment = []
 

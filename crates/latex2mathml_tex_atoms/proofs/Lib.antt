@@ -1,4 +1,5 @@
 pub mod Boxing
 pub mod Outlined
+pub mod Rooms
 pub mod Shaping
 pub mod Wording

@@ -6,7 +6,7 @@ ghost use Rattle.latex2mathml_tex_grammar.specs.Makes;
 ghost use Rattle.latex2mathml_tex_commands.specs.{Delimiters.delimiter_text, Meanings.fraction_rule_of, Meanings.style_of};
 ghost use Rattle.latex2mathml_tex_atoms.specs.{Models.top, Shapes.ReplacesTop};
 
-use crate::shapes::enclose;
+use crate::delimiters::enclose;
 use latex2mathml_attributes::around::{Around, Boxing};
 use latex2mathml_attributes::attributes::Attributes;
 use latex2mathml_attributes::tag::{Container, Pair};

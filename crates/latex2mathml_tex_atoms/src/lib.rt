@@ -6,9 +6,11 @@
 
 pub mod atoms;
 pub mod boxes;
+pub mod delimiters;
 pub mod fractions;
 pub mod outlines;
 pub mod rests;
 pub mod shapes;
 pub mod signs;
+pub mod widths;
 pub mod words;

@@ -6,8 +6,8 @@ ghost use Rattle.latex2mathml_tex_grammar.specs.Rules;
 ghost use Rattle.latex2mathml_tex_commands.specs.{Delimiters.delimiter_text, Meanings.style_of};
 ghost use Rattle.latex2mathml_tex_atoms.specs.{Models.top, Outlines.outline_of};
 
+use crate::delimiters::enclose;
 use crate::fractions::{put_in_style, put_null_delimiters, put_without_bar};
-use crate::shapes::enclose;
 use latex2mathml_attributes::attributes::Attributes;
 use latex2mathml_attributes::tag::Pair;
 use latex2mathml_builder::builder::Builder;

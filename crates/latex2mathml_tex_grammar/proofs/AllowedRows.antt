@@ -14,7 +14,7 @@ use Rattle.latex2mathml_tex_grammar.specs.Tables.{Lines, a_row, with_last, rows_
 use Rattle.latex2mathml_tex_grammar.specs.Refusal.{Refusal}
 use Rattle.latex2mathml_tex_grammar.specs.Units.{Unit, Units, Next, End, Stop}
 use Rattle.latex2mathml_tex_grammar.proofs.Allowed.{AreAllowedElements, AreAllowedUnits, AreAllowedLines, IsAllowedCore, IsAllowedRule}
-use Rattle.latex2mathml_tex_grammar.proofs.AllowedMakes.{fenced_allowed, row_children_allowed, row_element_allowed}
+use Rattle.latex2mathml_tex_grammar.proofs.AllowedMakes.{row_children_allowed, row_element_allowed}
 use Rattle.latex2mathml_tex_grammar.proofs.AllowedTables.{Passes as PassesTest, allowed_text, is_allowed_text}
 use Rattle.latex2mathml_tex_grammar.proofs.Choices.{of_either}
 
@@ -69,7 +69,7 @@ AreAllowedDelimiters (Some delimiters) = IsAllowed delimiters.0 × IsAllowed del
 
 between_any_allowed : (delimiters : Option (List ℕ × List ℕ)) (x : Element) → AreAllowedDelimiters delimiters → HasAllowedTexts x → HasAllowedTexts (between_any delimiters x)
 between_any_allowed None x h k = k
-between_any_allowed (Some delimiters) x h k = fenced_allowed true delimiters.0 delimiters.1 x h.0 h.1 k
+between_any_allowed (Some delimiters) x h k = (h.0, (k, (h.1, tt)))
 
 pub a_table_allowed : (delimiters : Option (List ℕ × List ℕ)) (columns : Columns) (style around : Style) (lines : Lines) → AreAllowedDelimiters delimiters → AreAllowedLines lines → IsAllowedCore (a_table delimiters columns style around lines)
 a_table_allowed delimiters columns style around lines h k = between_any_allowed delimiters _ h (rows_onto_allowed columns lines.others lines.last [] k.1 k.0 tt)

@@ -43,4 +43,5 @@ pub mod Tables
 pub mod TextCommands
 pub mod Units
 pub mod UsualMacros
+pub mod Widths
 pub mod Words

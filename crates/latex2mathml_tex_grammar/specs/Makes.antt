@@ -1,13 +1,14 @@
 -- The atoms of each construct.
 use Rattle.std.specs.Prelude.{ℕ, zero, suc, ◌==◌, ◌||◌, ℤ, pos, Bool, true, false, List, [], ◌∷◌, ◌++◌, map, Option, Some, None, codes, if◌then◌else◌}
 use Rattle.std.specs.{Char.encode_utf8, Option.is_some, Str.encode_utf8_all}
-use Rattle.latex2mathml_elements.specs.Attributes.{Attributes, Side, Above, Below, Form, Prefix, Postfix, Stretch, Stretching, Rigid, Space, NoSpace, Narrow, Thick, Size, Boxing, NoWidth, Flat, NoHeight, NoDepth, ByItsWidth, ByHalfItsWidth, Framed, StruckUp, StruckDown, StruckTwice, NullDelimiters, boxed, MathStyle, DisplayStyle, TextStyle, ScriptStyle, plain}
+use Rattle.latex2mathml_elements.specs.Attributes.{Attributes, Side, Above, Below, Form, Prefix, Postfix, Stretch, Stretching, Rigid, Space, NoSpace, Narrow, Thick, Size, Bigger, Boxing, NoWidth, Flat, NoHeight, NoDepth, ByItsWidth, ByHalfItsWidth, Framed, StruckUp, StruckDown, StruckTwice, NullDelimiters, boxed, MathStyle, DisplayStyle, TextStyle, ScriptStyle, plain}
 use Rattle.latex2mathml_elements.specs.Element.{Mi, Mn, Mo, Mrow, Msqrt, Mstyle, Mpadded, Mphantom, Mfrac, Mroot, Msub, Msup, Munder, Mover, Msubsup, Munderover, Element, token, space, rectangle, container, pair, triple, children}
 use Rattle.latex2mathml_elements.specs.Extents.{wide}
 use Rattle.latex2mathml_tex_grammar.specs.{Alphabets.in_alphabet, Rows.Row, Rows.Operand, Rows.lone, Rows.row_element}
 use Rattle.latex2mathml_elements.specs.{Extents.wide, Groups.grouped}
 use Rattle.latex2mathml_tex_grammar.specs.Atoms.{Atom, Kind, SignOf, PlusOrMinus, Plain, UprightLetters, FunctionWord, Blank, Divider, After, Before, Nothing, atom, element_there}
 use Rattle.latex2mathml_tex_grammar.specs.Meaning.{FractionRule, Bar, NoBar, Braced, Bracketed, Bare, LimitPlace, Beside, ByStyle, Movable, Stacked, Box, Phantom, PhantomWidth, PhantomHeight, Smashed, WithoutHeight, WithoutDepth, OverRight, OverLeft, OverBoth, Frame, StrikeUp, StrikeDown, StrikeTwice, Raised, Colored, OnColor}
+use Rattle.latex2mathml_tex_grammar.specs.Widths.{room, room_if}
 use Rattle.latex2mathml_tex_grammar.specs.Symbols.{Class, Ordinary, Operator, Binary, Relation, Opening, Closing, Punctuation, Inner, Style, InDisplay, InText, InScript, Alphabet, Upright, Symbol, Letter, UprightLetter, Sign, BigOperator, Integral}
 
 -- an atom, and where its limits are
@@ -295,7 +296,7 @@ space_if_none sign_text = None
 -- a delimiter by `\left` or `\right`, or none, stretched if what is between is high
 abbrev pub delimiter : Bool → Form → List ℕ → Element
 delimiter high form sign_text =
-    token Mo (record plain { form = Some form; stretch = Some (stretch_if high); space = space_if_none sign_text }) sign_text
+    token Mo (record plain { form = Some form; stretch = Some (stretch_if high); space = space_if_none sign_text; boxing = room_if high sign_text }) sign_text
 
 -- an element between delimiters, which stretch around what is higher than a letter
 abbrev pub fenced : Bool → List ℕ → List ℕ → Element → Element
@@ -356,11 +357,12 @@ root degree x = core (atom (Plain Ordinary) true (pair Mroot plain x degree))
 
 -- a delimiter within others
 abbrev pub divider : List ℕ → Atom
-divider sign_text = atom Divider false (token Mo (record plain { stretch = Some Stretching; fence = true; space = Some Narrow }) sign_text)
+divider sign_text =
+    atom Divider false (token Mo (record plain { stretch = Some Stretching; fence = true; space = Some Narrow; boxing = room Bigger sign_text }) sign_text)
 
 -- it does not stretch where nothing in its row is high
 abbrev pub lowered_divider : Element → Element
-lowered_divider (token t a sign_text) = token t (if a.fence then record a { stretch = Some Rigid } else a) sign_text
+lowered_divider (token t a sign_text) = token t (if a.fence then record a { stretch = Some Rigid; boxing = None } else a) sign_text
 lowered_divider x = x
 
 -- dividers stay stretched if what is between is high, and are not stretched otherwise
@@ -388,7 +390,7 @@ sized_space style class = NoSpace
 -- a delimiter of this size and class
 abbrev pub sized : Style → Size → Class → List ℕ → Core
 sized style size class sign_text =
-    core (atom (Plain class) true (token Mo (record plain { form = form_of class; stretch = Some Stretching; size = Some size; space = Some (sized_space style class) }) sign_text))
+    core (atom (Plain class) true (token Mo (record plain { form = form_of class; stretch = Some Stretching; size = Some size; space = Some (sized_space style class); boxing = room size sign_text }) sign_text))
 
 -- Scripts
 

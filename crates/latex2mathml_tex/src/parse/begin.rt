@@ -16,7 +16,7 @@ use crate::parse::{Parser, State};
 use latex2mathml_attributes::attributes::{Attributes, Size};
 use latex2mathml_attributes::tag::Token;
 use latex2mathml_tex_atoms::atoms::{Context, Core, Kind, Row, Words};
-use latex2mathml_tex_atoms::shapes::put_sized;
+use latex2mathml_tex_atoms::delimiters::put_sized;
 use latex2mathml_tex_commands::commands;
 use latex2mathml_tex_commands::meaning::{Alphabet, Class, LimitPlace, Meaning, Style};
 use latex2mathml_tex_units::dots::{CENTERED_DOTS, LOW_DOTS};

@@ -224,7 +224,7 @@ impl Table {
             ≡ before_cell (column_at (columns_of self.columns) self.cells).alignment }
     {
         let before = match self.columns.column_at(self.cells).alignment() {
-            Alignment::SecondOfPair => Before::After(Class::Ordinary),
+            Alignment::Continued => Before::After(Class::Ordinary),
             _ => Before::After(Class::Opening),
         };
         Row {

@@ -16,10 +16,9 @@ use crate::parse::{Parser, State};
 use latex2mathml_attributes::attributes::Attributes;
 use latex2mathml_attributes::tag::Container;
 use latex2mathml_tex_atoms::atoms::{Context, Core, Kind, Operand, Row, Scripts, Words};
+use latex2mathml_tex_atoms::delimiters::{enclose, lower_dividers, put_divider};
 use latex2mathml_tex_atoms::rests::{divide, finish, recolor, restyle};
-use latex2mathml_tex_atoms::shapes::{
-    enclose, isolate, lower_dividers, put_braced, put_divider, put_row, with_atom,
-};
+use latex2mathml_tex_atoms::shapes::{isolate, put_braced, put_row, with_atom};
 use latex2mathml_tex_commands::commands;
 use latex2mathml_tex_commands::meaning::{Change, Class, LimitPlace, Meaning, Style};
 use latex2mathml_tex_commands::signs::symbol_of;

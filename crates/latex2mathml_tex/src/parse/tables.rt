@@ -25,7 +25,8 @@ use latex2mathml_attributes::tag::Container;
 use latex2mathml_builder::builder::Builder;
 use latex2mathml_tex_atoms::atoms::{Context, Core, Kind, Row};
 use latex2mathml_tex_atoms::boxes::put_strut;
-use latex2mathml_tex_atoms::shapes::{enclose, put_braced};
+use latex2mathml_tex_atoms::delimiters::enclose_table;
+use latex2mathml_tex_atoms::shapes::put_braced;
 use latex2mathml_tex_commands::meaning::{Class, Style};
 use latex2mathml_tex_units::environments::Environment;
 use latex2mathml_tex_units::error::TexErrorKind;
@@ -313,7 +314,7 @@ fn put_table(
 {
     builder.table(style, columns, rows)?;
     if let Some((opening, closing)) = delimiters {
-        return enclose(builder, true, opening, closing);
+        return enclose_table(builder, opening, closing);
     }
     Ok(())
 }

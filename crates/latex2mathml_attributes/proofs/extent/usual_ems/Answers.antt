@@ -20,9 +20,25 @@ pub returns-in-432 : goal.returns-in-432
 unfolding digits
 returns-in-432 c = (let is : c.args.length ≡ pos 432 = omega (arith, ints, c.in-432, c.ranges.length.sfits) in ap ems (sym is))
 
+pub returns-in-472 : goal.returns-in-472
+unfolding digits
+returns-in-472 c = (let is : c.args.length ≡ pos 472 = omega (arith, ints, c.in-472, c.ranges.length.sfits) in ap ems (sym is))
+
+pub returns-in-597 : goal.returns-in-597
+unfolding digits
+returns-in-597 c = (let is : c.args.length ≡ pos 597 = omega (arith, ints, c.in-597, c.ranges.length.sfits) in ap ems (sym is))
+
 pub returns-in-600 : goal.returns-in-600
 unfolding digits
 returns-in-600 c = (let is : c.args.length ≡ pos 600 = omega (arith, ints, c.in-600, c.ranges.length.sfits) in ap ems (sym is))
+
+pub returns-in-611 : goal.returns-in-611
+unfolding digits
+returns-in-611 c = (let is : c.args.length ≡ pos 611 = omega (arith, ints, c.in-611, c.ranges.length.sfits) in ap ems (sym is))
+
+pub returns-in-667 : goal.returns-in-667
+unfolding digits
+returns-in-667 c = (let is : c.args.length ≡ pos 667 = omega (arith, ints, c.in-667, c.ranges.length.sfits) in ap ems (sym is))
 
 pub returns-in-840 : goal.returns-in-840
 unfolding digits

@@ -1,13 +1,7 @@
-use mir.Val.{SFits}
-use Rattle.std.proofs.Common.{◌≡◌, ◌∙◌, ◌++◌, ℤ, ap, append-nil, arith, codes, of_z, refl, rules, string_bytes, sym, to_z, w32}
-use Rattle.std.proofs.lemmas.Int.{ints}
+use Rattle.std.proofs.Common.{◌∙◌, ◌++◌, ap, append-nil, codes, refl, rules, string_bytes, sym}
 use Rattle.latex2mathml_elements.specs.Extents.{black_text, length_if_any, length_text}
-use Rattle.latex2mathml_attributes.proofs.Appended.{then}
+use Rattle.latex2mathml_attributes.proofs.{Appended.then, Lengths.kept}
 use Rattle.latex2mathml_attributes.proofs.extent.Extent.append.Goals as goal
-
--- a length stays the same when it is passed on
-kept : (n : ℤ) → SFits w32 n → to_z w32 (of_z w32 n) ≡ n
-kept n fits = omega (arith, ints, fits)
 
 pub returns-in_ok-push_str : goal.returns-in_ok-push_str
 returns-in_ok-push_str c =

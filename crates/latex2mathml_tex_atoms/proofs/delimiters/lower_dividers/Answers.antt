@@ -3,7 +3,7 @@ use Rattle.latex2mathml_builder.specs.Built.{elements_in}
 use Rattle.latex2mathml_tex_grammar.specs.Makes
 use Rattle.latex2mathml_tex_atoms.specs.Shapes.{changed_at, mapped_first}
 use Rattle.latex2mathml_tex_atoms.proofs.Shaping.{mapped_more, mapped_none}
-use Rattle.latex2mathml_tex_atoms.proofs.shapes.lower_dividers.Goals as goal
+use Rattle.latex2mathml_tex_atoms.proofs.delimiters.lower_dividers.Goals as goal
 
 pub elements-init : goal.elements-init
 elements-init c = mapped_none Makes.lowered_divider (elements_in c.args.builder.now)

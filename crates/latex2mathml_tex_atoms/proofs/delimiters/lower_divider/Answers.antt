@@ -3,8 +3,8 @@ use Rattle.latex2mathml_builder.specs.{Built.elements_in, Stacks.token_at}
 use Rattle.latex2mathml_attributes.specs.Names.{attributes_of, token_of}
 use Rattle.latex2mathml_tex_grammar.specs.Makes
 use Rattle.latex2mathml_tex_atoms.proofs.Shaping.{given_changed, no_divider, no_fence, unchanged_at}
-use Rattle.latex2mathml_tex_atoms.proofs.shapes.lower_divider.Goals as goal
-use Rattle.latex2mathml_tex_atoms.proofs.shapes.lower_divider.Goals.{in_default-via-in-None-1, in_default-via-in-Some+else-attributes}
+use Rattle.latex2mathml_tex_atoms.proofs.delimiters.lower_divider.Goals as goal
+use Rattle.latex2mathml_tex_atoms.proofs.delimiters.lower_divider.Goals.{in_default-via-in-None-1, in_default-via-in-Some+else-attributes}
 
 pub returns-then-attributes : goal.returns-then-attributes
 returns-then-attributes c =
