@@ -18,12 +18,17 @@ SUMS = {r"\sum", r"\int_c"}
 KEEPING = {SIZED}
 # atoms of each class of TeX
 ATOMS = {"ordinary": ["c", "2", r"\frac cd", r"\sqrt c", "{=}", "{,}", "|"], "operator": [r"\sin", r"\mathop{c}", r"\lim_c", *SUMS],
-         "binary": ["+", "-"], "relation": ["=", r"\to", ":", SIZED], "opening": ["(", r"\bigl("], "closing": [")", r"\rangle"],
-         "punctuation": [",", ";"], "inner": [r"\ldots", r"\left(c\right)", r"\begin{pmatrix}c\end{pmatrix}"]}
+         "binary": ["+", "-", r"\mathbin/"], "relation": ["=", r"\to", ":", r"\mathrel|", SIZED], "opening": ["(", r"\bigl("],
+         "closing": [")", r"\rangle"], "punctuation": [",", ";", r"\mathpunct:"],
+         "inner": [r"\ldots", r"\left(c\right)", r"\left]c\right[", r"\begin{pmatrix}c\end{pmatrix}"]}
 # the ems of the spaces that the table names
 EMS = {"0": 0, "1": 3 / 18, "2": 4 / 18, "3": 5 / 18}
 # Rounding to thousandths of an em, to a pixel at each side of a fraction, and to 64ths of a pixel: less than a third of a thin space.
 NEARLY = 0.05
+
+# Signs of which a browser should see that they are binary, or relations, and the ems that TeX leaves at both sides
+SIGNS = {r"c\underset{c}{-}c": [4 / 18, 4 / 18], r"c\overset{c}{+}c": [4 / 18, 4 / 18], r"c\mathbin{-}c": [4 / 18, 4 / 18],
+         r"c\mathrel{+}=c": [5 / 18, 5 / 18], r"c\mathrel{\mathop:}=c": [5 / 18, 5 / 18]}
 
 # Formulas with fractions, and the ems that TeX leaves between the lines of fractions and what is next to them
 FRACTIONS = {r"\frac cd\frac cd": [0.24], r"c\frac cd c": [0.12, 0.12], r"c\tfrac cd": [0.12], r"{c\atop d}c": [0.12],
@@ -57,7 +62,8 @@ BROKEN = {r"\begin{multline}c\\c\\ccccc\\c\end{multline}": [0, 1 / 2, 1], r"\beg
 DELIMITERS = {r"\big(": (0.458, 0.458), r"\Big)": (0.597, 0.597), r"\bigg[": (0.528, 0.528), r"\Bigg]": (0.583, 0.583),
               r"\bigl\{": (0.583, 0.583), r"\Bigr\rangle": (0.611, 0.611), r"\big/": (0.578, 0.578), r"\bigm\backslash": (0.578, 0.578),
               r"\Bigl\lfloor": (0.528, 0.528), r"\left(c^2\right)": (0.458, 0.736), r"\left[\frac cd\right]": (0.417, 0.528),
-              r"\left.\frac cd\middle/c\right.": (0.578, 1.044), r"\binom cd": (0.458, 0.736)}
+              r"\left.\frac cd\middle/c\right.": (0.578, 1.044), r"\binom cd": (0.458, 0.736),
+              r"\left]\frac cd\right[": (0.417, 0.528), r"\begin{pmatrix}c&c\end{pmatrix}": (0.458, 0.736)}
 
 PAGE = """<!DOCTYPE html><meta charset="utf-8"><style>math { font-size: 100px }</style>%s<script>
 const gapsBetween = (boxes, em) => boxes.slice(1).map((box, place) => (box.left - boxes[place].right) / em);
@@ -166,6 +172,12 @@ class Gaps(Spaces):
             with self.subTest(formula):
                 alike = all(math.isclose(gap, em, abs_tol=NEARLY) for gap, em in zip(gaps, ems, strict=True))
                 self.assertTrue(alike, msg=f"found {gaps}, TeX {ems}")
+
+
+class Signs(Gaps):
+    @requires("chromium")
+    def test_in_chromium(self):
+        self.compare(chromium, SIGNS, OF_ATOMS)
 
 
 class Fractions(Gaps):

@@ -11,8 +11,8 @@ use Rattle.latex2mathml_attributes.specs.declared.columns.Column.{Column}
 use Rattle.latex2mathml_attributes.specs.declared.columns.Columns.{Columns}
 use Rattle.latex2mathml_attributes.specs.declared.columns.Density.{Density}
 use Rattle.latex2mathml_attributes.specs.declared.columns.Density.TheVariants as density
-use Rattle.latex2mathml_attributes.specs.declared.columns.ListedColumn.{ListedColumn}
-use Rattle.latex2mathml_attributes.specs.declared.columns.ListedColumn.TheVariants as listed
+use Rattle.latex2mathml_attributes.specs.declared.listed.ListedColumn.{ListedColumn}
+use Rattle.latex2mathml_attributes.specs.declared.listed.ListedColumn.TheVariants as listed
 use Rattle.latex2mathml_attributes.specs.declared.columns.Kind.{Kind}
 use Rattle.latex2mathml_attributes.specs.declared.columns.Kind.TheVariants as kind
 use Rattle.latex2mathml_attributes.specs.declared.columns.Spacing.{Spacing}

@@ -47,8 +47,10 @@ size_of size.Biggest = attributes.Biggest
 abbrev pub space_of : Space → attributes.Space
 space_of space.NoSpace = attributes.NoSpace
 space_of space.Narrow = attributes.Narrow
+space_of space.Medium = attributes.Medium
 space_of space.Thick = attributes.Thick
 space_of space.NoSpaceBefore = attributes.NoSpaceBefore
+space_of space.ThinAfter = attributes.ThinAfter
 space_of space.ThickAfter = attributes.ThickAfter
 
 abbrev pub stretch_of : Stretch → attributes.Stretch

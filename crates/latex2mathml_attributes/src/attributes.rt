@@ -35,10 +35,14 @@ pub enum Space {
     NoSpace,
     /// A twentieth of an em on both sides.
     Narrow,
+    /// TeX's medium space on both sides: four eighteenths of an em.
+    Medium,
     /// TeX's thick space on both sides: five eighteenths of an em.
     Thick,
     /// No space before it. The browser decides what follows it.
     NoSpaceBefore,
+    /// No space before it, and a thin space after it: three eighteenths of an em.
+    ThinAfter,
     /// No space before it, and a thick space after it.
     ThickAfter,
 }
@@ -302,8 +306,10 @@ fn space_text(space: Option<Space>) -> &'static str
         None => "",
         Some(Space::NoSpace) => " lspace=\"0\" rspace=\"0\"",
         Some(Space::Narrow) => " lspace=\"0.05em\" rspace=\"0.05em\"",
+        Some(Space::Medium) => " lspace=\"0.222em\" rspace=\"0.222em\"",
         Some(Space::Thick) => " lspace=\"0.278em\" rspace=\"0.278em\"",
         Some(Space::NoSpaceBefore) => " lspace=\"0\"",
+        Some(Space::ThinAfter) => " lspace=\"0\" rspace=\"0.167em\"",
         Some(Space::ThickAfter) => " lspace=\"0\" rspace=\"0.278em\"",
     }
 }

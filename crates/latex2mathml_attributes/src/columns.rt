@@ -9,6 +9,7 @@ ghost use Rattle.latex2mathml_attributes.specs.Lines.{line_of};
 
 use crate::extent::Extent;
 use crate::line::Line;
+use crate::listed::ListedColumn;
 use std::alloc::AllocError;
 
 /// How many columns can be listed.
@@ -45,23 +46,6 @@ pub enum Spacing {
     Around,
 }
 
-/// How the cells of a listed column are aligned, and what is drawn after it.
-#[derive(Debug, Clone, Copy)]
-pub enum ListedColumn {
-    Centered,
-    CenteredBeforeLine,
-    CenteredBeforeTwoLines,
-    CenteredBeforeDashes,
-    LeftAligned,
-    LeftAlignedBeforeLine,
-    LeftAlignedBeforeTwoLines,
-    LeftAlignedBeforeDashes,
-    RightAligned,
-    RightAlignedBeforeLine,
-    RightAlignedBeforeTwoLines,
-    RightAlignedBeforeDashes,
-}
-
 /// A column of a table.
 #[derive(Debug, Clone, Copy)]
 pub struct Column {
@@ -92,102 +76,6 @@ enum Kind {
     Broken,
     BrokenAfterFirst,
     Listed,
-}
-
-impl ListedColumn {
-    /// Returns its number.
-    fn number(self) -> u8
-        ensures column { numbered result ≡ listed_of self }
-        ensures half { result < 16 }
-    {
-        match self {
-            ListedColumn::Centered => 0,
-            ListedColumn::CenteredBeforeLine => 1,
-            ListedColumn::CenteredBeforeTwoLines => 2,
-            ListedColumn::CenteredBeforeDashes => 3,
-            ListedColumn::LeftAligned => 4,
-            ListedColumn::LeftAlignedBeforeLine => 5,
-            ListedColumn::LeftAlignedBeforeTwoLines => 6,
-            ListedColumn::LeftAlignedBeforeDashes => 7,
-            ListedColumn::RightAligned => 8,
-            ListedColumn::RightAlignedBeforeLine => 9,
-            ListedColumn::RightAlignedBeforeTwoLines => 10,
-            ListedColumn::RightAlignedBeforeDashes => 11,
-        }
-    }
-
-    /// Returns the column of this number.
-    fn numbered(number: u8) -> ListedColumn
-        ensures { listed_of result ≡ numbered number }
-    {
-        match number {
-            1 => ListedColumn::CenteredBeforeLine,
-            2 => ListedColumn::CenteredBeforeTwoLines,
-            3 => ListedColumn::CenteredBeforeDashes,
-            4 => ListedColumn::LeftAligned,
-            5 => ListedColumn::LeftAlignedBeforeLine,
-            6 => ListedColumn::LeftAlignedBeforeTwoLines,
-            7 => ListedColumn::LeftAlignedBeforeDashes,
-            8 => ListedColumn::RightAligned,
-            9 => ListedColumn::RightAlignedBeforeLine,
-            10 => ListedColumn::RightAlignedBeforeTwoLines,
-            11 => ListedColumn::RightAlignedBeforeDashes,
-            _ => ListedColumn::Centered,
-        }
-    }
-
-    /// Returns what is drawn after the column.
-    fn line(self) -> Line
-        ensures { line_of result ≡ (listed_of self).after }
-    {
-        match self {
-            ListedColumn::Centered | ListedColumn::LeftAligned | ListedColumn::RightAligned => {
-                Line::Nothing
-            }
-            ListedColumn::CenteredBeforeLine
-            | ListedColumn::LeftAlignedBeforeLine
-            | ListedColumn::RightAlignedBeforeLine => Line::One,
-            ListedColumn::CenteredBeforeTwoLines
-            | ListedColumn::LeftAlignedBeforeTwoLines
-            | ListedColumn::RightAlignedBeforeTwoLines => Line::Two,
-            ListedColumn::CenteredBeforeDashes
-            | ListedColumn::LeftAlignedBeforeDashes
-            | ListedColumn::RightAlignedBeforeDashes => Line::Dashes,
-        }
-    }
-
-    /// Returns how its cells are aligned.
-    fn alignment(self) -> Alignment
-        ensures { alignment_of result ≡ (listed_of self).alignment }
-    {
-        match self {
-            ListedColumn::Centered
-            | ListedColumn::CenteredBeforeLine
-            | ListedColumn::CenteredBeforeTwoLines
-            | ListedColumn::CenteredBeforeDashes => Alignment::Centered,
-            ListedColumn::LeftAligned
-            | ListedColumn::LeftAlignedBeforeLine
-            | ListedColumn::LeftAlignedBeforeTwoLines
-            | ListedColumn::LeftAlignedBeforeDashes => Alignment::LeftAligned,
-            ListedColumn::RightAligned
-            | ListedColumn::RightAlignedBeforeLine
-            | ListedColumn::RightAlignedBeforeTwoLines
-            | ListedColumn::RightAlignedBeforeDashes => Alignment::RightAligned,
-        }
-    }
-
-    /// Returns the column with this line before it.
-    fn behind(self, line: Line) -> Column
-        ensures { column_of result ≡ behind_line (line_of line) (listed_of self) }
-    {
-        Column {
-            density: Density::Usual,
-            alignment: self.alignment(),
-            spacing: Spacing::Around,
-            before: line,
-            after: self.line(),
-        }
-    }
 }
 
 impl Alignment {
@@ -271,6 +159,19 @@ impl Column {
             spacing,
             before: Line::Nothing,
             after: Line::Nothing,
+        }
+    }
+
+    /// Returns a listed column with this line before it.
+    fn listed(column: ListedColumn, before: Line) -> Column
+        ensures { column_of result ≡ behind_line (line_of before) (listed_of column) }
+    {
+        Column {
+            density: Density::Usual,
+            alignment: column.alignment(),
+            spacing: Spacing::Around,
+            before,
+            after: column.line(),
         }
     }
 
@@ -404,9 +305,9 @@ impl Columns {
                 Column::spaced(Density::Opened, spacing_between(place), Alignment::Centered)
             }
             Kind::Listed if place < MOST_COLUMNS && place < self.len as usize => {
-                self.listed_at(place).behind(self.line_before(place))
+                Column::listed(self.listed_at(place), self.line_before(place))
             }
-            Kind::Listed => ListedColumn::Centered.behind(Line::Nothing),
+            Kind::Listed => Column::listed(ListedColumn::Centered, Line::Nothing),
         }
     }
 

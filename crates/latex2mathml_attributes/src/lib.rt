@@ -8,4 +8,5 @@ pub mod attributes;
 pub mod columns;
 pub mod extent;
 pub mod line;
+pub mod listed;
 pub mod tag;

@@ -23,10 +23,14 @@ pub data Space : Type 0 where
   NoSpace : Space
   -- a twentieth of an em on both sides
   Narrow : Space
+  -- TeX's medium space on both sides, four eighteenths of an em
+  Medium : Space
   -- TeX's thick space on both sides, five eighteenths of an em
   Thick : Space
   -- no space before it; the browser decides what follows it
   NoSpaceBefore : Space
+  -- no space before it, and a thin space after it, three eighteenths of an em
+  ThinAfter : Space
   -- no space before it, and a thick space after it
   ThickAfter : Space
 

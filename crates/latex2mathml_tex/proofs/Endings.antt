@@ -4,7 +4,8 @@ use Rattle.std.proofs.lemmas.List.{length-drop}
 use Rattle.latex2mathml_elements.specs.Element.{Element}
 use Rattle.latex2mathml_builder.specs.Built.{Built, elements_in}
 use Rattle.latex2mathml_tex_grammar.specs.{Atoms.Plain, Atoms.atom, Delimiters.delimiter_of, Next.next_are, Next.past_space, Next.refusal_here, Symbols.Inner}
-use Rattle.latex2mathml_tex_grammar.specs.Makes.{between_delimiters, core, fenced, lowered, lowered_divider}
+use Rattle.latex2mathml_tex_grammar.specs.Fences.{Height, fenced, height_if}
+use Rattle.latex2mathml_tex_grammar.specs.Makes.{between_delimiters, core, lowered, lowered_divider}
 use Rattle.latex2mathml_tex_grammar.specs.Refusal.{MissingDelimiter}
 use Rattle.latex2mathml_tex_grammar.specs.Rows.{row_element}
 use Rattle.latex2mathml_tex_grammar.specs.Rules.{gives}
@@ -78,10 +79,10 @@ module _ (s : Start) (p : Parser) (opening : Option ℕ) (row : CodeRow) where
     claims = rw h (all_refuse (refusal_here MissingDelimiter (past_space (left_of p))) s (reverse p.frames.stack.items) (drop (row.count + 0) (elements_of p)) (core_refuses (refusal_here MissingDelimiter (past_space (left_of p))) (level (row.count + 0) s p) (undelimited e g.leads)));
   }
 
-  pub enclosed : (i : Input) (b : Built) (c : CodeCore) (text : List ℕ) (ys zs : List Element) → next_are (delimiter_of ∷ []) (left_of p) ≡ Some (text, units_at i) → Lowered row.high row.count (elements_of p) ys → zs ≡ row_element (take row.count ys) ∷ drop row.count ys → elements_in b ≡ fenced row.high (delimiter_text opening) text (top zs) ∷ drop 1 zs → ((x : Element) → core_with c x ≡ core (atom (Plain Inner) row.high x)) → Closes → Holds s (record p { input = i; builder = b }) (state.Core c)
-  enclosed i b c text ys zs e low put around is g =
-      let x = fenced row.high (delimiter_text opening) text (row_element (lowered row.high (take row.count (elements_of p)))) in
-      let all : elements_in b ≡ x ∷ drop row.count (elements_of p) = rw (around, put, low.first, low.below) refl in
+  pub enclosed : (i : Input) (b : Built) (c : CodeCore) (text : List ℕ) (ys zs : List Element) (height : Height) → height ≡ height_if row.high → next_are (delimiter_of ∷ []) (left_of p) ≡ Some (text, units_at i) → Lowered row.high row.count (elements_of p) ys → zs ≡ row_element (take row.count ys) ∷ drop row.count ys → elements_in b ≡ fenced height (delimiter_text opening) text (top zs) ∷ drop 1 zs → ((x : Element) → core_with c x ≡ core (atom (Plain Inner) row.high x)) → Closes → Holds s (record p { input = i; builder = b }) (state.Core c)
+  enclosed i b c text ys zs height high e low put around is g =
+      let x = fenced (height_if row.high) (delimiter_text opening) text (row_element (lowered row.high (take row.count (elements_of p)))) in
+      let all : elements_in b ≡ x ∷ drop row.count (elements_of p) = rw (around, high, put, low.first, low.below) refl in
       let count : row.count + 0 ≡ row.count = omega arith in
       record { style = g.style; claims = rw (all, is x) (rw count at (given (delimited (λ closing. gives (between_delimiters (delimiter_text opening) closing (row_with row (elements_of p)))) e g.leads))) }
 

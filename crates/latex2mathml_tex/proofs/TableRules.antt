@@ -16,7 +16,7 @@ use Rattle.latex2mathml_tex_grammar.specs.{Atoms.Plain, Atoms.atom, Makes.core, 
 use Rattle.latex2mathml_tex_grammar.specs.Rules.{ByBrace, ByText, Context as RuleContext, Rule, ended_table, gives, passes_over, reads_rows, rows_of_text, rows_rule, styled, takes_found}
 use Rattle.latex2mathml_tex_grammar.specs.Scanning.{BeforeArgument, BeforeRow, Name, Spot, past, past_break}
 use Rattle.latex2mathml_tex_grammar.specs.Symbols as symbols
-use Rattle.latex2mathml_tex_grammar.specs.Tables.{Lines, a_table, between_any, rows_of, rows_onto, said_style, table_class}
+use Rattle.latex2mathml_tex_grammar.specs.Tables.{Lines, a_table, between_any, height_of, rows_of, rows_onto, said_style, table_class}
 use Rattle.latex2mathml_tex.specs.Frames.{Start, context_at}
 use Rattle.latex2mathml_tex.specs.Levels.{CoreMade, Refuses, RuleLeads}
 use Rattle.latex2mathml_tex_units.specs.{Errors.refusal_of, Left.unit_count, Left.units_at}
@@ -142,18 +142,21 @@ rows_reversed a columns (y ∷ ys) x xs = rows_reversed a columns ys y (x ∷ xs
 table_of_lines : (a : Attributes) (columns : Columns) (lines : Lines) (xs : List Element) → xs ≡ lines.last ∷ lines.others → table_with a columns (reverse xs) ≡ table (attributes_in columns a) (rows_of columns lines)
 table_of_lines a columns lines xs e = ap (λ k. table_with a columns (reverse k)) e ∙ rows_reversed a columns lines.others lines.last []
 
-pub table_made : (s : Start) (p : Parser) (b : Built) (delimiters : Option (Option ℕ × Option ℕ)) (columns : CodeColumns) (own : Style) (rows : ℕ) (f : Frame) (around : Context) (said : Option MathStyle) (c : CodeCore) → around ≡ frame_context f → InnermostIs f p → option_map math_style_of said ≡ said_style (style_of own) (style_of around.style) → elements_in b ≡ between_any (option_map delimiter_texts delimiters) (table_with (attributes.styled (option_map math_style_of said)) (columns_of columns) (reverse (take rows (elements_of p)))) ∷ drop rows (elements_of p) → ((x : Element) → core_with c x ≡ core (atom (Plain (table_class (option_map delimiter_texts delimiters))) true x)) → MakesTable delimiters columns own rows s p → Holds s (record p { builder = b }) (state.Core c)
-table_made s p b delimiters columns own rows f around said c is inner says put made g =
+pub table_made : (s : Start) (p : Parser) (b : Built) (delimiters : Option (Option ℕ × Option ℕ)) (columns : CodeColumns) (own : Style) (rows : ℕ) (f : Frame) (around : Context) (said : Option MathStyle) (c : CodeCore) → around ≡ frame_context f → InnermostIs f p → option_map math_style_of said ≡ said_style (style_of own) (style_of around.style) → elements_in b ≡ between_any (option_map delimiter_texts delimiters) (height_of (take rows (elements_of p))) (table_with (attributes.styled (option_map math_style_of said)) (columns_of columns) (reverse (take rows (elements_of p)))) ∷ drop rows (elements_of p) → ((x : Element) → core_with c x ≡ core (atom (Plain (table_class (option_map delimiter_texts delimiters))) true x)) → MakesTable delimiters columns own rows s p → Holds s (record p { builder = b }) (state.Core c)
+table_made s p b delimiters columns own rows f around said c is inner says put core_is g =
     let outer : context_of around ≡ context_at (level rows s p) = ap context_of is ∙ context_is s p.style p.frames.stack.items f (drop rows (elements_of p)) g.style inner in
     let style : option_map math_style_of said ≡ said_style (style_of own) (context_at (level rows s p)).style = says ∙ ap (λ (k : RuleContext). said_style (style_of own) k.style) outer in
     let texts = option_map delimiter_texts delimiters in
     let a = attributes.styled (said_style (style_of own) (context_at (level rows s p)).style) in
-    let x = between_any texts (table (attributes_in (columns_of columns) a) (rows_of (columns_of columns) g.lines)) in
+    let made = table (attributes_in (columns_of columns) a) (rows_of (columns_of columns) g.lines) in
+    let height = height_of (take rows (elements_of p)) in
+    let x = between_any texts (height_of (g.lines.last ∷ g.lines.others)) made in
     let one : elements_in b ≡ x ∷ drop rows (elements_of p) =
     put
-    ∙ ap (λ k. between_any texts (table_with (attributes.styled k) (columns_of columns) (reverse (take rows (elements_of p)))) ∷ drop rows (elements_of p)) style
-    ∙ ap (λ y. between_any texts y ∷ drop rows (elements_of p)) (table_of_lines a (columns_of columns) g.lines (take rows (elements_of p)) g.are) in
-    record { style = g.style; claims = rw (one, made x) (given g.leads) }
+    ∙ ap (λ k. between_any texts height (table_with (attributes.styled k) (columns_of columns) (reverse (take rows (elements_of p)))) ∷ drop rows (elements_of p)) style
+    ∙ ap (λ y. between_any texts height y ∷ drop rows (elements_of p)) (table_of_lines a (columns_of columns) g.lines (take rows (elements_of p)) g.are)
+    ∙ ap (λ ys. between_any texts (height_of ys) made ∷ drop rows (elements_of p)) g.are in
+    record { style = g.style; claims = rw (one, core_is x) (given g.leads) }
 
 -- less is left to do after the lines before the first row
 pub begun_step : (p : Parser) (b : Built) (i : Input) (new : Parser) (st : State) (answer : Result ⊤ AllocError) → units_at i ≡ past BeforeRow (left_of p) → Advances 6 (record p { builder = b; input = i }) new st answer → Advances 12 p new st answer

@@ -107,6 +107,10 @@ pub no_sign_alone : (style : Style) (class : Class) (x : Element) → token_of_e
 no_sign_alone style class (token Mo a text) h = cc
 no_sign_alone style class x h = refl
 
+pub no_space_alone : (class own : Class) (x : Element) → token_of_element x ≡ None → Makes.spaced_as class own x ≡ x
+no_space_alone class own (token Mo a text) h = cc
+no_space_alone class own x h = refl
+
 pub no_divider : (x : Element) → token_of_element x ≡ None → Makes.lowered_divider x ≡ x
 no_divider (token t a text) h = cc
 no_divider x h = refl
@@ -134,6 +138,10 @@ module _ (tag : CodeToken) (other : tag ≡ code_token.Mo → ⊥) where
   pub no_operator : (x : Element) (a : Attributes) → token_of_element x ≡ Some (token_of tag, a) → Makes.fixed_base Meaning.Stacked x ≡ x
   no_operator (token Mo b text) a h = absurd (is_operator a b cc)
   no_operator x a h = refl
+
+  pub no_operator_spaced : (class own : Class) (x : Element) (a : Attributes) → token_of_element x ≡ Some (token_of tag, a) → Makes.spaced_as class own x ≡ x
+  no_operator_spaced class own (token Mo b text) a h = absurd (is_operator a b cc)
+  no_operator_spaced class own x a h = refl
 
   pub no_operator_alone : (style : Style) (class : Class) (x : Element) (a : Attributes) → token_of_element x ≡ Some (token_of tag, a) → Atoms.lone_sign style class x ≡ x
   no_operator_alone style class (token Mo b text) a h = absurd (is_operator a b cc)

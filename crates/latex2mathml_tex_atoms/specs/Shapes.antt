@@ -1,23 +1,26 @@
 -- Changes of the top elements.
-use Rattle.std.specs.Prelude.{◌≡◌, ℕ, zero, suc, Bool, List, [], ◌∷◌, Option, None, Some, drop}
+use Rattle.std.specs.Prelude.{◌≡◌, ℕ, zero, suc, List, [], ◌∷◌, Option, None, Some, drop}
 use Rattle.std.specs.Str.{encode_utf8_all}
-use Rattle.latex2mathml_elements.specs.{Attributes.Attributes, Attributes.Form, Attributes.Stretch, Attributes.plain, Element.Element, Element.Mo, Element.token}
+use Rattle.latex2mathml_elements.specs.{Attributes.Attributes, Attributes.Stretch, Attributes.plain, Element.Element, Element.Mo, Element.token}
 use Rattle.latex2mathml_attributes.specs.{Arounds.element_around, declared.around.Around.Around}
 use Rattle.latex2mathml_builder.specs.Built.{Built, elements_in}
+use Rattle.latex2mathml_tex_grammar.specs.Fences
 use Rattle.latex2mathml_tex_grammar.specs.Makes
-use Rattle.latex2mathml_tex_grammar.specs.{Makes.space_if_none, Makes.stretch_if, Widths.Widths, Widths.room_if}
+use Rattle.latex2mathml_tex_grammar.specs.Widths.{Widths}
 use Rattle.latex2mathml_tex_atoms.specs.Models.{core_with, top}
 use Rattle.latex2mathml_tex_atoms.specs.declared.atoms.Core.{Core as CodeCore}
+use Rattle.latex2mathml_tex_atoms.specs.declared.delimiters.Height.{Height}
+use Rattle.latex2mathml_tex_atoms.specs.declared.delimiters.Height.TheVariants as height
 use Rattle.latex2mathml_tex_atoms.specs.declared.widths.Widths.{Widths as CodeWidths}
 
 -- an operator with this text
 abbrev pub delimiter_element : Attributes → List ℕ → Element
 delimiter_element a text = token Mo a text
 
--- a delimiter around something, which may stretch, and may have no more room than in TeX
-abbrev pub fence_element : Bool → Bool → Form → List ℕ → Element
-fence_element high is_narrow form text =
-    token Mo (record plain { form = Some form; stretch = Some (stretch_if high); space = space_if_none text; boxing = room_if is_narrow text }) text
+abbrev pub height_of : Height → Fences.Height
+height_of height.Low = Fences.Low
+height_of height.High = Fences.High
+height_of height.VeryHigh = Fences.VeryHigh
 
 -- the widths of a delimiter
 abbrev pub widths_with : CodeWidths → Widths

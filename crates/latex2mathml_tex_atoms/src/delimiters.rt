@@ -1,12 +1,13 @@
 //! The elements of delimiters, as the top elements of the builder.
-ghost use Rattle.std.specs.Prelude.{◌≡◌, ◌≤◌, OnOk, length};
+ghost use Rattle.std.specs.Prelude.{◌≡◌, ◌≤◌, OnOk, length, option_map};
 ghost use Rattle.latex2mathml_builder.specs.Built.{Puts, elements_in};
-ghost use Rattle.latex2mathml_attributes.specs.Names.{attributes_of, form_of, size_of};
+ghost use Rattle.latex2mathml_elements.specs.Attributes.{AtMost};
+ghost use Rattle.latex2mathml_attributes.specs.Names.{attributes_of, form_of, size_of, space_of, stretch_of};
+ghost use Rattle.latex2mathml_tex_grammar.specs.Fences;
 ghost use Rattle.latex2mathml_tex_grammar.specs.Makes;
-ghost use Rattle.latex2mathml_tex_grammar.specs.Tables;
 ghost use Rattle.latex2mathml_tex_commands.specs.Meanings.{class_of, style_of};
 ghost use Rattle.latex2mathml_tex_commands.specs.Delimiters.{delimiter_text};
-ghost use Rattle.latex2mathml_tex_atoms.specs.Shapes.{ChangesAt, ReplacesTop, delimiter_element, fence_element, mapped_first};
+ghost use Rattle.latex2mathml_tex_atoms.specs.Shapes.{ChangesAt, ReplacesTop, delimiter_element, height_of, mapped_first};
 
 use crate::signs::keeps_space;
 use crate::widths::room;
@@ -15,6 +16,47 @@ use latex2mathml_attributes::tag::Token;
 use latex2mathml_builder::builder::Builder;
 use latex2mathml_tex_commands::meaning::{Class, Style};
 use std::alloc::AllocError;
+
+/// How high what is between delimiters is.
+#[derive(Clone, Copy)]
+pub enum Height {
+    /// No higher than a letter: they do not stretch.
+    Low,
+    /// Higher: they stretch, and have no more room than in TeX.
+    High,
+    /// Mostly so high that they need all room.
+    VeryHigh,
+}
+
+impl Height {
+    /// Returns the height of something that may be higher than a letter.
+    pub fn of(high: bool) -> Height
+        ensures { height_of result ≡ Fences.height_if high }
+    {
+        if high { Height::High } else { Height::Low }
+    }
+
+    /// Returns whether delimiters stretch around it.
+    fn stretch(self) -> Stretch
+        ensures { stretch_of result ≡ Fences.stretch_around (height_of self) }
+    {
+        match self {
+            Height::Low => Stretch::Rigid,
+            Height::High | Height::VeryHigh => Stretch::Stretching,
+        }
+    }
+
+    /// Returns how wide a delimiter is at most around it, in thousandths of an em, if a browser may leave more room for it.
+    fn room(self, delimiter: Option<char>) -> Option<u16>
+        ensures { option_map AtMost result
+            ≡ Fences.room_around (height_of self) (delimiter_text delimiter) }
+    {
+        match self {
+            Height::High => room(Size::Bigger, delimiter),
+            Height::Low | Height::VeryHigh => None,
+        }
+    }
+}
 
 /// Puts an operator that is a delimiter, or empty.
 pub fn put_delimiter(
@@ -76,75 +118,75 @@ pub fn put_sized(
     put_delimiter(builder, attributes, delimiter)
 }
 
-/// Puts the top element between delimiters, which stretch if it is high.
+/// Puts the top element, which is this high, between delimiters.
 pub fn enclose(
     builder: &mut Builder,
-    high: bool,
+    height: Height,
     opening: Option<char>,
     closing: Option<char>,
 ) -> Result<(), AllocError>
     requires { 1 ≤ length (elements_in builder.old) }
     ensures { OnOk result (ReplacesTop
-        (Makes.fenced high (delimiter_text opening) (delimiter_text closing))
+        (Fences.fenced (height_of height) (delimiter_text opening) (delimiter_text closing))
         builder.old builder.new) }
 {
-    put_fence(builder, high, high, Form::Prefix, opening)?;
-    put_fence(builder, high, high, Form::Postfix, closing)?;
+    put_fence(builder, height, Form::Prefix, opening)?;
+    put_fence(builder, height, Form::Postfix, closing)?;
     builder.fence()
 }
 
-/// Puts the top element, a table, between delimiters.
-pub fn enclose_table(
-    builder: &mut Builder,
-    opening: Option<char>,
-    closing: Option<char>,
-) -> Result<(), AllocError>
-    requires { 1 ≤ length (elements_in builder.old) }
-    ensures { OnOk result (ReplacesTop
-        (Tables.fenced_table (delimiter_text opening) (delimiter_text closing))
-        builder.old builder.new) }
-{
-    put_fence(builder, true, false, Form::Prefix, opening)?;
-    put_fence(builder, true, false, Form::Postfix, closing)?;
-    builder.fence()
-}
-
-/// Puts an operator that opens or closes, or an empty one, which has no space. It may stretch, and may have no more room than in
-/// TeX.
-#[tactic(auto, using(crate::proofs::Outlined::some_spaced))]
+/// Puts an operator that opens or closes something of this height, or an empty one.
 fn put_fence(
     builder: &mut Builder,
-    high: bool,
-    is_narrow: bool,
+    height: Height,
     form: Form,
     delimiter: Option<char>,
 ) -> Result<(), AllocError>
     ensures { OnOk result (Puts
-        (fence_element high is_narrow (form_of form) (delimiter_text delimiter))
+        (Fences.fence (height_of height) (form_of form) (delimiter_text delimiter))
         builder.old builder.new) }
 {
-    let stretch = if high {
-        Stretch::Stretching
-    } else {
-        Stretch::Rigid
-    };
-    let space = match delimiter {
-        Some(_) => None,
-        None => Some(Space::NoSpace),
-    };
-    let room = if is_narrow {
-        room(Size::Bigger, delimiter)
-    } else {
-        None
-    };
     let attributes = Attributes {
         form: Some(form),
-        stretch: Some(stretch),
-        space,
-        room,
+        stretch: Some(height.stretch()),
+        space: fence_space(form, delimiter),
+        room: height.room(delimiter),
         ..Attributes::plain()
     };
     put_delimiter(builder, attributes, delimiter)
+}
+
+/// Returns the space of a delimiter in this form, if it is not the one that browsers give it.
+#[tactic(auto, using(crate::proofs::Rooms::no_space, crate::proofs::Rooms::space_is))]
+fn fence_space(form: Form, delimiter: Option<char>) -> Option<Space>
+    ensures { option_map space_of result
+        ≡ Fences.fence_space (form_of form) (delimiter_text delimiter) }
+{
+    let Some(c) = delimiter else {
+        return Some(Space::NoSpace);
+    };
+    if is_known(form, c) {
+        None
+    } else {
+        Some(Space::NoSpace)
+    }
+}
+
+/// Whether browsers know a delimiter in this form.
+fn is_known(form: Form, c: char) -> bool
+    ensures { result ≡ Fences.is_known (form_of form) c }
+{
+    match form {
+        Form::Prefix => matches!(
+            c,
+            '(' | '[' | '{' | '|' | '‖' | '⌈' | '⌊' | '⟦' | '⟨' | '⟮' | '⦃'
+        ),
+        Form::Infix => false,
+        Form::Postfix => matches!(
+            c,
+            ')' | ']' | '}' | '|' | '‖' | '⌉' | '⌋' | '⟧' | '⟩' | '⟯' | '⦄'
+        ),
+    }
 }
 
 /// Makes the dividers among the top `count` elements no higher than a letter.

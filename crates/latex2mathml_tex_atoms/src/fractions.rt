@@ -2,11 +2,12 @@
 ghost use Rattle.std.specs.Prelude.{◌≡◌, ◌≤◌, ◌∷◌, true, OnOk, Some, drop, length, option_map};
 ghost use Rattle.latex2mathml_builder.specs.Built.{elements_in};
 ghost use Rattle.latex2mathml_attributes.specs.Names.{attributes_of};
+ghost use Rattle.latex2mathml_tex_grammar.specs.Fences;
 ghost use Rattle.latex2mathml_tex_grammar.specs.Makes;
 ghost use Rattle.latex2mathml_tex_commands.specs.{Delimiters.delimiter_text, Meanings.fraction_rule_of, Meanings.style_of};
 ghost use Rattle.latex2mathml_tex_atoms.specs.{Models.top, Shapes.ReplacesTop};
 
-use crate::delimiters::enclose;
+use crate::delimiters::{Height, enclose};
 use latex2mathml_attributes::around::{Around, Boxing};
 use latex2mathml_attributes::attributes::Attributes;
 use latex2mathml_attributes::tag::{Container, Pair};
@@ -79,12 +80,12 @@ fn put_quotient(builder: &mut Builder, rule: FractionRule) -> Result<(), AllocEr
 fn put_between(builder: &mut Builder, opening: char, closing: char) -> Result<(), AllocError>
     requires { 2 ≤ length (elements_in builder.old) }
     ensures { OnOk result (elements_in builder.new
-        ≡ Makes.fenced true (delimiter_text (Some opening)) (delimiter_text (Some closing))
+        ≡ Fences.fenced Fences.High (delimiter_text (Some opening)) (delimiter_text (Some closing))
         (Makes.without_bar (top (drop 1 (elements_in builder.old)))
         (top (elements_in builder.old))) ∷ drop 2 (elements_in builder.old)) }
 {
     put_without_bar(builder)?;
-    enclose(builder, true, Some(opening), Some(closing))
+    enclose(builder, Height::High, Some(opening), Some(closing))
 }
 
 /// Puts null delimiters, which are space, around the top element.

@@ -6,7 +6,7 @@ ghost use Rattle.latex2mathml_tex_grammar.specs.Rules;
 ghost use Rattle.latex2mathml_tex_commands.specs.{Delimiters.delimiter_text, Meanings.style_of};
 ghost use Rattle.latex2mathml_tex_atoms.specs.{Models.top, Outlines.outline_of};
 
-use crate::delimiters::enclose;
+use crate::delimiters::{Height, enclose};
 use crate::fractions::{put_in_style, put_null_delimiters, put_without_bar};
 use latex2mathml_attributes::attributes::Attributes;
 use latex2mathml_attributes::tag::Pair;
@@ -77,5 +77,5 @@ fn put_between_any(
     if opening.is_none() && closing.is_none() {
         return put_null_delimiters(builder);
     }
-    enclose(builder, true, opening, closing)
+    enclose(builder, Height::High, opening, closing)
 }

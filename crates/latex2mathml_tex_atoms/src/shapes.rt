@@ -1,5 +1,5 @@
 //! The elements of atoms, rows and constructs, as the top elements of the builder.
-ghost use Rattle.std.specs.Prelude.{◌≡◌, ◌+◌, ◌≤◌, ◌&&◌, ◌∷◌, [], false, true, IfOk, OnOk, drop, length, option_map, take};
+ghost use Rattle.std.specs.Prelude.{◌≡◌, ◌+◌, ◌≤◌, ◌&&◌, ◌∷◌, List, [], false, true, IfOk, OnOk, drop, length, option_map, take};
 ghost use Rattle.latex2mathml_elements.specs.{Attributes.plain, Element.Element, Element.pair};
 ghost use Rattle.latex2mathml_elements.specs.Attributes as attributes;
 ghost use Rattle.latex2mathml_builder.specs.Built.{Puts, elements_in};
@@ -10,13 +10,11 @@ ghost use Rattle.latex2mathml_tex_grammar.specs.Meaning;
 ghost use Rattle.latex2mathml_tex_grammar.specs.Rows;
 ghost use Rattle.latex2mathml_tex_commands.specs.Meanings.{class_of, style_of};
 ghost use Rattle.latex2mathml_tex_atoms.specs.Models.{before_of, core_with, joining_of, kind_of, row_rest, row_with, top};
-ghost use Rattle.latex2mathml_tex_atoms.specs.Shapes.{ChangesAt, ReplacesTop, delimiter_element, fence_element, mapped_first, mark_element};
-ghost use Rattle.latex2mathml_tex_commands.specs.Delimiters.{delimiter_text};
+ghost use Rattle.latex2mathml_tex_atoms.specs.Shapes.{ChangesAt, ReplacesTop, mark_element};
 
 use crate::atoms::{Before, Core, Joining, Kind, Row, class_after};
-use crate::signs::{adapt, keeps_space, remove_space};
-use crate::widths::room;
-use latex2mathml_attributes::attributes::{Attributes, Form, Side, Size, Space, Stretch};
+use crate::signs::{adapt, remove_space};
+use latex2mathml_attributes::attributes::{Attributes, Form, Side, Space, Stretch};
 use latex2mathml_attributes::tag::{Container, Pair, Token};
 use latex2mathml_builder::builder::Builder;
 use latex2mathml_tex_commands::meaning::{Class, Style};
@@ -109,11 +107,22 @@ fn free_sign(builder: &mut Builder, style: Style, class: Class)
         builder.give(
             0,
             Attributes {
-                form: None,
+                form: form_as(class, attributes.form),
                 space: space_as(style, class, attributes.space),
                 ..attributes
             },
         );
+    }
+}
+
+/// Returns the form of a sign that precedes no operand. It is all of an atom of this class.
+fn form_as(class: Class, form: Option<Form>) -> Option<Form>
+    ensures { option_map form_of result
+        ≡ Atoms.form_as (class_of class) (option_map form_of form) }
+{
+    match (class, form) {
+        (Class::Binary | Class::Relation, Some(_)) => Some(Form::Infix),
+        _ => None,
     }
 }
 
@@ -133,6 +142,40 @@ fn space_as(style: Style, class: Class, space: Option<Space>) -> Option<Space>
             | Class::Punctuation
             | Class::Inner => Some(Space::NoSpace),
         },
+    }
+}
+
+/// Gives the top element, if it is a sign, the space of an atom of this class. It was of the class `own`.
+pub fn space_sign(builder: &mut Builder, class: Class, own: Class)
+    ensures elements { ChangesAt (Makes.spaced_as (class_of class) (class_of own)) 0
+        builder.old builder.new }
+    ensures length { length (elements_in builder.new) ≡ length (elements_in builder.old) }
+{
+    let Some((tag, attributes)) = builder.token_at(0) else {
+        return;
+    };
+    if let Token::Mo = tag {
+        builder.give(
+            0,
+            Attributes {
+                space: class_space(class, own, attributes.space),
+                ..attributes
+            },
+        );
+    }
+}
+
+/// Returns the space of a sign that is an atom of this class, and was of the class `own`.
+fn class_space(class: Class, own: Class, space: Option<Space>) -> Option<Space>
+    ensures { option_map space_of result
+        ≡ Makes.class_space (class_of class) (class_of own) (option_map space_of space) }
+{
+    match (class, own) {
+        (Class::Binary, Class::Binary) | (Class::Relation, Class::Relation) => space,
+        (Class::Binary, _) => Some(Space::Medium),
+        (Class::Relation, _) => Some(Space::Thick),
+        (Class::Punctuation, _) => Some(Space::ThinAfter),
+        _ => space,
     }
 }
 
@@ -164,9 +207,22 @@ pub fn with_atom(
         before: row.before.past(core.kind),
         last: core.kind,
         high: row.high || core.high,
-        class: class_after(row.count, core.kind),
+        class: class_with(joining, row.class, row.count, core.kind),
         ..row
     })
+}
+
+/// Returns the class of a row as the base of a mark, where an atom of this kind follows `count` elements or joins the last one. The
+/// row is of this class before.
+fn class_with(joining: Joining, class: Class, count: usize, kind: Kind) -> Class
+    ensures { (xs : List Element) → count + 1 ≤ length xs → class_of result
+        ≡ Rows.class_with (joining_of joining) (class_of class) (take count (drop 1 xs))
+        (kind_of kind) }
+{
+    match joining {
+        Joining::ToWord | Joining::ToRelations => class,
+        Joining::Apart => class_after(count, kind),
+    }
 }
 
 /// Makes the top element, which may join the one before it, the last one of a row that has `count` elements. Returns how many

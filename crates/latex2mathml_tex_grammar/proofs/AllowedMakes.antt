@@ -8,7 +8,8 @@ use Rattle.latex2mathml_elements.specs.Element.{Mi, Mn, Mo, Mtext, Element, toke
 use Rattle.latex2mathml_elements.proofs.{Characters.allowed_both, Characters.allowed_char, Characters.allowed_plain, Characters.plain_is_allowed, Plain.IsPlain, Plain.is_plain}
 use Rattle.latex2mathml_tex_grammar.specs.Alphabets.{in_alphabet}
 use Rattle.latex2mathml_tex_grammar.specs.Atoms.{Atom, Kind, SignOf, PlusOrMinus, Plain, UprightLetters, FunctionWord, Blank, Divider, Before, begins_group, begins_operand, as_prefix, as_infix, without_space, without_space_before, led, leads_operator, leads_relation, tight, as_ordinary, element_there, is_parted, lone_sign, element_as}
-use Rattle.latex2mathml_tex_grammar.specs.Makes.{text, letter, upright_letter, number, symbol, struck, classed, on_side, accent, brace, stack, in_style, fenced, fraction_element, fraction, lowered_divider, lowered, between_delimiters, Scripts, primes_text, prime_mark, behind_primes, superscript, are_stacked, fixed_base, with_scripts, before_base, base_there, scripted_atom, scripted}
+use Rattle.latex2mathml_tex_grammar.specs.Fences.{Height, fenced, height_if}
+use Rattle.latex2mathml_tex_grammar.specs.Makes.{text, letter, upright_letter, number, symbol, struck, classed, on_side, accent, brace, stack, in_style, fraction_element, fraction, lowered_divider, lowered, between_delimiters, spaced_as, Scripts, primes_text, prime_mark, behind_primes, superscript, are_stacked, fixed_base, with_scripts, before_base, base_there, scripted_atom, scripted}
 use Rattle.latex2mathml_tex_grammar.specs.Meaning.{FractionRule, Bar, NoBar, Braced, Bracketed, Bare, LimitPlace, Beside, ByStyle, Movable, Stacked}
 use Rattle.latex2mathml_tex_grammar.specs.Rows.{Row, Operand, Joining, ToWord, ToRelations, Apart, as_base, is_spaced, isolated, lone, is_empty, join, parted, put, row_element, single, with_atom, empty_row}
 use Rattle.latex2mathml_tex_grammar.specs.Symbols.{Class, Ordinary, Operator, Binary, Relation, Opening, Closing, Punctuation, Inner, Style, InDisplay, InText, InScript, Alphabet, Upright, Italic, Bold, BoldItalic, DoubleStruck, Fraktur, Calligraphic, SansSerif, Monospace, Symbol, Letter, UprightLetter, Sign, BigOperator, Integral}
@@ -223,15 +224,20 @@ element_as_allowed style class Inner x h = h
 pub as_base_allowed : (style : Style) (class : Class) (x : Operand) → IsAllowedOperand x → IsAllowedOperand (as_base style class x)
 as_base_allowed style class x h = element_as_allowed style class x.class x.element h
 
+spaced_as_allowed : (class own : Class) (x : Element) → HasAllowedTexts x → HasAllowedTexts (spaced_as class own x)
+spaced_as_allowed class own (token Mo a sign_text) h = h
+spaced_as_allowed class own (token Mi a text) h = h
+spaced_as_allowed class own (token Mn a text) h = h
+spaced_as_allowed class own (token Mtext a text) h = h
+spaced_as_allowed class own (space width) h = h
+spaced_as_allowed class own (rectangle e) h = h
+spaced_as_allowed class own (container c a xs) h = h
+spaced_as_allowed class own (pair p a x y) h = h
+spaced_as_allowed class own (triple t a x y z) h = h
+spaced_as_allowed class own (table a rows) h = h
+
 pub classed_allowed : (class : Class) (x : Operand) → IsAllowedOperand x → IsAllowedCore (classed class x)
-classed_allowed Ordinary x h = h
-classed_allowed Operator x h = h
-classed_allowed Binary x h = h
-classed_allowed Relation x h = h
-classed_allowed Opening x h = h
-classed_allowed Closing x h = h
-classed_allowed Punctuation x h = h
-classed_allowed Inner x h = h
+classed_allowed class x h = spaced_as_allowed class x.class x.element h
 
 on_side_allowed : (side : Side) (a : Attributes) (base mark : Element) → HasAllowedTexts base → HasAllowedTexts mark → HasAllowedTexts (on_side side a base mark)
 on_side_allowed Above a base mark h k = (h, k)
@@ -252,8 +258,8 @@ pub in_style_allowed : (style : Option Style) (x : Element) → HasAllowedTexts 
 in_style_allowed None x h = h
 in_style_allowed (Some style) x h = (h, tt)
 
-pub fenced_allowed : (high : Bool) (opening closing : List ℕ) (inside : Element) → IsAllowed opening → IsAllowed closing → HasAllowedTexts inside → HasAllowedTexts (fenced high opening closing inside)
-fenced_allowed high opening closing inside h k i = (h, (i, (k, tt)))
+pub fenced_allowed : (height : Height) (opening closing : List ℕ) (inside : Element) → IsAllowed opening → IsAllowed closing → HasAllowedTexts inside → HasAllowedTexts (fenced height opening closing inside)
+fenced_allowed height opening closing inside h k i = (h, (i, (k, tt)))
 
 fraction_element_allowed : (rule : FractionRule) (above below : Element) → HasAllowedTexts above → HasAllowedTexts below → HasAllowedTexts (fraction_element rule above below)
 fraction_element_allowed Bar above below h k = ((h, k), tt)
@@ -287,7 +293,7 @@ lowered_allowed false xs h = each_lowered xs h
 
 pub between_allowed : (opening closing : List ℕ) (row : Row) → IsAllowed opening → IsAllowed closing → IsAllowedRow row → IsAllowedCore (between_delimiters opening closing row)
 between_allowed opening closing row h k i =
-    fenced_allowed row.high opening closing _ h k (row_element_allowed (lowered row.high row.elements) (lowered_allowed row.high row.elements i))
+    fenced_allowed (height_if row.high) opening closing _ h k (row_element_allowed (lowered row.high row.elements) (lowered_allowed row.high row.elements i))
 
 -- Scripts
 

@@ -11,6 +11,7 @@ use Rattle.latex2mathml_tex_grammar.specs.Rules.{Context, ended_table, rows_rule
 use Rattle.latex2mathml_tex_grammar.specs.Scanning.{Argument, Name, ColumnList, RepeatedColumns, Number, ColorName, Deed, Passes, Adds, Ends, Leaves, Misses, Refuses, Spot, deed, done, may_end, found_at_end, with_character, Found, Given, Missing, scan, behind_found, past, past_break, BeforeStar, BeforeLength, BeforeRow}
 use Rattle.latex2mathml_tex_grammar.specs.RowLines.{lined}
 use Rattle.latex2mathml_tex_grammar.specs.Tables.{Lines, a_row, with_last, rows_onto, between_any, a_table}
+use Rattle.latex2mathml_tex_grammar.specs.Fences.{Height}
 use Rattle.latex2mathml_tex_grammar.specs.Refusal.{Refusal}
 use Rattle.latex2mathml_tex_grammar.specs.Units.{Unit, Units, Next, End, Stop}
 use Rattle.latex2mathml_tex_grammar.proofs.Allowed.{AreAllowedElements, AreAllowedUnits, AreAllowedLines, IsAllowedCore, IsAllowedRule}
@@ -67,12 +68,12 @@ abbrev AreAllowedDelimiters : Option (List ℕ × List ℕ) → Type 0
 AreAllowedDelimiters None = ⊤
 AreAllowedDelimiters (Some delimiters) = IsAllowed delimiters.0 × IsAllowed delimiters.1
 
-between_any_allowed : (delimiters : Option (List ℕ × List ℕ)) (x : Element) → AreAllowedDelimiters delimiters → HasAllowedTexts x → HasAllowedTexts (between_any delimiters x)
-between_any_allowed None x h k = k
-between_any_allowed (Some delimiters) x h k = (h.0, (k, (h.1, tt)))
+between_any_allowed : (delimiters : Option (List ℕ × List ℕ)) (height : Height) (x : Element) → AreAllowedDelimiters delimiters → HasAllowedTexts x → HasAllowedTexts (between_any delimiters height x)
+between_any_allowed None height x h k = k
+between_any_allowed (Some delimiters) height x h k = (h.0, (k, (h.1, tt)))
 
 pub a_table_allowed : (delimiters : Option (List ℕ × List ℕ)) (columns : Columns) (style around : Style) (lines : Lines) → AreAllowedDelimiters delimiters → AreAllowedLines lines → IsAllowedCore (a_table delimiters columns style around lines)
-a_table_allowed delimiters columns style around lines h k = between_any_allowed delimiters _ h (rows_onto_allowed columns lines.others lines.last [] k.1 k.0 tt)
+a_table_allowed delimiters columns style around lines h k = between_any_allowed delimiters _ _ h (rows_onto_allowed columns lines.others lines.last [] k.1 k.0 tt)
 
 -- Environments
 

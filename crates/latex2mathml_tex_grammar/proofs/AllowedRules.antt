@@ -5,11 +5,12 @@ use Rattle.latex2mathml_elements.specs.{Element.Element, Element.token, Element.
 use Rattle.latex2mathml_elements.specs.Characters.{is_forbidden, IsAllowed, HasAllowedTexts}
 use Rattle.latex2mathml_elements.proofs.{Characters.allowed_both, Characters.allowed_char, Characters.allowed_plain, Plain.IsPlain}
 use Rattle.latex2mathml_tex_grammar.specs.{Commands.meaning_of, Commands.symbol_of, Delimiters.entry_of_name, Delimiters.negated_of, Delimiters.delimiter_of, TextCommands.text_accents, TextCommands.text_commands, Dots.centered_dots, Dots.low_dots}
+use Rattle.latex2mathml_tex_grammar.specs.Fences.{High}
 use Rattle.latex2mathml_tex_grammar.specs.Makes.{Core, core, Scripts, letter, symbol, spacing, struck, text, in_box, raised_by, black, arrow, Outline, quotient, between_any, outlined_fraction, choice}
 use Rattle.latex2mathml_tex_grammar.specs.Refusal.{Refusal, OutsideTable, MisplacedCharacter, CharacterInWords, refusal_at}
 use Rattle.latex2mathml_tex_grammar.specs.Meaning.{Meaning, Shows, FunctionName, Dots, Spacing, Styled, Words as TakesWordsIn, Fraction, Root, Accent, Brace, Stack, StackedRelation, OperatorName, Negation, Slash, Sized, Left, Middle, Right, Limits, NoLimits, Classed, Changes, ToAlphabet, ToStyle, Divides, ToColor, BeginTable, EndTable, LineBreak, Substack, Skip, SkipInBraces, Boxed, Smash, ContinuedFraction, GeneralFraction, Choice, Bar, FractionRule, Box, Phantom, PhantomWidth, PhantomHeight, Smashed, WithoutHeight, WithoutDepth, OverRight, OverLeft, OverBoth, Frame, StrikeUp, StrikeDown, StrikeTwice, Raise, InColor, Highlight, Rectangle, Arrow, Raised, Colored, OnColor}
 use Rattle.latex2mathml_tex_grammar.specs.{Colors.color_of, Lengths.width_of}
-use Rattle.latex2mathml_tex_grammar.specs.Rows.{lone, Operand, row_element}
+use Rattle.latex2mathml_tex_grammar.specs.Rows.{as_base, lone, Operand, row_element}
 use Rattle.latex2mathml_tex_grammar.specs.Rules.{Context, Rule, gives, refuses, takes_if, a_character, a_digit, decimal, after_digits, a_number, a_symbol, begins_none, character_rule, struck_atom, slashed, a_box, a_fraction, meaning_rule, command_rule, rule, with_value, a_bar, a_left_brace, a_right_brace, empty_braces, an_outer_delimiter, has_width, a_line, numbered_style, a_style, an_outlined_fraction, a_general_fraction, a_choice}
 use Rattle.latex2mathml_tex_grammar.specs.Starts.{OperandStart, NoStart, GroupStart, DigitStart, operand_start, start_of_digit, Mark, Prime, Below, Above as AboveMark, LimitsAt, step_of, step_of_mark}
 use Rattle.latex2mathml_tex_grammar.specs.Symbols.{InDisplay, InText, InScript, Ordinary, Relation, Alphabet, Style, Symbol}
@@ -216,8 +217,8 @@ quotient_allowed false above below h k = (h, k)
 
 between_any_allowed : (opening closing : List ℕ) (x : Element) → IsAllowed opening → IsAllowed closing → HasAllowedTexts x → HasAllowedTexts (between_any opening closing x)
 between_any_allowed [] [] x h k i = (i, tt)
-between_any_allowed [] (c ∷ cs) x h k i = fenced_allowed true [] (c ∷ cs) x h k i
-between_any_allowed (c ∷ cs) closing x h k i = fenced_allowed true (c ∷ cs) closing x h k i
+between_any_allowed [] (c ∷ cs) x h k i = fenced_allowed High [] (c ∷ cs) x h k i
+between_any_allowed (c ∷ cs) closing x h k i = fenced_allowed High (c ∷ cs) closing x h k i
 
 outlined_allowed : (o : Outline) (above below : Element) → IsAllowedOutline o → HasAllowedTexts above → HasAllowedTexts below → IsAllowedCore (outlined_fraction o above below)
 outlined_allowed o above below (h, k) i j =
@@ -308,7 +309,7 @@ meaning_rule_allowed place c Middle h = tt
 meaning_rule_allowed place c Right h = tt
 meaning_rule_allowed place c Limits h = tt
 meaning_rule_allowed place c NoLimits h = tt
-meaning_rule_allowed place c (Classed class) h = λ x k. classed_allowed class _ (as_base_allowed c.style class x k)
+meaning_rule_allowed place c (Classed class) h = λ x k. classed_allowed class (as_base c.style class x) (as_base_allowed c.style class x k)
 meaning_rule_allowed place c (Changes change) h = tt
 meaning_rule_allowed place c BeginTable h = λ name. environment_allowed place c name (environment_of name) (environment_passes name)
 meaning_rule_allowed place c EndTable h = tt

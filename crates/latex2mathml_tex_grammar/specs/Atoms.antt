@@ -1,6 +1,6 @@
 -- Atoms, and what each is to those next to it: the space between them, prefix signs, words of upright letters.
 use Rattle.std.specs.Prelude.{Bool, true, false, Option, Some, None, if◌then◌else◌}
-use Rattle.latex2mathml_elements.specs.{Attributes.Prefix, Attributes.Infix, Attributes.Space, Attributes.NoSpace, Attributes.Thick, Attributes.NoSpaceBefore, Attributes.ThickAfter, Element.Element, Element.Mo, Element.token}
+use Rattle.latex2mathml_elements.specs.{Attributes.Form, Attributes.Prefix, Attributes.Infix, Attributes.Space, Attributes.NoSpace, Attributes.Thick, Attributes.NoSpaceBefore, Attributes.ThickAfter, Element.Element, Element.Mo, Element.token}
 use Rattle.latex2mathml_tex_grammar.specs.Symbols.{Class, Ordinary, Operator, Binary, Relation, Opening, Closing, Punctuation, Inner, Style, InScript}
 
 -- what an atom is to its neighbours
@@ -175,9 +175,15 @@ space_as style Binary space = space
 space_as style Relation space = space
 space_as style class space = Some NoSpace
 
+-- the form of such a sign: one that browsers would take for a prefix is between operands, or has no form
+abbrev pub form_as : Class → Option Form → Option Form
+form_as Binary (Some form) = Some Infix
+form_as Relation (Some form) = Some Infix
+form_as class form = None
+
 -- the sign, which does not precede an operand
 abbrev pub lone_sign : Style → Class → Element → Element
-lone_sign style class (token Mo a text) = token Mo (record a { form = None; space = space_as style class a.space }) text
+lone_sign style class (token Mo a text) = token Mo (record a { form = form_as class a.form; space = space_as style class a.space }) text
 lone_sign style class x = x
 
 -- the element of an operand in an atom of this class, where it is one atom of its own class

@@ -18,6 +18,7 @@ pub mod Expanding
 pub mod Expansion
 pub mod ExpansionExamples
 pub mod ExpansionLaws
+pub mod Fences
 pub mod Formulas
 pub mod Laws
 pub mod Lengths

@@ -1,14 +1,14 @@
 -- The atoms of each construct.
 use Rattle.std.specs.Prelude.{ℕ, zero, suc, ◌==◌, ◌||◌, ℤ, pos, Bool, true, false, List, [], ◌∷◌, ◌++◌, map, Option, Some, None, codes, if◌then◌else◌}
 use Rattle.std.specs.{Char.encode_utf8, Option.is_some, Str.encode_utf8_all}
-use Rattle.latex2mathml_elements.specs.Attributes.{Attributes, Side, Above, Below, Form, Prefix, Postfix, Stretch, Stretching, Rigid, Space, NoSpace, Narrow, Thick, Size, Bigger, Boxing, NoWidth, Flat, NoHeight, NoDepth, ByItsWidth, ByHalfItsWidth, Framed, StruckUp, StruckDown, StruckTwice, NullDelimiters, boxed, MathStyle, DisplayStyle, TextStyle, ScriptStyle, plain}
-use Rattle.latex2mathml_elements.specs.Element.{Mi, Mn, Mo, Mrow, Msqrt, Mstyle, Mpadded, Mphantom, Mfrac, Mroot, Msub, Msup, Munder, Mover, Msubsup, Munderover, Element, token, space, rectangle, container, pair, triple, children}
-use Rattle.latex2mathml_elements.specs.Extents.{wide}
+use Rattle.latex2mathml_elements.specs.Attributes.{Attributes, Side, Above, Below, Form, Prefix, Postfix, Stretch, Stretching, Rigid, Space, NoSpace, Narrow, Medium, Thick, ThinAfter, Size, Bigger, Boxing, NoWidth, Flat, NoHeight, NoDepth, ByItsWidth, ByHalfItsWidth, Framed, StruckUp, StruckDown, StruckTwice, NullDelimiters, boxed, MathStyle, DisplayStyle, TextStyle, ScriptStyle, plain}
+use Rattle.latex2mathml_elements.specs.Element.{Mi, Mn, Mo, Msqrt, Mstyle, Mpadded, Mphantom, Mfrac, Mroot, Msub, Msup, Munder, Mover, Msubsup, Munderover, Element, token, space, rectangle, container, pair, triple, children}
 use Rattle.latex2mathml_tex_grammar.specs.{Alphabets.in_alphabet, Rows.Row, Rows.Operand, Rows.lone, Rows.row_element}
 use Rattle.latex2mathml_elements.specs.{Extents.wide, Groups.grouped}
 use Rattle.latex2mathml_tex_grammar.specs.Atoms.{Atom, Kind, SignOf, PlusOrMinus, Plain, UprightLetters, FunctionWord, Blank, Divider, After, Before, Nothing, atom, element_there}
 use Rattle.latex2mathml_tex_grammar.specs.Meaning.{FractionRule, Bar, NoBar, Braced, Bracketed, Bare, LimitPlace, Beside, ByStyle, Movable, Stacked, Box, Phantom, PhantomWidth, PhantomHeight, Smashed, WithoutHeight, WithoutDepth, OverRight, OverLeft, OverBoth, Frame, StrikeUp, StrikeDown, StrikeTwice, Raised, Colored, OnColor}
-use Rattle.latex2mathml_tex_grammar.specs.Widths.{room, room_if}
+use Rattle.latex2mathml_tex_grammar.specs.Fences.{High, fenced, height_if, sized_delimiter}
+use Rattle.latex2mathml_tex_grammar.specs.Widths.{room}
 use Rattle.latex2mathml_tex_grammar.specs.Symbols.{Class, Ordinary, Operator, Binary, Relation, Opening, Closing, Punctuation, Inner, Style, InDisplay, InText, InScript, Alphabet, Upright, Symbol, Letter, UprightLetter, Sign, BigOperator, Integral}
 
 -- an atom, and where its limits are
@@ -157,15 +157,38 @@ abbrev pub is_sign : Element → Bool
 is_sign (token Mo a sign_text) = true
 is_sign x = false
 
--- what an operator is to its neighbours: a sign has a space of its own, and anything else is like the name of a function
-abbrev pub operator_kind : Bool → Kind
-operator_kind true = Plain Operator
-operator_kind false = FunctionWord
+-- the space of a sign that is an atom of this class, and was of the class `own`
+abbrev pub class_space : Class → Class → Option Space → Option Space
+class_space Binary Binary before = before
+class_space Relation Relation before = before
+class_space Binary own before = Some Medium
+class_space Relation own before = Some Thick
+class_space Punctuation own before = Some ThinAfter
+class_space class own before = before
 
--- an operand as an atom of this class; an operator has its limits above and below it in display style
+-- the sign with that space; any other element has none
+abbrev pub spaced_as : Class → Class → Element → Element
+spaced_as class own (token Mo a sign_text) = token Mo (record a { space = class_space class own a.space }) sign_text
+spaced_as class own x = x
+
+-- What an atom of this class is to its neighbours, by whether it is a sign, which has a space of its own. An operator that is none
+-- is like the name of a function.
+abbrev pub classed_kind : Class → Bool → Kind
+classed_kind Operator false = FunctionWord
+classed_kind Binary true = SignOf Binary
+classed_kind Relation true = SignOf Relation
+classed_kind Punctuation true = SignOf Punctuation
+classed_kind class sign = Plain class
+
+-- where the limits of an atom of this class are
+abbrev pub limits_of : Class → LimitPlace
+limits_of Operator = ByStyle
+limits_of class = Beside
+
+-- an operand as an atom of this class
 abbrev pub classed : Class → Operand → Core
-classed Operator x = operator ByStyle (atom (operator_kind (is_sign x.element)) x.high x.element)
-classed class x = core (atom (Plain class) x.high x.element)
+classed class x =
+    operator (limits_of class) (atom (classed_kind class (is_sign x.element)) x.high (spaced_as class x.class x.element))
 
 -- an operand as the name of a function, with limits at this place
 abbrev pub operator_name : LimitPlace → Operand → Core
@@ -283,26 +306,6 @@ abbrev pub in_style : Option Style → Element → Element
 in_style None x = x
 in_style (Some style) x = container Mstyle (style_attributes style) (children (x ∷ []))
 
--- stretched if what is between is high
-abbrev pub stretch_if : Bool → Stretch
-stretch_if true = Stretching
-stretch_if false = Rigid
-
--- no delimiter has no space, where a browser would give it some
-abbrev pub space_if_none : List ℕ → Option Space
-space_if_none [] = Some NoSpace
-space_if_none sign_text = None
-
--- a delimiter by `\left` or `\right`, or none, stretched if what is between is high
-abbrev pub delimiter : Bool → Form → List ℕ → Element
-delimiter high form sign_text =
-    token Mo (record plain { form = Some form; stretch = Some (stretch_if high); space = space_if_none sign_text; boxing = room_if high sign_text }) sign_text
-
--- an element between delimiters, which stretch around what is higher than a letter
-abbrev pub fenced : Bool → List ℕ → List ℕ → Element → Element
-fenced high opening closing inside =
-    container Mrow plain (children (delimiter high Prefix opening ∷ inside ∷ delimiter high Postfix closing ∷ []))
-
 -- Null delimiters are around a fraction that has no others. In a box of its own it is ordinary in Firefox too, which leaves more
 -- space next to a fraction.
 abbrev pub unfenced : Element → Element
@@ -315,9 +318,9 @@ without_bar above below = pair Mfrac (record plain { no_line = true }) above bel
 -- a fraction, and what its rule puts around it
 abbrev pub fraction_element : FractionRule → Element → Element → Element
 fraction_element Bar above below = unfenced (pair Mfrac plain above below)
-fraction_element NoBar above below = fenced true (codes "(") (codes ")") (without_bar above below)
-fraction_element Braced above below = fenced true (codes "{") (codes "}") (without_bar above below)
-fraction_element Bracketed above below = fenced true (codes "[") (codes "]") (without_bar above below)
+fraction_element NoBar above below = fenced High (codes "(") (codes ")") (without_bar above below)
+fraction_element Braced above below = fenced High (codes "{") (codes "}") (without_bar above below)
+fraction_element Bracketed above below = fenced High (codes "[") (codes "]") (without_bar above below)
 fraction_element Bare above below = unfenced (without_bar above below)
 
 -- a fraction in a style of its own, where it has one
@@ -340,7 +343,7 @@ quotient false above below = without_bar above below
 -- an element between delimiters, or between null delimiters if there are none
 abbrev pub between_any : List ℕ → List ℕ → Element → Element
 between_any [] [] x = unfenced x
-between_any opening closing x = fenced true opening closing x
+between_any opening closing x = fenced High opening closing x
 
 -- a fraction that is drawn as this says
 abbrev pub outlined_fraction : Outline → Element → Element → Core
@@ -373,24 +376,11 @@ lowered false xs = map lowered_divider xs
 -- a row between delimiters
 abbrev pub between_delimiters : List ℕ → List ℕ → Row → Core
 between_delimiters opening closing row =
-    core (atom (Plain Inner) row.high (fenced row.high opening closing (row_element (lowered row.high row.elements))))
-
--- the form of a delimiter by `\big` and its like, by its class
-abbrev pub form_of : Class → Option Form
-form_of Opening = Some Prefix
-form_of Closing = Some Postfix
-form_of class = None
-
--- the space around a delimiter by `\big` and its like, by its class
-abbrev pub sized_space : Style → Class → Space
-sized_space InScript class = NoSpace
-sized_space style Relation = Thick
-sized_space style class = NoSpace
+    core (atom (Plain Inner) row.high (fenced (height_if row.high) opening closing (row_element (lowered row.high row.elements))))
 
 -- a delimiter of this size and class
 abbrev pub sized : Style → Size → Class → List ℕ → Core
-sized style size class sign_text =
-    core (atom (Plain class) true (token Mo (record plain { form = form_of class; stretch = Some Stretching; size = Some size; space = Some (sized_space style class); boxing = room size sign_text }) sign_text))
+sized style size class sign_text = core (atom (Plain class) true (sized_delimiter style size class sign_text))
 
 -- Scripts
 

@@ -93,6 +93,11 @@ abbrev pub class_after : List Element → Kind → Class
 class_after [] kind = class_of_kind kind
 class_after xs kind = Ordinary
 
+-- the class of a row of this class and these elements with one more atom; one that joins the last atom changes nothing
+abbrev pub class_with : Joining → Class → List Element → Kind → Class
+class_with Apart class xs kind = class_after xs kind
+class_with joining class xs kind = class
+
 -- the row with an atom after it, in this style
 abbrev pub with_atom : Style → Row → Atom → Row
 with_atom style row x = record {
@@ -100,7 +105,7 @@ with_atom style row x = record {
   before = past row.before x.kind;
   last = x.kind;
   high = row.high || x.high;
-  class = class_after row.elements x.kind;
+  class = class_with (joining row.last x.kind) row.class row.elements x.kind;
   restyled = row.restyled;
   under = row.under;
 }

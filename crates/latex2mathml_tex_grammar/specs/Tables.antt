@@ -1,9 +1,10 @@
 -- Tables: rows of cells. Here what was read last comes first.
 use Rattle.std.specs.Prelude.{ℕ, ℤ, pos, true, List, [], ◌∷◌, reverse, Option, Some, None}
-use Rattle.latex2mathml_elements.specs.Attributes.{Form, Prefix, Postfix, Stretching, plain, MathStyle}
+use Rattle.latex2mathml_elements.specs.Attributes.{plain, MathStyle}
 use Rattle.latex2mathml_elements.specs.{Columns.Alignment, Columns.Continued, Columns.Columns, Columns.column_at, Columns.density_in, Extents.Extent, Struts.strut, Struts.with_strut, Tables.attributes_in, Tables.rows_in}
-use Rattle.latex2mathml_elements.specs.Element.{Mo, Mrow, Element, Rows, container, table, token, children}
-use Rattle.latex2mathml_tex_grammar.specs.{Atoms.Before, Atoms.After, Atoms.Plain, Atoms.atom, Makes.Core, Makes.core, Makes.math_style, Makes.space_if_none, Rows.Row, Rows.empty_row, Rows.lone, Rows.row_element}
+use Rattle.latex2mathml_elements.specs.Element.{Mrow, Element, Rows, container, table, children}
+use Rattle.latex2mathml_tex_grammar.specs.{Atoms.Before, Atoms.After, Atoms.Plain, Atoms.atom, Makes.Core, Makes.core, Makes.math_style, Rows.Row, Rows.empty_row, Rows.lone, Rows.row_element}
+use Rattle.latex2mathml_tex_grammar.specs.Fences.{Height, High, VeryHigh, fenced}
 use Rattle.latex2mathml_tex_grammar.specs.Symbols.{Class, Ordinary, Opening, Inner, Style, InDisplay, InText}
 
 -- What precedes the first atom of a cell: some cells continue something ordinary. Any other cell begins like a formula, as if after
@@ -58,20 +59,15 @@ said_style InText InDisplay = None
 said_style InText InText = None
 said_style style around = Some (math_style style)
 
--- a delimiter of a table, or none; it is mostly so high that it needs all room
-abbrev pub table_delimiter : Form → List ℕ → Element
-table_delimiter form sign_text =
-    token Mo (record plain { form = Some form; stretch = Some Stretching; space = space_if_none sign_text }) sign_text
+-- how high a table of these rows is: one row is mostly no higher than what is between other delimiters
+abbrev pub height_of : List Element → Height
+height_of (row ∷ []) = High
+height_of rows = VeryHigh
 
--- a table between delimiters
-abbrev pub fenced_table : List ℕ → List ℕ → Element → Element
-fenced_table opening closing inside =
-    container Mrow plain (children (table_delimiter Prefix opening ∷ inside ∷ table_delimiter Postfix closing ∷ []))
-
--- an element between delimiters, if there are any
-abbrev pub between_any : Option (List ℕ × List ℕ) → Element → Element
-between_any None x = x
-between_any (Some delimiters) x = fenced_table delimiters.0 delimiters.1 x
+-- an element of this height between delimiters, if there are any
+abbrev pub between_any : Option (List ℕ × List ℕ) → Height → Element → Element
+between_any None height x = x
+between_any (Some delimiters) height x = fenced height delimiters.0 delimiters.1 x
 
 -- the class of a table, which may be between delimiters
 abbrev pub table_class : Option (List ℕ × List ℕ) → Class
@@ -82,4 +78,4 @@ table_class (Some delimiters) = Inner
 abbrev pub a_table : Option (List ℕ × List ℕ) → Columns → Style → Style → Lines → Core
 a_table delimiters columns style around lines =
     core (atom (Plain (table_class delimiters)) true
-    (between_any delimiters (table (attributes_in columns (record plain { style = said_style style around })) (rows_of columns lines))))
+    (between_any delimiters (height_of (lines.last ∷ lines.others)) (table (attributes_in columns (record plain { style = said_style style around })) (rows_of columns lines))))

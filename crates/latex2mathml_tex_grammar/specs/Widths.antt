@@ -1,5 +1,5 @@
 -- How wide the delimiters of TeX's fonts are.
-use Rattle.std.specs.Prelude.{ℕ, ◌==◌, ◌||◌, Bool, true, false, List, [], ◌∷◌, Option, None, Some, option_map, if◌then◌else◌}
+use Rattle.std.specs.Prelude.{ℕ, ◌==◌, ◌||◌, List, [], ◌∷◌, Option, None, Some, option_map, if◌then◌else◌}
 use Rattle.std.specs.Str.{chars}
 use Rattle.latex2mathml_elements.specs.Attributes.{Size, Big, Bigger, VeryBig, Biggest, Boxing, AtMost}
 
@@ -42,8 +42,3 @@ width_in Biggest w = w.biggest
 -- a delimiter of this size has no more room than in TeX
 abbrev pub room : Size → List ℕ → Option Boxing
 room size sign_text = option_map (λ w. AtMost (width_in size w)) (widths_in (chars sign_text))
-
--- what stretches, if so, has room for a delimiter of the usual height
-abbrev pub room_if : Bool → List ℕ → Option Boxing
-room_if true sign_text = room Bigger sign_text
-room_if false sign_text = None

@@ -5,8 +5,9 @@ ghost use Rattle.latex2mathml_builder.specs.Built.{elements_in};
 use latex2mathml_attributes::attributes::{
     Attributes, Form, MathStyle, Side, Size, Space, Stretch,
 };
-use latex2mathml_attributes::columns::{Alignment, Columns, Density, ListedColumn};
+use latex2mathml_attributes::columns::{Alignment, Columns, Density};
 use latex2mathml_attributes::line::Line;
+use latex2mathml_attributes::listed::ListedColumn;
 use latex2mathml_attributes::tag::{Container, Pair, Token, Triple};
 use latex2mathml_builder::builder::Builder;
 use latex2mathml_builder::works::Works;

@@ -19,7 +19,7 @@ use latex2mathml_tex_atoms::boxes::put_in_box;
 use latex2mathml_tex_atoms::fractions::put_fraction;
 use latex2mathml_tex_atoms::outlines::put_outlined;
 use latex2mathml_tex_atoms::shapes::{
-    is_sign, make_base, put_accent, put_brace, put_stack, with_atom,
+    is_sign, make_base, put_accent, put_brace, put_stack, space_sign, with_atom,
 };
 use latex2mathml_tex_commands::meaning::{Class, LimitPlace, Style};
 use latex2mathml_tex_units::error::TexErrorKind;
@@ -194,6 +194,7 @@ impl<'a> Parser<'a> {
             Last::Classed(class, style) => {
                 make_base(&mut self.builder, style, class, operand.class);
                 let is_sign = is_sign(&self.builder);
+                space_sign(&mut self.builder, class, operand.class);
                 *next = State::Core(classed(class, is_sign, operand));
                 Ok(())
             }
@@ -292,12 +293,17 @@ fn depth_in(style: Style) -> usize
 /// Returns an operand, which may be a sign, as an atom of this class.
 fn classed(class: Class, is_sign: bool, operand: Operand) -> Core
     ensures { (x : Element) → is_sign ≡ Makes.is_sign x
-        → core_with result x ≡ Makes.classed (class_of class) (operand_with operand x) }
+        → core_with result (Makes.spaced_as (class_of class) (class_of operand.class) x)
+        ≡ Makes.classed (class_of class) (operand_with operand x) }
 {
-    let (kind, limits) = match class {
-        Class::Operator if !is_sign => (Kind::FunctionWord, LimitPlace::ByStyle),
-        Class::Operator => (Kind::Plain(Class::Operator), LimitPlace::ByStyle),
-        _ => (Kind::Plain(class), LimitPlace::Beside),
+    let kind = match class {
+        Class::Operator if !is_sign => Kind::FunctionWord,
+        Class::Binary | Class::Relation | Class::Punctuation if is_sign => Kind::SignOf(class),
+        _ => Kind::Plain(class),
+    };
+    let limits = match class {
+        Class::Operator => LimitPlace::ByStyle,
+        _ => LimitPlace::Beside,
     };
     Core {
         kind,

@@ -13,8 +13,9 @@ ghost use Rattle.latex2mathml_tex.specs.Steps.{BeginsIn, CanBegin, Advances, Lea
 
 use crate::parse::frames::TableKind;
 use crate::parse::{Parser, State};
-use latex2mathml_attributes::columns::{Alignment, Columns, Density, ListedColumn};
+use latex2mathml_attributes::columns::{Alignment, Columns, Density};
 use latex2mathml_attributes::line::Line;
+use latex2mathml_attributes::listed::ListedColumn;
 use latex2mathml_tex_atoms::atoms::Context;
 use latex2mathml_tex_units::environments::{Bracket, Environment, Layout};
 use latex2mathml_tex_units::error::TexErrorKind;

@@ -16,7 +16,7 @@ use crate::parse::{Parser, State};
 use latex2mathml_attributes::attributes::Attributes;
 use latex2mathml_attributes::tag::Container;
 use latex2mathml_tex_atoms::atoms::{Context, Core, Kind, Operand, Row, Scripts, Words};
-use latex2mathml_tex_atoms::delimiters::{enclose, lower_dividers, put_divider};
+use latex2mathml_tex_atoms::delimiters::{Height, enclose, lower_dividers, put_divider};
 use latex2mathml_tex_atoms::rests::{divide, finish, recolor, restyle};
 use latex2mathml_tex_atoms::shapes::{isolate, put_braced, put_row, with_atom};
 use latex2mathml_tex_commands::commands;
@@ -401,7 +401,7 @@ impl<'a> Parser<'a> {
             lower_dividers(&mut self.builder, row.count);
         }
         put_row(&mut self.builder, row.count)?;
-        enclose(&mut self.builder, row.high, opening, closing)?;
+        enclose(&mut self.builder, Height::of(row.high), opening, closing)?;
         *next = State::Core(Core::new(Kind::Plain(Class::Inner), row.high));
         Ok(())
     }

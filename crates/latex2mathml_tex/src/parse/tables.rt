@@ -1,16 +1,17 @@
 //! Tables: how each cell begins and ends, and what is made of the cells.
-ghost use Rattle.std.specs.Prelude.{◌≡◌, ◌+◌, ◌∷◌, ◌<◌, ◌≤◌, IfOk, MatchBool, OnOk, drop, length, option_map, reverse, string_bytes, take};
+ghost use Rattle.std.specs.Prelude.{◌≡◌, ◌+◌, ◌∷◌, ◌<◌, ◌≤◌, ◌==◌, if◌then◌else◌, IfOk, MatchBool, OnOk, drop, length, option_map, reverse, string_bytes, take};
 ghost use Rattle.latex2mathml_builder.specs.{Built.elements_in, Stacks.table_with};
 ghost use Rattle.latex2mathml_attributes.specs.{Arounds.extent_of, Columns.columns_of, Lines.line_of};
 ghost use Rattle.latex2mathml_elements.specs.{Attributes.styled};
 ghost use Rattle.latex2mathml_attributes.specs.Names.{math_style_of};
+ghost use Rattle.latex2mathml_tex_grammar.specs.Fences;
 ghost use Rattle.latex2mathml_tex_grammar.specs.Tables;
 ghost use Rattle.latex2mathml_tex_grammar.specs.{Meaning.Substack, RowLines.lined, Starts.cell_end, Tables.row_of, Rows.lone, Rows.row_element};
 ghost use Rattle.latex2mathml_tex_grammar.specs.Rules.{meaning_rule, rows_of_text};
 ghost use Rattle.latex2mathml_tex_commands.specs.Meanings.{class_of, style_of};
 ghost use Rattle.latex2mathml_tex_units.specs.{Scans.spot_of, Taking.piece_of};
 ghost use Rattle.latex2mathml_tex.specs.Frames.{context_at};
-ghost use Rattle.latex2mathml_tex_atoms.specs.Models.{context_of, kind_of};
+ghost use Rattle.latex2mathml_tex_atoms.specs.{Models.context_of, Models.kind_of, Shapes.height_of};
 ghost use Rattle.latex2mathml_tex_units.specs.Environments.{delimiter_texts};
 ghost use Rattle.latex2mathml_tex.specs.Tables.{cell_end_of, line_count};
 ghost use Rattle.latex2mathml_tex.specs.Steps.{BeginsIn, BeginsTable, CanBegin, CanMake, Begins, ClosesCell, EndsCells, EndsRows, GoesOnTable, Advances, LeadsOn, MakesTable, TookText, core_made, level};
@@ -25,7 +26,7 @@ use latex2mathml_attributes::tag::Container;
 use latex2mathml_builder::builder::Builder;
 use latex2mathml_tex_atoms::atoms::{Context, Core, Kind, Row};
 use latex2mathml_tex_atoms::boxes::put_strut;
-use latex2mathml_tex_atoms::delimiters::enclose_table;
+use latex2mathml_tex_atoms::delimiters::{Height, enclose};
 use latex2mathml_tex_atoms::shapes::put_braced;
 use latex2mathml_tex_commands::meaning::{Class, Style};
 use latex2mathml_tex_units::environments::Environment;
@@ -308,15 +309,27 @@ fn put_table(
     requires all { rows ≤ length (elements_in builder.old) }
     ensures { OnOk result (elements_in builder.new
         ≡ Tables.between_any (option_map delimiter_texts delimiters)
+        (Tables.height_of (take rows (elements_in builder.old)))
         (table_with (styled (option_map math_style_of style)) (columns_of columns)
         (reverse (take rows (elements_in builder.old))))
         ∷ drop rows (elements_in builder.old)) }
 {
     builder.table(style, columns, rows)?;
     if let Some((opening, closing)) = delimiters {
-        return enclose_table(builder, opening, closing);
+        return enclose(builder, table_height(rows), opening, closing);
     }
     Ok(())
+}
+
+/// Returns how high a table of this many rows is.
+fn table_height(rows: usize) -> Height
+    ensures { height_of result ≡ if rows == 1 then Fences.High else Fences.VeryHigh }
+{
+    if rows == 1 {
+        Height::High
+    } else {
+        Height::VeryHigh
+    }
 }
 
 /// Whether a last row does not count: it is one empty cell, and other rows come before it.

@@ -17,7 +17,7 @@ returns-in-Mo c =
     let style = style_of c.args.style in
     let class = class_of c.args.class in
     c.give.ensures.elements
-    ∙ given_changed (Atoms.lone_sign style class) (token_of c.in-Some.tag) (attributes_of c.in-Some.attributes) _ (λ text. rw (c.in-Mo.is, c.space_as.ensures)) 0 (elements_in c.args.builder.now) c.in-Some.ensures
+    ∙ given_changed (Atoms.lone_sign style class) (token_of c.in-Some.tag) (attributes_of c.in-Some.attributes) _ (λ text. rw (c.in-Mo.is, c.form_as.ensures, c.space_as.ensures)) 0 (elements_in c.args.builder.now) c.in-Some.ensures
 
 pub returns-in_default-tag : goal.returns-in_default-tag
 returns-in_default-tag c =

@@ -2,7 +2,7 @@ use Rattle.std.proofs.Common.{rules, ◌≡◌, ◌∙◌, ◌||◌, false, ap, 
 use Rattle.latex2mathml_builder.specs.Built.{elements_in}
 use Rattle.latex2mathml_tex_grammar.specs.Atoms
 use Rattle.latex2mathml_tex_grammar.specs.Rows
-use Rattle.latex2mathml_tex_commands.specs.Meanings.{style_of}
+use Rattle.latex2mathml_tex_commands.specs.Meanings.{class_of, style_of}
 use Rattle.latex2mathml_tex_atoms.specs.Models.{before_of, kind_of, restyled_with, settled_count, top, under_with}
 use Rattle.latex2mathml_tex_atoms.proofs.Shaping.{put_high, same_below, same_far_below, same_row}
 use Rattle.latex2mathml_tex_atoms.proofs.shapes.with_atom.Goals as goal
@@ -23,6 +23,6 @@ returns-clause-row c =
     c.past.ensures
     refl
     high
-    (c.class_after.ensures xs c.requires)
+    (c.class_with.ensures xs c.requires ∙ ap (λ b. Rows.class_with b (class_of row.class) below kind) c.joining-joining.ensures)
     (ap (restyled_with row.restyled row.settled) (same_below row.count c.in_ok-count.count xs (elements_in c.put_adapted.new.builder) c.in_ok-count.ensures.below))
     (ap (under_with row.under) (same_far_below row.count c.in_ok-count.count xs (elements_in c.put_adapted.new.builder) c.in_ok-count.ensures.below (settled_count row.restyled row.settled)))

@@ -11,7 +11,7 @@ returns-in-Listed c =
     let self = c.args.self.now in
     let cs = columns_in self.listed in
     let room : c.args.place < length cs = omega (arith, c.if-place-lt-MOST_COLUMNS.true, length_in self.listed, c.well_formed) in
-    c.behind.ensures
+    c.listed.ensures
     ∙ ap (λ l. behind_line l (listed_of c.listed_at.result)) c.line_before.ensures
     ∙ ap (behind_line (line_before (line_of self.before) c.args.place)) c.listed_at.ensures
     ∙ listed_there (line_of self.before) cs self.len c.args.place (unlined Centered) c.if-place-self.true room
@@ -27,4 +27,4 @@ returns-in-Listed-2 c =
       | then-place-lt-MOST_COLUMNS+else-place-self w ↦ none_behind (line_of self.before) cs self.len c.args.place (omega (arith, w.if-place-self.false))
       | else-place-lt-MOST_COLUMNS w ↦ none_beyond (line_of self.before) cs self.len c.args.place (omega (arith, w.if-place-lt-MOST_COLUMNS.false, length_in self.listed, c.well_formed))
     ] in
-    c.behind-in-Listed-2.ensures ∙ sym none
+    c.listed-in-Listed-2.ensures ∙ sym none

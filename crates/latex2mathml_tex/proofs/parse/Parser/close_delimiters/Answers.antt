@@ -1,6 +1,7 @@
 use Rattle.std.proofs.Common.{◌≡◌, ◌∙◌, ◌+◌, false, length, ap, arith, refl, subst, sym, true}
 use Rattle.latex2mathml_builder.specs.Built.{elements_in}
 use Rattle.latex2mathml_tex_commands.specs.Delimiters.{delimiter_text}
+use Rattle.latex2mathml_tex_atoms.specs.Shapes.{height_of}
 use Rattle.latex2mathml_tex.specs.Steps.{Follows, Holds, elements_of, to_do}
 use Rattle.latex2mathml_tex.specs.declared.parse.State.TheVariants as state
 use Rattle.latex2mathml_tex.proofs.Endings.{Lowered, all_lowered, enclosed, enclosed_step, is_high, is_low, none_lowered, not_closed, refused_step}
@@ -37,13 +38,13 @@ returns-clause-holds c = λ s g.
           let low = all_lowered c.args.row.high c.args.row.count xs ys high w.lower_dividers.ensures in
           let put = c.in_ok-put_row.ensures ∙ rw w.self-is refl in
           subst (λ q. Holds s (record q { builder = c.enclose.new.builder }) (state.Core c.new.result)) (sym w.self-is)
-          (enclosed s p c.args.opening c.args.row c.take_delimiter.new.self c.enclose.new.builder c.new.result (delimiter_text c.in-Some.closing) ys (elements_in c.put_row.new.builder) c.in-Some.ensures.next low put c.in_ok-enclose.ensures (λ x. rw c.new.ensures refl) g))
+          (enclosed s p c.args.opening c.args.row c.take_delimiter.new.self c.enclose.new.builder c.new.result (delimiter_text c.in-Some.closing) ys (elements_in c.put_row.new.builder) (height_of c.of.result) c.of.ensures c.in-Some.ensures.next low put c.in_ok-enclose.ensures (λ x. rw c.new.ensures refl) g))
       | else-not-row w ↦ (
           let high : c.args.row.high ≡ true = is_high c.args.row.high w.if-not-row.false in
           let low = none_lowered c.args.row.high c.args.row.count xs high in
           let put = c.in_ok-put_row.ensures ∙ rw w.self-is refl in
           subst (λ q. Holds s (record q { builder = c.enclose.new.builder }) (state.Core c.new.result)) (sym w.self-is)
-          (enclosed s p c.args.opening c.args.row c.take_delimiter.new.self c.enclose.new.builder c.new.result (delimiter_text c.in-Some.closing) xs (elements_in c.put_row.new.builder) c.in-Some.ensures.next low put c.in_ok-enclose.ensures (λ x. rw c.new.ensures refl) g))
+          (enclosed s p c.args.opening c.args.row c.take_delimiter.new.self c.enclose.new.builder c.new.result (delimiter_text c.in-Some.closing) xs (elements_in c.put_row.new.builder) (height_of c.of.result) c.of.ensures c.in-Some.ensures.next low put c.in_ok-enclose.ensures (λ x. rw c.new.ensures refl) g))
     ]
 
 pub returns-clause-step : goal.returns-clause-step

@@ -101,7 +101,7 @@ pub returns-in-Classed-clause-holds : goal.returns-in-Classed-clause-holds
 returns-in-Classed-clause-holds c = λ s g.
     let p = c.args.self.now in
     let some : 1 ≤ length (elements_of p) = enough 1 p (rw c.in-Classed.is at c.requires.elements) in
-    classed_put p c.args.last c.args.operand s c.make_base.new.builder c.in-Classed.class c.in-Classed.style c.classed.result c.in-Classed.is some c.make_base.ensures.elements c.is_sign-is_sign.result c.is_sign-is_sign.ensures c.classed.ensures g
+    classed_put p c.args.last c.args.operand s c.make_base.new.builder c.space_sign.new.builder c.in-Classed.class c.in-Classed.style c.classed.result c.in-Classed.is some c.make_base.ensures.elements c.is_sign-is_sign.result c.is_sign-is_sign.ensures c.space_sign.ensures.elements c.classed.ensures g
 
 pub returns-in_ok-put_fraction-in-Fraction : goal.returns-in_ok-put_fraction-in-Fraction
 returns-in_ok-put_fraction-in-Fraction c =

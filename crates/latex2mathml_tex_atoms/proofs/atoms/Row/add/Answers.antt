@@ -1,8 +1,8 @@
-use Rattle.std.proofs.Common.{rules, ◌≡◌, ◌∙◌, ◌+◌, ◌==◌, ◌||◌, false, suc, ap, arith, drop, refl, take}
+use Rattle.std.proofs.Common.{rules, ◌≡◌, ◌∙◌, ◌+◌, ◌==◌, ◌||◌, false, suc, ap, arith, drop, refl, sym, take}
 use Rattle.latex2mathml_elements.specs.Element.{Element}
 use Rattle.latex2mathml_tex_grammar.specs.Atoms
 use Rattle.latex2mathml_tex_grammar.specs.Rows
-use Rattle.latex2mathml_tex_commands.specs.Meanings.{style_of}
+use Rattle.latex2mathml_tex_commands.specs.Meanings.{class_of, style_of}
 use Rattle.latex2mathml_tex_atoms.specs.Models.{before_of, kind_of, restyled_with, settled_count, top, under_with}
 use Rattle.latex2mathml_tex_atoms.proofs.Shaping.{put_as_it_is, put_high, same_below, same_far_below, same_row}
 use Rattle.latex2mathml_tex_atoms.proofs.atoms.Row.add.Goals as goal
@@ -27,7 +27,7 @@ returns-clause-added c = λ t.
           c.past-self.ensures
           refl
           high
-          (c.class_after-self.ensures xs enough)
+          (c.class_after-self.ensures xs enough ∙ ap (λ b. Rows.class_with b (class_of row.class) (take row.count (drop 1 xs)) kind) (sym apart))
           (ap (restyled_with row.restyled row.settled) (same_below row.count c.in-Some.count xs xs (ap (λ n. drop n xs) longer)))
           (ap (under_with row.under) (same_far_below row.count c.in-Some.count xs xs (ap (λ n. drop n xs) longer) (settled_count row.restyled row.settled)));
       count = longer;
