@@ -19,8 +19,8 @@ delimiter_element a text = token Mo a text
 
 abbrev pub height_of : Height → Fences.Height
 height_of height.Low = Fences.Low
-height_of height.High = Fences.High
-height_of height.VeryHigh = Fences.VeryHigh
+height_of height.Tall = Fences.Tall
+height_of height.VeryTall = Fences.VeryTall
 
 -- the widths of a delimiter
 abbrev pub widths_with : CodeWidths → Widths

@@ -20,20 +20,20 @@ use std::alloc::AllocError;
 /// How high what is between delimiters is.
 #[derive(Clone, Copy)]
 pub enum Height {
-    /// No higher than a letter: they do not stretch.
+    /// No taller than a letter: they do not stretch.
     Low,
-    /// Higher: they stretch, and have no more room than in TeX.
-    High,
-    /// Mostly so high that they need all room.
-    VeryHigh,
+    /// Taller: they stretch, and have no more room than in TeX.
+    Tall,
+    /// Mostly so tall that they need all room.
+    VeryTall,
 }
 
 impl Height {
-    /// Returns the height of something that may be higher than a letter.
+    /// Returns the height of something that may be taller than a letter.
     pub fn of(high: bool) -> Height
         ensures { height_of result ≡ Fences.height_if high }
     {
-        if high { Height::High } else { Height::Low }
+        if high { Height::Tall } else { Height::Low }
     }
 
     /// Returns whether delimiters stretch around it.
@@ -42,7 +42,7 @@ impl Height {
     {
         match self {
             Height::Low => Stretch::Rigid,
-            Height::High | Height::VeryHigh => Stretch::Stretching,
+            Height::Tall | Height::VeryTall => Stretch::Stretching,
         }
     }
 
@@ -52,8 +52,8 @@ impl Height {
             ≡ Fences.room_around (height_of self) (delimiter_text delimiter) }
     {
         match self {
-            Height::High => room(Size::Bigger, delimiter),
-            Height::Low | Height::VeryHigh => None,
+            Height::Tall => room(Size::Bigger, delimiter),
+            Height::Low | Height::VeryTall => None,
         }
     }
 }

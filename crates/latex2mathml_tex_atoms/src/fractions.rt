@@ -80,12 +80,12 @@ fn put_quotient(builder: &mut Builder, rule: FractionRule) -> Result<(), AllocEr
 fn put_between(builder: &mut Builder, opening: char, closing: char) -> Result<(), AllocError>
     requires { 2 ≤ length (elements_in builder.old) }
     ensures { OnOk result (elements_in builder.new
-        ≡ Fences.fenced Fences.High (delimiter_text (Some opening)) (delimiter_text (Some closing))
+        ≡ Fences.fenced Fences.Tall (delimiter_text (Some opening)) (delimiter_text (Some closing))
         (Makes.without_bar (top (drop 1 (elements_in builder.old)))
         (top (elements_in builder.old))) ∷ drop 2 (elements_in builder.old)) }
 {
     put_without_bar(builder)?;
-    enclose(builder, Height::High, Some(opening), Some(closing))
+    enclose(builder, Height::Tall, Some(opening), Some(closing))
 }
 
 /// Puts null delimiters, which are space, around the top element.

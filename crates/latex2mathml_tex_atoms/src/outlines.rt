@@ -77,5 +77,5 @@ fn put_between_any(
     if opening.is_none() && closing.is_none() {
         return put_null_delimiters(builder);
     }
-    enclose(builder, Height::High, opening, closing)
+    enclose(builder, Height::Tall, opening, closing)
 }

@@ -5,7 +5,7 @@ use Rattle.latex2mathml_elements.specs.{Element.Element, Element.token, Element.
 use Rattle.latex2mathml_elements.specs.Characters.{is_forbidden, IsAllowed, HasAllowedTexts}
 use Rattle.latex2mathml_elements.proofs.{Characters.allowed_both, Characters.allowed_char, Characters.allowed_plain, Plain.IsPlain}
 use Rattle.latex2mathml_tex_grammar.specs.{Commands.meaning_of, Commands.symbol_of, Delimiters.entry_of_name, Delimiters.negated_of, Delimiters.delimiter_of, TextCommands.text_accents, TextCommands.text_commands, Dots.centered_dots, Dots.low_dots}
-use Rattle.latex2mathml_tex_grammar.specs.Fences.{High}
+use Rattle.latex2mathml_tex_grammar.specs.Fences.{Tall}
 use Rattle.latex2mathml_tex_grammar.specs.Makes.{Core, core, Scripts, letter, symbol, spacing, struck, text, in_box, raised_by, black, arrow, Outline, quotient, between_any, outlined_fraction, choice}
 use Rattle.latex2mathml_tex_grammar.specs.Refusal.{Refusal, OutsideTable, MisplacedCharacter, CharacterInWords, refusal_at}
 use Rattle.latex2mathml_tex_grammar.specs.Meaning.{Meaning, Shows, FunctionName, Dots, Spacing, Styled, Words as TakesWordsIn, Fraction, Root, Accent, Brace, Stack, StackedRelation, OperatorName, Negation, Slash, Sized, Left, Middle, Right, Limits, NoLimits, Classed, Changes, ToAlphabet, ToStyle, Divides, ToColor, BeginTable, EndTable, LineBreak, Substack, Skip, SkipInBraces, Boxed, Smash, ContinuedFraction, GeneralFraction, Choice, Bar, FractionRule, Box, Phantom, PhantomWidth, PhantomHeight, Smashed, WithoutHeight, WithoutDepth, OverRight, OverLeft, OverBoth, Frame, StrikeUp, StrikeDown, StrikeTwice, Raise, InColor, Highlight, Rectangle, Arrow, Raised, Colored, OnColor}
@@ -217,8 +217,8 @@ quotient_allowed false above below h k = (h, k)
 
 between_any_allowed : (opening closing : List ℕ) (x : Element) → IsAllowed opening → IsAllowed closing → HasAllowedTexts x → HasAllowedTexts (between_any opening closing x)
 between_any_allowed [] [] x h k i = (i, tt)
-between_any_allowed [] (c ∷ cs) x h k i = fenced_allowed High [] (c ∷ cs) x h k i
-between_any_allowed (c ∷ cs) closing x h k i = fenced_allowed High (c ∷ cs) closing x h k i
+between_any_allowed [] (c ∷ cs) x h k i = fenced_allowed Tall [] (c ∷ cs) x h k i
+between_any_allowed (c ∷ cs) closing x h k i = fenced_allowed Tall (c ∷ cs) closing x h k i
 
 outlined_allowed : (o : Outline) (above below : Element) → IsAllowedOutline o → HasAllowedTexts above → HasAllowedTexts below → IsAllowedCore (outlined_fraction o above below)
 outlined_allowed o above below (h, k) i j =

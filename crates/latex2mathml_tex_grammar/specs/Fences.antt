@@ -8,27 +8,27 @@ use Rattle.latex2mathml_tex_grammar.specs.Widths.{room}
 
 -- how high what is between delimiters is
 pub data Height : Type 0 where
-  -- no higher than a letter: they do not stretch
+  -- no taller than a letter: they do not stretch
   Low : Height
-  -- higher: they stretch, and have no more room than in TeX
-  High : Height
-  -- mostly so high that they need all room
-  VeryHigh : Height
+  -- taller: they stretch, and have no more room than in TeX
+  Tall : Height
+  -- mostly so tall that they need all room
+  VeryTall : Height
 
--- something may be higher than a letter, or is not
+-- what may be taller than a letter, and what is not
 abbrev pub height_if : Bool → Height
-height_if true = High
+height_if true = Tall
 height_if false = Low
 
 -- whether delimiters stretch around something of this height
 abbrev pub stretch_around : Height → Stretch
 stretch_around Low = Rigid
-stretch_around High = Stretching
-stretch_around VeryHigh = Stretching
+stretch_around Tall = Stretching
+stretch_around VeryTall = Stretching
 
 -- how wide a delimiter is at most around something of this height
 abbrev pub room_around : Height → List ℕ → Option Boxing
-room_around High sign_text = room Bigger sign_text
+room_around Tall sign_text = room Bigger sign_text
 room_around height sign_text = None
 
 -- the delimiters that browsers know as opening ones

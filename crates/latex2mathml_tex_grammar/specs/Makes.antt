@@ -7,7 +7,7 @@ use Rattle.latex2mathml_tex_grammar.specs.{Alphabets.in_alphabet, Rows.Row, Rows
 use Rattle.latex2mathml_elements.specs.{Extents.wide, Groups.grouped}
 use Rattle.latex2mathml_tex_grammar.specs.Atoms.{Atom, Kind, SignOf, PlusOrMinus, Plain, UprightLetters, FunctionWord, Blank, Divider, After, Before, Nothing, atom, element_there}
 use Rattle.latex2mathml_tex_grammar.specs.Meaning.{FractionRule, Bar, NoBar, Braced, Bracketed, Bare, LimitPlace, Beside, ByStyle, Movable, Stacked, Box, Phantom, PhantomWidth, PhantomHeight, Smashed, WithoutHeight, WithoutDepth, OverRight, OverLeft, OverBoth, Frame, StrikeUp, StrikeDown, StrikeTwice, Raised, Colored, OnColor}
-use Rattle.latex2mathml_tex_grammar.specs.Fences.{High, fenced, height_if, sized_delimiter}
+use Rattle.latex2mathml_tex_grammar.specs.Fences.{Tall, fenced, height_if, sized_delimiter}
 use Rattle.latex2mathml_tex_grammar.specs.Widths.{room}
 use Rattle.latex2mathml_tex_grammar.specs.Symbols.{Class, Ordinary, Operator, Binary, Relation, Opening, Closing, Punctuation, Inner, Style, InDisplay, InText, InScript, Alphabet, Upright, Symbol, Letter, UprightLetter, Sign, BigOperator, Integral}
 
@@ -318,9 +318,9 @@ without_bar above below = pair Mfrac (record plain { no_line = true }) above bel
 -- a fraction, and what its rule puts around it
 abbrev pub fraction_element : FractionRule → Element → Element → Element
 fraction_element Bar above below = unfenced (pair Mfrac plain above below)
-fraction_element NoBar above below = fenced High (codes "(") (codes ")") (without_bar above below)
-fraction_element Braced above below = fenced High (codes "{") (codes "}") (without_bar above below)
-fraction_element Bracketed above below = fenced High (codes "[") (codes "]") (without_bar above below)
+fraction_element NoBar above below = fenced Tall (codes "(") (codes ")") (without_bar above below)
+fraction_element Braced above below = fenced Tall (codes "{") (codes "}") (without_bar above below)
+fraction_element Bracketed above below = fenced Tall (codes "[") (codes "]") (without_bar above below)
 fraction_element Bare above below = unfenced (without_bar above below)
 
 -- a fraction in a style of its own, where it has one
@@ -343,7 +343,7 @@ quotient false above below = without_bar above below
 -- an element between delimiters, or between null delimiters if there are none
 abbrev pub between_any : List ℕ → List ℕ → Element → Element
 between_any [] [] x = unfenced x
-between_any opening closing x = fenced High opening closing x
+between_any opening closing x = fenced Tall opening closing x
 
 -- a fraction that is drawn as this says
 abbrev pub outlined_fraction : Outline → Element → Element → Core

@@ -323,12 +323,12 @@ fn put_table(
 
 /// Returns how high a table of this many rows is.
 fn table_height(rows: usize) -> Height
-    ensures { height_of result ≡ if rows == 1 then Fences.High else Fences.VeryHigh }
+    ensures { height_of result ≡ if rows == 1 then Fences.Tall else Fences.VeryTall }
 {
     if rows == 1 {
-        Height::High
+        Height::Tall
     } else {
-        Height::VeryHigh
+        Height::VeryTall
     }
 }
 

@@ -13,7 +13,7 @@ returns c =
     let opening = c.args.opening in
     let closing = c.args.closing in
     let x = top (elements_in c.args.builder.now) in
-    let is : Makes.between_any (delimiter_text opening) (delimiter_text closing) x ≡ Fences.fenced Fences.High (delimiter_text opening) (delimiter_text closing) x = elim c.else-is_none.branch [
+    let is : Makes.between_any (delimiter_text opening) (delimiter_text closing) x ≡ Fences.fenced Fences.Tall (delimiter_text opening) (delimiter_text closing) x = elim c.else-is_none.branch [
       | else-is_none-via-then-is_none+else-is_none-2 w ↦ between_second opening closing x (λ e. cc (rw (w.if-is_none-2.false, e) at w.is_none-then-is_none.ensures))
       | else-is_none-via-else-is_none w ↦ between_first opening closing x (λ e. cc (rw (w.if-is_none.false, e) at c.is_none.ensures))
     ] in
