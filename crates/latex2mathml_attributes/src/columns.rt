@@ -25,7 +25,7 @@ pub enum Alignment {
     Continued,
 }
 
-/// How far apart the rows of a table are, and what is in them.
+/// How dense a table is: how far apart its rows and its columns are.
 #[derive(Debug, Clone, Copy)]
 pub enum Density {
     /// As in `smallmatrix`.
@@ -62,8 +62,8 @@ pub struct Columns {
     kind: Kind,
     /// What is drawn before the first listed column.
     before: Line,
-    /// The numbers of the listed columns, in an array, since parts are copied, and a list that allocates cannot be. A byte has
-    /// that of a column and, in its upper half, that of the column which is sixteen columns later.
+    /// The numbers of the listed columns: the lower half of each byte has that of a column, and the upper half that of the column
+    /// which is sixteen columns later. It is an array, since columns are copied, and a list that allocates cannot be.
     listed: [u8; 16],
     len: u8,
 }

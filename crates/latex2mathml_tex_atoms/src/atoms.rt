@@ -78,7 +78,7 @@ impl Kind {
         matches!(self, Kind::SignOf(Class::Relation))
     }
 
-    /// Whether a browser leaves a space around the element of the atom.
+    /// Whether the element of the atom loses its space where nothing is next to it.
     pub(crate) fn is_spaced(self) -> bool
         ensures { result ≡ Rows.is_spaced (kind_of self) }
     {

@@ -22,7 +22,7 @@ use std::alloc::AllocError;
 pub enum Height {
     /// No taller than a letter: they do not stretch.
     Low,
-    /// Taller: they stretch, and have no more room than in TeX.
+    /// Taller: they stretch, and have no more room than TeX's `\Big`.
     Tall,
     /// Mostly so tall that they need all room.
     VeryTall,
@@ -46,7 +46,7 @@ impl Height {
         }
     }
 
-    /// Returns how wide a delimiter is at most around it, in thousandths of an em, if a browser may leave more room for it.
+    /// Returns how wide a delimiter is at most around it, in thousandths of an em, if that is limited.
     fn room(self, delimiter: Option<char>) -> Option<u16>
         ensures { option_map AtMost result
             ≡ Fences.room_around (height_of self) (delimiter_text delimiter) }

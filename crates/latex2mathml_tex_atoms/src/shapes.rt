@@ -33,7 +33,7 @@ pub fn put_row(builder: &mut Builder, count: usize) -> Result<(), AllocError>
     builder.container(Container::Mrow, Attributes::plain(), count)
 }
 
-/// Removes the space around a sign that is all of a row in braces, or of a formula. The last atom of the row is of this kind.
+/// Removes the space around a sign that is all of a row in braces, a cell or a formula. The last atom of the row is of this kind.
 pub fn isolate(builder: &mut Builder, count: usize, last: Kind)
     requires { count ≤ length (elements_in builder.old) }
     ensures row { take count (elements_in builder.new)

@@ -32,21 +32,22 @@ pub(crate) fn is_put_as_it_is(style: Style, first: bool, before: Before, kind: K
         Kind::Plain(Class::Operator) | Kind::SignOf(Class::Operator) => !before.leads_operator(),
         Kind::Plain(_) => true,
         Kind::SignOf(Class::Relation) => keeps_space(style) && !before.leads_relation(),
-        Kind::SignOf(Class::Binary) => {
-            keeps_space(style) && (!before.begins_operand() || begins_group(first, before))
-        }
+        Kind::SignOf(Class::Binary) => keeps_space(style) && !is_ordinary(first, before),
         Kind::SignOf(_) => keeps_space(style),
         Kind::PlusOrMinus => keeps_space(style) && !first && !before.begins_operand(),
         Kind::UprightLetters | Kind::FunctionWord | Kind::Divider | Kind::Blank => false,
     }
 }
 
-/// Whether an atom begins a group, which may be an operand.
+/// Whether a binary sign is ordinary, as it is where no binary operator can be, unless it begins a group.
 #[inline(always)]
-fn begins_group(first: bool, before: Before) -> bool
-    ensures { result ≡ Atoms.begins_group first (before_of before) }
+fn is_ordinary(first: bool, before: Before) -> bool
+    ensures { result ≡ Atoms.is_ordinary first (before_of before) }
 {
-    first && matches!(before, Before::Nothing)
+    match before {
+        Before::Nothing => !first,
+        _ => before.begins_operand(),
+    }
 }
 
 /// Whether signs keep the space around them.
@@ -101,11 +102,7 @@ fn adapt_sign(
         (Atoms.SignOf (class_of class))) depth builder.old builder.new }
 {
     match class {
-        Class::Binary if before.begins_operand() => {
-            if !begins_group(first, before) {
-                remove_space(builder, depth);
-            }
-        }
+        Class::Binary if is_ordinary(first, before) => remove_space(builder, depth),
         Class::Relation => {
             lead(builder, depth, before.leads_relation());
             tighten(builder, depth, style);

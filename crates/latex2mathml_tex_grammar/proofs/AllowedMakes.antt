@@ -7,7 +7,7 @@ use Rattle.latex2mathml_elements.specs.Characters.{is_forbidden, IsAllowed, HasA
 use Rattle.latex2mathml_elements.specs.Element.{Mi, Mn, Mo, Mtext, Element, token, space, rectangle, container, pair, triple, table, children}
 use Rattle.latex2mathml_elements.proofs.{Characters.allowed_both, Characters.allowed_char, Characters.allowed_plain, Characters.plain_is_allowed, Plain.IsPlain, Plain.is_plain}
 use Rattle.latex2mathml_tex_grammar.specs.Alphabets.{in_alphabet}
-use Rattle.latex2mathml_tex_grammar.specs.Atoms.{Atom, Kind, SignOf, PlusOrMinus, Plain, UprightLetters, FunctionWord, Blank, Divider, Before, begins_group, begins_operand, as_prefix, as_infix, without_space, without_space_before, led, leads_operator, leads_relation, tight, as_ordinary, element_there, is_parted, lone_sign, element_as}
+use Rattle.latex2mathml_tex_grammar.specs.Atoms.{Atom, Kind, SignOf, PlusOrMinus, Plain, UprightLetters, FunctionWord, Blank, Divider, Before, begins_operand, is_ordinary, as_prefix, as_infix, without_space, without_space_before, led, leads_operator, leads_relation, tight, element_there, is_parted, lone_sign, element_as}
 use Rattle.latex2mathml_tex_grammar.specs.Fences.{Height, fenced, height_if}
 use Rattle.latex2mathml_tex_grammar.specs.Makes.{text, letter, upright_letter, number, symbol, struck, classed, on_side, accent, brace, stack, in_style, fraction_element, fraction, lowered_divider, lowered, between_delimiters, spaced_as, Scripts, primes_text, prime_mark, behind_primes, superscript, are_stacked, fixed_base, with_scripts, before_base, base_there, scripted_atom, scripted}
 use Rattle.latex2mathml_tex_grammar.specs.Meaning.{FractionRule, Bar, NoBar, Braced, Bracketed, Bare, LimitPlace, Beside, ByStyle, Movable, Stacked}
@@ -109,10 +109,6 @@ tight_allowed InDisplay x h = h
 tight_allowed InText x h = h
 tight_allowed InScript x h = without_space_allowed x h
 
-as_ordinary_allowed : (first : Bool) (x : Element) → HasAllowedTexts x → HasAllowedTexts (as_ordinary first x)
-as_ordinary_allowed true x h = h
-as_ordinary_allowed false x h = without_space_allowed x h
-
 without_space_before_allowed : (x : Element) → HasAllowedTexts x → HasAllowedTexts (without_space_before x)
 without_space_before_allowed (token t a sign_text) h = h
 without_space_before_allowed (space width) h = h
@@ -128,7 +124,7 @@ led_allowed false x h = h
 
 element_there_allowed : (style : Style) (first : Bool) (before : Before) (kind : Kind) (x : Element) → HasAllowedTexts x → HasAllowedTexts (element_there style first before kind x)
 element_there_allowed style first before (SignOf Binary) x h =
-    of_either HasAllowedTexts (begins_operand before) (as_ordinary_allowed (begins_group first before) x h) (tight_allowed style x h)
+    of_either HasAllowedTexts (is_ordinary first before) (without_space_allowed x h) (tight_allowed style x h)
 element_there_allowed style first before (SignOf Relation) x h =
     let leads = leads_relation before in tight_allowed style (led leads x) (led_allowed leads x h)
 element_there_allowed style first before (SignOf Punctuation) x h = tight_allowed style x h

@@ -148,20 +148,15 @@ sign_there style before Punctuation x = tight style x
 sign_there style before Operator x = led (leads_operator before) x
 sign_there style before class x = x
 
--- whether an atom begins a group; the group may be an operand, which takes a sign as it is
-abbrev pub begins_group : Bool → Before → Bool
-begins_group true Nothing = true
-begins_group first before = false
-
--- a binary sign where no binary operator can be, which is ordinary there: unless it begins a group, it has no space
-abbrev pub as_ordinary : Bool → Element → Element
-as_ordinary true x = x
-as_ordinary false x = without_space x
+-- Whether a binary sign is ordinary, as it is where no binary operator can be. One that begins a group stays binary: the group may
+-- be an operand, which takes a sign as it is.
+abbrev pub is_ordinary : Bool → Before → Bool
+is_ordinary true Nothing = false
+is_ordinary first before = begins_operand before
 
 -- the element of an atom there, which may be the first of its row
 abbrev pub element_there : Style → Bool → Before → Kind → Element → Element
-element_there style first before (SignOf Binary) x =
-    if begins_operand before then as_ordinary (begins_group first before) x else tight style x
+element_there style first before (SignOf Binary) x = if is_ordinary first before then without_space x else tight style x
 element_there style first before (SignOf class) x = sign_there style before class x
 element_there style first before (Plain Operator) x = led (leads_operator before) x
 element_there style first before PlusOrMinus x =

@@ -10,7 +10,7 @@ use Rattle.latex2mathml_tex_grammar.specs.Widths.{room}
 pub data Height : Type 0 where
   -- no taller than a letter: they do not stretch
   Low : Height
-  -- taller: they stretch, and have no more room than in TeX
+  -- taller: they stretch, and have no more room than TeX's `\Big`
   Tall : Height
   -- mostly so tall that they need all room
   VeryTall : Height

@@ -166,7 +166,7 @@ class_space Relation own before = Some Thick
 class_space Punctuation own before = Some ThinAfter
 class_space class own before = before
 
--- the sign with that space; any other element has none
+-- the sign with that space; any other element stays as it is
 abbrev pub spaced_as : Class → Class → Element → Element
 spaced_as class own (token Mo a sign_text) = token Mo (record a { space = class_space class own a.space }) sign_text
 spaced_as class own x = x

@@ -115,7 +115,7 @@ abbrev pub row_element : List Element → Element
 row_element (x ∷ []) = x
 row_element xs = container Mrow plain (children (reverse xs))
 
--- whether a browser leaves a space around an element of this kind
+-- whether an element of this kind loses its space where nothing is next to it
 abbrev pub is_spaced : Kind → Bool
 is_spaced (SignOf Binary) = true
 is_spaced (SignOf Relation) = true
@@ -129,7 +129,7 @@ abbrev pub isolated : Bool → Element → Element
 isolated true x = without_space x
 isolated false x = x
 
--- the elements of a row in braces, or of a formula, whose last atom is of this kind
+-- the elements of a row in braces, of a cell, or of a formula, whose last atom is of this kind
 abbrev pub lone : Kind → List Element → List Element
 lone last (x ∷ []) = isolated (is_spaced last) x ∷ []
 lone last xs = xs

@@ -59,7 +59,7 @@ said_style InText InDisplay = None
 said_style InText InText = None
 said_style style around = Some (math_style style)
 
--- how high a table of these rows is: one row is mostly no higher than what is between other delimiters
+-- how high a table of these rows and lines is: one row is mostly no higher than what is between other delimiters
 abbrev pub height_of : List Element → Height
 height_of (row ∷ []) = Tall
 height_of rows = VeryTall

@@ -6,12 +6,6 @@ use Rattle.latex2mathml_tex_atoms.specs.{Models.before_of, Shapes.changed_at}
 use Rattle.latex2mathml_tex_atoms.proofs.Shaping.{changed_twice, spaced_sign, unchanged}
 use Rattle.latex2mathml_tex_atoms.proofs.signs.adapt_sign.Goals as goal
 
-pub returns-else-not-begins_group : goal.returns-else-not-begins_group
-returns-else-not-begins_group c =
-    let operand : Atoms.begins_operand (before_of c.args.before) ≡ true = sym c.begins_operand.ensures ∙ c.if-begins_operand.true in
-    let group : Atoms.begins_group c.args.first (before_of c.args.before) ≡ true = sym c.begins_group.ensures ∙ c.if-not-begins_group.false in
-    sym (unchanged (Atoms.element_there (style_of c.args.style) c.args.first (before_of c.args.before) (Atoms.SignOf (class_of c.args.class))) c.args.depth (elements_in c.args.builder.now) (λ x. rw (c.in-Binary.is, operand, group) refl))
-
 pub returns-in-Relation : goal.returns-in-Relation
 returns-in-Relation c =
     let before = before_of c.args.before in
