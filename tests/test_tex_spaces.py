@@ -26,9 +26,9 @@ EMS = {"0": 0, "1": 3 / 18, "2": 4 / 18, "3": 5 / 18}
 # Rounding to thousandths of an em, to a pixel at each side of a fraction, and to 64ths of a pixel: less than a third of a thin space.
 NEARLY = 0.05
 
-# Signs of which a browser should see that they are binary, or relations, and the ems that TeX leaves at both sides
+# Signs of which a browser should see that they are binary, or relations, or ordinary, and the ems that TeX leaves next to them
 SIGNS = {r"c\underset{c}{-}c": [4 / 18, 4 / 18], r"c\overset{c}{+}c": [4 / 18, 4 / 18], r"c\mathbin{-}c": [4 / 18, 4 / 18],
-         r"c\mathrel{+}=c": [5 / 18, 5 / 18], r"c\mathrel{\mathop:}=c": [5 / 18, 5 / 18]}
+         r"c\mathrel{+}=c": [5 / 18, 5 / 18], r"c\mathrel{\mathop:}=c": [5 / 18, 5 / 18], r"c^{\otimes c}": [0], r"c^{*c}": [0]}
 
 # Formulas with fractions, and the ems that TeX leaves between the lines of fractions and what is next to them
 FRACTIONS = {r"\frac cd\frac cd": [0.24], r"c\frac cd c": [0.12, 0.12], r"c\tfrac cd": [0.12], r"{c\atop d}c": [0.12],
