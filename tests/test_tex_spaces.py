@@ -1,6 +1,6 @@
 """The space that Chromium leaves between the atoms of a formula of `tex_to_mathml`, against TeX's table of spaces, and the space that
 both browsers leave at the sides of fractions and of columns, between rows, and next to an atom that begins a cell. Also the room
-that they leave for delimiters. The comparison of markup with KaTeX (`test_tex_katex`) does not see space."""
+that they leave for delimiters, and the size of binary signs. The comparison of markup with KaTeX (`test_tex_katex`) does not see space."""
 import itertools
 import math
 import unittest
@@ -29,6 +29,9 @@ NEARLY = 0.05
 # Signs of which a browser should see that they are binary, or relations, or ordinary, and the ems that TeX leaves next to them
 SIGNS = {r"c\underset{c}{-}c": [4 / 18, 4 / 18], r"c\overset{c}{+}c": [4 / 18, 4 / 18], r"c\mathbin{-}c": [4 / 18, 4 / 18],
          r"c\mathrel{+}=c": [5 / 18, 5 / 18], r"c\mathrel{\mathop:}=c": [5 / 18, 5 / 18], r"c^{\otimes c}": [0], r"c^{*c}": [0]}
+
+# Binary signs of one size: in the style of a block no wider than in that of a line of text
+SIZES = {rf"\displaystyle c{sign} c\textstyle c{sign} c": [0] for sign in (r"\uplus", r"\oplus", r"\ominus", r"\otimes", r"\odot", "+")}
 
 # Formulas with fractions, and the ems that TeX leaves between the lines of fractions and what is next to them
 FRACTIONS = {r"\frac cd\frac cd": [0.24], r"c\frac cd c": [0.12, 0.12], r"c\tfrac cd": [0.12], r"{c\atop d}c": [0.12],
@@ -89,6 +92,11 @@ OF_CELLS = """formula => {
 OF_DELIMITERS = """formula => {
     const [sign] = boxesOf([...formula.querySelectorAll("mo")].filter(sign => sign.textContent));
     return [sign.width / 100];
+}"""
+# how many ems wider the first sign is than the second
+OF_SIZES = """formula => {
+    const [first, second] = boxesOf([...formula.querySelectorAll("mo")]);
+    return [(first.width - second.width) / 100];
 }"""
 # the ems between the lines of the letter c in two rows
 OF_ROWS = """formula => {
@@ -178,6 +186,16 @@ class Signs(Gaps):
     @requires("chromium")
     def test_in_chromium(self):
         self.compare(chromium, SIGNS, OF_ATOMS)
+
+
+class Sizes(Gaps):
+    @requires("chromium")
+    def test_in_chromium(self):
+        self.compare(chromium, SIZES, OF_SIZES)
+
+    @requires("firefox-esr")
+    def test_in_firefox(self):
+        self.compare(firefox, SIZES, OF_SIZES)
 
 
 class Fractions(Gaps):

@@ -67,6 +67,7 @@ attributes_of a = record {
   size = option_map size_of a.size;
   space = option_map space_of a.space;
   limits_stay = a.limits_stay;
+  keeps_size = a.keeps_size;
   accent = option_map side_of a.accent;
   no_line = a.no_line;
   style = option_map math_style_of a.style;

@@ -82,6 +82,8 @@ pub struct Attributes {
     pub space: Option<Space>,
     /// Limits stay above and below in every style.
     pub limits_stay: bool,
+    /// A sign that is no larger in the style of a block.
+    pub keeps_size: bool,
     pub accent: Option<Side>,
     /// A fraction without its line.
     pub no_line: bool,
@@ -105,6 +107,7 @@ impl Attributes {
             size: None,
             space: None,
             limits_stay: false,
+            keeps_size: false,
             accent: None,
             no_line: false,
             style: None,
@@ -147,6 +150,7 @@ impl Attributes {
                 size: None,
                 space: None,
                 limits_stay: false,
+                keeps_size: false,
                 accent: None,
                 no_line: false,
                 style: None,
@@ -172,6 +176,7 @@ impl Attributes {
                 size: None,
                 space,
                 limits_stay: false,
+                keeps_size: false,
                 accent: None,
                 no_line: false,
                 style: None,
@@ -194,6 +199,7 @@ impl Attributes {
         append_some(size_text(self.size), out)?;
         append_some(space_text(self.space), out)?;
         append_some(text_if(self.limits_stay, " movablelimits=\"false\""), out)?;
+        append_some(text_if(self.keeps_size, " largeop=\"false\""), out)?;
         append_some(accent_text(self.accent), out)?;
         append_some(text_if(self.no_line, " linethickness=\"0\""), out)?;
         append_some(style_text(self.style), out)?;

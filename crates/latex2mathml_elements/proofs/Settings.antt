@@ -126,13 +126,14 @@ settings a =
     (beside (words (size_text a.size) (grind arith))
     (beside (words (space_text a.space) (grind arith))
     (beside (words (if_so a.limits_stay (codes " movablelimits=\"false\"")) (grind arith))
+    (beside (words (if_so a.keeps_size (codes " largeop=\"false\"")) (grind arith))
     (beside (words (accent_text a.accent) (grind arith))
     (beside (words (if_so a.no_line (codes " linethickness=\"0\"")) (grind arith))
     (beside (words (style_text a.style) (grind arith))
     (beside (boxing a.boxing)
     (beside (measure_if_any (codes "voffset") refl a.raised)
     (beside (color (codes "mathcolor") refl a.color)
-    (color (codes "mathbackground") refl a.background))))))))))))))
+    (color (codes "mathbackground") refl a.background)))))))))))))))
 
 alignment_quotable : (alignment : Alignment) → IsQuotable (alignment_style alignment)
 alignment_quotable alignment = grind arith

@@ -85,6 +85,8 @@ pub record Attributes : Type 0 where
   pub space : Option Space
   -- limits stay above and below in every style
   pub limits_stay : Bool
+  -- a sign that is no larger in the style of a block
+  pub keeps_size : Bool
   pub accent : Option Side
   -- a fraction without its line
   pub no_line : Bool
@@ -99,7 +101,7 @@ pub record Attributes : Type 0 where
 
 -- an element without attributes
 abbrev pub plain : Attributes
-plain = record { upright = false; form = None; stretch = None; fence = false; separator = false; size = None; space = None; limits_stay = false; accent = None; no_line = false; style = None; boxing = None; raised = pos 0; color = None; background = None }
+plain = record { upright = false; form = None; stretch = None; fence = false; separator = false; size = None; space = None; limits_stay = false; keeps_size = false; accent = None; no_line = false; style = None; boxing = None; raised = pos 0; color = None; background = None }
 
 -- an element with this style of its own, if any
 abbrev pub styled : Option MathStyle → Attributes

@@ -128,13 +128,14 @@ attributes_text a =
     ++ (size_text a.size
     ++ (space_text a.space
     ++ (if_so a.limits_stay (codes " movablelimits=\"false\"")
+    ++ (if_so a.keeps_size (codes " largeop=\"false\"")
     ++ (accent_text a.accent
     ++ (if_so a.no_line (codes " linethickness=\"0\"")
     ++ (style_text a.style
     ++ (boxing_text a.boxing
     ++ (length_if_any (codes "voffset") a.raised
     ++ (color_text (codes "mathcolor") a.color
-    ++ color_text (codes "mathbackground") a.background)))))))))))))
+    ++ color_text (codes "mathbackground") a.background))))))))))))))
 
 -- the alignment of a column is written twice: some browsers read this attribute, others the style
 abbrev pub alignment_text : Alignment → List ℕ

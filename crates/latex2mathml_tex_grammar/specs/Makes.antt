@@ -89,6 +89,14 @@ lacks_space c = c == 0x3A || c == 0x2234 || c == 0x2235 || c == 0x2322 || c == 0
 abbrev pub relation_attributes : ℕ → Attributes
 relation_attributes c = if lacks_space c then record plain { space = Some Thick } else rigid c
 
+-- the binary signs that some browsers draw larger in the style of a block
+abbrev pub grows : ℕ → Bool
+grows c = c == 0x228E || c == 0x2295 || c == 0x2296 || c == 0x2297 || c == 0x2299  -- ⊎ ⊕ ⊖ ⊗ ⊙
+
+-- the attributes of a binary sign: it has one size
+abbrev pub binary_attributes : ℕ → Attributes
+binary_attributes c = if grows c then record plain { keeps_size = true } else rigid c
+
 -- the attributes of a sign, by its class
 abbrev pub sign_attributes : Class → ℕ → Attributes
 sign_attributes Ordinary c = record plain { space = Some NoSpace; stretch = Some Rigid }
@@ -97,7 +105,7 @@ sign_attributes Closing c = delimiter_attributes Postfix c
 sign_attributes Punctuation c = record plain { separator = true }
 sign_attributes Inner c = record plain { space = Some NoSpace }
 sign_attributes Operator c = plain
-sign_attributes Binary c = rigid c
+sign_attributes Binary c = binary_attributes c
 sign_attributes Relation c = relation_attributes c
 
 -- plus, minus, plus-minus and minus-plus

@@ -169,6 +169,10 @@ fn sign_attributes(class: Class, c: char) -> Attributes
             ..Attributes::plain()
         },
         Class::Operator => Attributes::plain(),
+        Class::Binary if grows(c) => Attributes {
+            keeps_size: true,
+            ..Attributes::plain()
+        },
         Class::Binary => rigid(c),
         Class::Relation if lacks_space(c) => Attributes {
             space: Some(Space::Thick),
@@ -244,11 +248,19 @@ fn is_plus_or_minus(c: char) -> bool
 fn is_plain(c: char) -> bool
     ensures stretches { IsTrue result → Makes.stretches c ≡ false }
     ensures space { IsTrue result → Makes.lacks_space c ≡ false }
+    ensures size { IsTrue result → Makes.grows c ≡ false }
 {
     if c.is_ascii() {
         return c != '|' && c != ':';
     }
-    !stretches(c) && !lacks_space(c)
+    !stretches(c) && !lacks_space(c) && !grows(c)
+}
+
+/// Whether some browsers draw the binary sign larger in the style of a block.
+fn grows(c: char) -> bool
+    ensures { result ≡ Makes.grows c }
+{
+    matches!(c, '⊎' | '⊕' | '⊖' | '⊗' | '⊙')
 }
 
 /// Whether browsers leave another space around the relation than TeX.

@@ -19,7 +19,8 @@ returns c =
     (then (string_bytes c.append_some-5.new.out) _ _ _ _ _ c.size_text.ensures c.in_ok-append_some-6.ensures
     (then (string_bytes c.append_some-6.new.out) _ _ _ _ _ c.space_text.ensures c.in_ok-append_some-7.ensures
     (then (string_bytes c.append_some-7.new.out) _ _ _ _ _ c.text_if-4.ensures c.in_ok-append_some-8.ensures
-    (then (string_bytes c.append_some-8.new.out) _ _ _ _ _ c.accent_text.ensures c.in_ok-append_some-9.ensures
-    (then (string_bytes c.append_some-9.new.out) _ _ _ _ _ c.text_if-5.ensures c.in_ok-append_some-10.ensures
-    (then (string_bytes c.append_some-10.new.out) _ _ _ _ _ c.style_text.ensures c.in_ok-append_some-11.ensures
-    (c.in_ok-append_room.ensures ∙ ap (λ l. string_bytes c.append_some-11.new.out ++ l) (sym (append-nil _)))))))))))))
+    (then (string_bytes c.append_some-8.new.out) _ _ _ _ _ c.text_if-5.ensures c.in_ok-append_some-9.ensures
+    (then (string_bytes c.append_some-9.new.out) _ _ _ _ _ c.accent_text.ensures c.in_ok-append_some-10.ensures
+    (then (string_bytes c.append_some-10.new.out) _ _ _ _ _ c.text_if-6.ensures c.in_ok-append_some-11.ensures
+    (then (string_bytes c.append_some-11.new.out) _ _ _ _ _ c.style_text.ensures c.in_ok-append_some-12.ensures
+    (c.in_ok-append_room.ensures ∙ ap (λ l. string_bytes c.append_some-12.new.out ++ l) (sym (append-nil _))))))))))))))
