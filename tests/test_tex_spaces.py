@@ -33,6 +33,10 @@ SIGNS = {r"c\underset{c}{-}c": [4 / 18, 4 / 18], r"c\overset{c}{+}c": [4 / 18, 4
 # Binary signs of one size: in the style of a block no wider than in that of a line of text
 SIZES = {rf"\displaystyle c{sign} c\textstyle c{sign} c": [0] for sign in (r"\uplus", r"\oplus", r"\ominus", r"\otimes", r"\odot", "+")}
 
+# Signs next to something high, or below something wide, and how many ems higher and wider than an arrow they are
+RIGID = {**{rf"{sign}\frac{{\frac cc}}{{\frac cc}}": [0, 0] for sign in (r"\restriction", r"\upuparrows", r"\Lsh", r"\uparrow", "|")},
+         **{rf"\overset{{ccccccccc}}{{{sign}}}": [0, 0] for sign in (r"\rightrightarrows", r"\twoheadrightarrow", r"\to")}}
+
 # Formulas with fractions, and the ems that TeX leaves between the lines of fractions and what is next to them
 FRACTIONS = {r"\frac cd\frac cd": [0.24], r"c\frac cd c": [0.12, 0.12], r"c\tfrac cd": [0.12], r"{c\atop d}c": [0.12],
              r"2\frac cd(": [0.12, 0.12], r"\genfrac{}{}{}{}cd c": [0.12]}
@@ -97,6 +101,11 @@ OF_DELIMITERS = """formula => {
 OF_SIZES = """formula => {
     const [first, second] = boxesOf([...formula.querySelectorAll("mo")]);
     return [(first.width - second.width) / 100];
+}"""
+# how many ems more than an arrow's the height and the width of the sign are
+OF_RIGID = """formula => {
+    const sign = formula.querySelector("mo").getBoundingClientRect();
+    return [Math.max(0, sign.height / 100 - 1.3), Math.max(0, sign.width / 100 - 1.7)];
 }"""
 # the ems between the lines of the letter c in two rows
 OF_ROWS = """formula => {
@@ -196,6 +205,14 @@ class Sizes(Gaps):
     @requires("firefox-esr")
     def test_in_firefox(self):
         self.compare(firefox, SIZES, OF_SIZES)
+
+    @requires("chromium")
+    def test_rigid_in_chromium(self):
+        self.compare(chromium, RIGID, OF_RIGID)
+
+    @requires("firefox-esr")
+    def test_rigid_in_firefox(self):
+        self.compare(firefox, RIGID, OF_RIGID)
 
 
 class Fractions(Gaps):

@@ -58,9 +58,10 @@ number alphabet digits = atom (Plain Ordinary) false (token Mn plain (digits_in 
 abbrev pub stretches : ℕ → Bool
 stretches c = c == 0x7C || c == 0x2223 || c == 0x2225  -- | ∣ ∥
     || c == 0x2190 || c == 0x2191 || c == 0x2192 || c == 0x2193 || c == 0x2194 || c == 0x2195  -- ← ↑ → ↓ ↔ ↕
-    || c == 0x21A6 || c == 0x21A9 || c == 0x21AA  -- ↦ ↩ ↪
-    || c == 0x21BC || c == 0x21BD || c == 0x21C0 || c == 0x21C1 || c == 0x21CC  -- ↼ ↽ ⇀ ⇁ ⇌
-    || c == 0x21D0 || c == 0x21D1 || c == 0x21D2 || c == 0x21D3 || c == 0x21D4 || c == 0x21D5  -- ⇐ ⇑ ⇒ ⇓ ⇔ ⇕
+    || c == 0x219E || c == 0x21A0 || c == 0x21A2 || c == 0x21A3 || c == 0x21A6 || c == 0x21A9 || c == 0x21AA || c == 0x21AB || c == 0x21AC || c == 0x21B0 || c == 0x21B1  -- ↞ ↠ ↢ ↣ ↦ ↩ ↪ ↫ ↬ ↰ ↱
+    || c == 0x21BC || c == 0x21BD || c == 0x21BE || c == 0x21BF || c == 0x21C0 || c == 0x21C1 || c == 0x21C2 || c == 0x21C3  -- ↼ ↽ ↾ ↿ ⇀ ⇁ ⇂ ⇃
+    || c == 0x21C4 || c == 0x21C6 || c == 0x21C7 || c == 0x21C8 || c == 0x21C9 || c == 0x21CA || c == 0x21CB || c == 0x21CC  -- ⇄ ⇆ ⇇ ⇈ ⇉ ⇊ ⇋ ⇌
+    || c == 0x21D0 || c == 0x21D1 || c == 0x21D2 || c == 0x21D3 || c == 0x21D4 || c == 0x21D5 || c == 0x21DA || c == 0x21DB || c == 0x21E0 || c == 0x21E2  -- ⇐ ⇑ ⇒ ⇓ ⇔ ⇕ ⇚ ⇛ ⇠ ⇢
     || c == 0x27F5 || c == 0x27F6 || c == 0x27F7 || c == 0x27F8 || c == 0x27F9 || c == 0x27FA || c == 0x27FC  -- ⟵ ⟶ ⟷ ⟸ ⟹ ⟺ ⟼
 
 -- the attributes of a sign that must not be stretched
