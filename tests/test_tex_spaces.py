@@ -1,6 +1,7 @@
 """The space that Chromium leaves between the atoms of a formula of `tex_to_mathml`, against TeX's table of spaces, and the space that
 both browsers leave at the sides of fractions and of columns, between rows, and next to an atom that begins a cell. Also the room
-that they leave for delimiters, and the size of binary signs. The comparison of markup with KaTeX (`test_tex_katex`) does not see space."""
+that they leave for delimiters, and how large they draw signs. The comparison of markup with KaTeX (`test_tex_katex`) sees none of
+it."""
 import itertools
 import math
 import unittest
@@ -105,7 +106,7 @@ OF_SIZES = """formula => {
 # how many ems more than an arrow's the height and the width of the sign are
 OF_RIGID = """formula => {
     const sign = formula.querySelector("mo").getBoundingClientRect();
-    return [Math.max(0, sign.height / 100 - 1.3), Math.max(0, sign.width / 100 - 1.7)];
+    return [Math.max(0, sign.height / 100 - 1.1), Math.max(0, sign.width / 100 - 1.7)];
 }"""
 # the ems between the lines of the letter c in two rows
 OF_ROWS = """formula => {
@@ -206,12 +207,14 @@ class Sizes(Gaps):
     def test_in_firefox(self):
         self.compare(firefox, SIZES, OF_SIZES)
 
+
+class Rigid(Gaps):
     @requires("chromium")
-    def test_rigid_in_chromium(self):
+    def test_in_chromium(self):
         self.compare(chromium, RIGID, OF_RIGID)
 
     @requires("firefox-esr")
-    def test_rigid_in_firefox(self):
+    def test_in_firefox(self):
         self.compare(firefox, RIGID, OF_RIGID)
 
 
