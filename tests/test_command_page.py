@@ -98,7 +98,7 @@ class Read(Case):
 
     def test_spaces(self):
         due = {f"a{it.name} b": [int(it.draws)] for it in tex_commands.listed() if it.place.what == "Widths"}
-        found = {formula: re.findall(r'<mspace width="(-?[\d.]+)em"/>', reply) for formula, reply in self.replies(due).items()}
+        found = {formula: re.findall(r'<mspace (?:width="|style="margin-left: )(-?[\d.]+)em"/>', reply) for formula, reply in self.replies(due).items()}
         self.assertEqual({formula: [round(float(it) * 18) for it in widths] for formula, widths in found.items()}, due)
 
     def test_environments(self):

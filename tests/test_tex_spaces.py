@@ -1,6 +1,6 @@
 """The space that Chromium leaves between the atoms of a formula of `tex_to_mathml`, against TeX's table of spaces, and the space that
-both browsers leave at the sides of fractions and of columns, between rows, and next to an atom that begins a cell. Also the room
-that they leave for delimiters, and how large they draw signs. The comparison of markup with KaTeX (`test_tex_katex`) sees none of
+both browsers leave at the sides of fractions and of columns, between rows, and next to an atom that begins a cell. Also negative
+spaces, the room for delimiters, and how large signs are drawn. The comparison of markup with KaTeX (`test_tex_katex`) sees none of
 it."""
 import itertools
 import math
@@ -11,16 +11,16 @@ from tests.browsers import chromium, firefox
 from tests.support import Case, requires, tex_program
 from tests.test_page import judge, settle, spaces_between
 
-# a relation that joins no other one, since it has a size of its own
-SIZED = r"\bigm|"
-# operators that are signs, to which a browser gives a space of their own
-SUMS = {r"\sum", r"\int_c"}
-# An atom that is not compared at the beginning of a cell: a relation with a size keeps its space, as after an opening sign.
-KEEPING = {SIZED}
+# relations that keep their space at the beginning of a cell, after an opening sign, and after a comma that has a space of its own
+KEEPING = [r"\bigm|", r"\overset{c}{=}"]
+# commas, with space of their own and without
+COMMAS, LETTER_COMMA = [",", ";", r"\mathpunct:"], r"\mathpunct{c}"
 # atoms of each class of TeX
-ATOMS = {"ordinary": ["c", "2", r"\frac cd", r"\sqrt c", "{=}", "{,}", "|"], "operator": [r"\sin", r"\mathop{c}", r"\lim_c", *SUMS],
-         "binary": ["+", "-", r"\mathbin/"], "relation": ["=", r"\to", ":", r"\mathrel|", SIZED], "opening": ["(", r"\bigl("],
-         "closing": [")", r"\rangle"], "punctuation": [",", ";", r"\mathpunct:"],
+ATOMS = {"ordinary": ["c", "2", r"\frac cd", r"\sqrt c", "{=}", "{,}", "|"],
+         "operator": [r"\sin", r"\lim_c", r"\sum", r"\int_c", r"\mathop{c}", r"\mathop{|}", r"\underbrace{c}_d"],
+         "binary": ["+", "-", r"\mathbin/", r"\mathbin{c}"],
+         "relation": ["=", r"\to", ":", "<_c", r"\mathrel|", r"\mathrel{c}", r"\stackrel{c}{c}", *KEEPING],
+         "opening": ["(", r"\bigl("], "closing": [")", r"\rangle"], "punctuation": [*COMMAS, LETTER_COMMA],
          "inner": [r"\ldots", r"\left(c\right)", r"\left]c\right[", r"\begin{pmatrix}c\end{pmatrix}"]}
 # the ems of the spaces that the table names
 EMS = {"0": 0, "1": 3 / 18, "2": 4 / 18, "3": 5 / 18}
@@ -37,6 +37,10 @@ SIZES = {rf"\displaystyle c{sign} c\textstyle c{sign} c": [0] for sign in (r"\up
 # Signs next to something high, or below something wide, and how many ems higher and wider than an arrow they are
 RIGID = {**{rf"{sign}\frac{{\frac cc}}{{\frac cc}}": [0, 0] for sign in (r"\restriction", r"\upuparrows", r"\Lsh", r"\uparrow", "|")},
          **{rf"\overset{{ccccccccc}}{{{sign}}}": [0, 0] for sign in (r"\rightrightarrows", r"\twoheadrightarrow", r"\to")}}
+
+# Letters with a negative space between them, and how many ems of it TeX leaves
+NEGATIVE = {r"c\!c": [-3 / 18], r"c\negmedspace c": [-4 / 18], r"c\negthickspace c": [-5 / 18], r"c\!\!c": [-6 / 18], r"c\,\!c": [0],
+            r"c\kern-1em c": [-1], r"c\hspace{-0.5em}c": [-0.5], r"c\mkern-9mu c": [-0.5]}
 
 # Formulas with fractions, and the ems that TeX leaves between the lines of fractions and what is next to them
 FRACTIONS = {r"\frac cd\frac cd": [0.24], r"c\frac cd c": [0.12, 0.12], r"c\tfrac cd": [0.12], r"{c\atop d}c": [0.12],
@@ -71,7 +75,9 @@ DELIMITERS = {r"\big(": (0.458, 0.458), r"\Big)": (0.597, 0.597), r"\bigg[": (0.
               r"\bigl\{": (0.583, 0.583), r"\Bigr\rangle": (0.611, 0.611), r"\big/": (0.578, 0.578), r"\bigm\backslash": (0.578, 0.578),
               r"\Bigl\lfloor": (0.528, 0.528), r"\left(c^2\right)": (0.458, 0.736), r"\left[\frac cd\right]": (0.417, 0.528),
               r"\left.\frac cd\middle/c\right.": (0.578, 1.044), r"\binom cd": (0.458, 0.736),
-              r"\left]\frac cd\right[": (0.417, 0.528), r"\begin{pmatrix}c&c\end{pmatrix}": (0.458, 0.736)}
+              r"\left]\frac cd\right[": (0.417, 0.528), r"\begin{pmatrix}c&c\end{pmatrix}": (0.458, 0.736),
+              r"\begin{pmatrix}c\\c\end{pmatrix}": (0.458, 0.736), r"\begin{bmatrix}c\\c\end{bmatrix}": (0.417, 0.528),
+              r"\begin{cases}c\\c\end{cases}": (0.583, 0.75)}
 
 PAGE = """<!DOCTYPE html><meta charset="utf-8"><style>math { font-size: 100px }</style>%s<script>
 const gapsBetween = (boxes, em) => boxes.slice(1).map((box, place) => (box.left - boxes[place].right) / em);
@@ -144,14 +150,11 @@ def due(left, right, in_script):
 
 def keeps_space(left, right, one, other, in_script):
     """Whether a sign has space there where TeX leaves none, or less: docs/DECISIONS.md says why."""
-    if one in SUMS:
-        return right in {"relation", "opening", "closing", "punctuation"} or in_script and right == "inner"
     if in_script:
         return False
-    if left == right == "relation":
-        return SIZED in (one, other)
-    return (left in {"binary", "relation"} and right in {"closing", "punctuation"} or (left, right) == ("binary", "relation")
-            or left in {"opening", "punctuation"} and other == SIZED)
+    if other in KEEPING:
+        return left in {"binary", "opening", "punctuation"} and one != LETTER_COMMA
+    return left == "binary" and right in {"relation", "closing", "punctuation"}
 
 
 class Spaces(Case):
@@ -216,6 +219,16 @@ class Rigid(Gaps):
     @requires("firefox-esr")
     def test_in_firefox(self):
         self.compare(firefox, RIGID, OF_RIGID)
+
+
+class NegativeSpaces(Gaps):
+    @requires("chromium")
+    def test_in_chromium(self):
+        self.compare(chromium, NEGATIVE, OF_ATOMS)
+
+    @requires("firefox-esr")
+    def test_in_firefox(self):
+        self.compare(firefox, NEGATIVE, OF_ATOMS)
 
 
 class Fractions(Gaps):

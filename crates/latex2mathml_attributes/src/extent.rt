@@ -1,6 +1,7 @@
 //! Rectangles and lengths.
 ghost use Rattle.std.specs.Prelude.{◌≡◌, ℕ, List, ◌++◌, MatchOption, OnOk, codes, string_bytes, unsigned_abs};
 ghost use Rattle.std.specs.Bool.{⊤};
+ghost use Rattle.latex2mathml_elements.specs.Extents;
 ghost use Rattle.latex2mathml_elements.specs.Extents.{black_text, ems, extent_text, length_if_any, wide};
 ghost use Rattle.latex2mathml_trees.specs.Width.{thousandths_text};
 ghost use Rattle.latex2mathml_elements.specs.Tables.{line_as};
@@ -49,13 +50,24 @@ impl Extent {
         ensures { OnOk result (string_bytes out.new
             ≡ string_bytes out.old ++ extent_text (extent_of self)) }
     {
-        append_length(" width=\"", self.width, out)?;
+        append_length(width_start(self.width), self.width, out)?;
         append_if_any(" height=\"", self.height, out)?;
         append_if_any(" depth=\"", self.depth, out)?;
         if self.is_black {
             out.push_str(" mathbackground=\"black\"")?;
         }
         Ok(())
+    }
+}
+
+/// Returns the beginning of the attribute for a width. What has a negative width moves what follows it back.
+pub fn width_start(width: i32) -> &'static str
+    ensures { result.now ≡ Extents.width_start width }
+{
+    if width < 0 {
+        " style=\"margin-left: "
+    } else {
+        " width=\""
     }
 }
 

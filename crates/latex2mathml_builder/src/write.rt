@@ -12,8 +12,9 @@ use crate::part::Part;
 use crate::texts::write_token;
 use crate::works::{Run, Work, Works};
 use latex2mathml_attributes::attributes::{Attributes, MathStyle};
+use latex2mathml_attributes::extent::width_start;
 use latex2mathml_attributes::tag::{Container, Pair, Triple};
-use latex2mathml_trees::append::append_space;
+use latex2mathml_trees::append::append_width;
 use std::alloc::AllocError;
 
 impl Builder {
@@ -259,7 +260,12 @@ fn write_space(width: i32, out: &mut String) -> Result<(), AllocError>
         5 => out.push_str("<mspace width=\"0.278em\"/>"),
         18 => out.push_str("<mspace width=\"1em\"/>"),
         36 => out.push_str("<mspace width=\"2em\"/>"),
-        _ => append_space(width, out),
+        _ => {
+            out.push_str("<mspace")?;
+            out.push_str(width_start(width))?;
+            append_width(width, out)?;
+            out.push_str("em\"/>")
+        }
     }
 }
 

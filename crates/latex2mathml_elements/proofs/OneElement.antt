@@ -1,6 +1,6 @@
 -- The print of an element is one element that obeys the child table, and each schema that allows more. It holds no dollar
 -- sign, and no character that XML forbids where its texts hold none.
-use Rattle.std.proofs.Common.{ℕ, Bool, false, ◌&&◌, IsTrue, List, [], ◌∷◌, ◌++◌, Option, Some, None, refl, ap, ◌∙◌, append_assoc, arith, codes, cond, subst}
+use Rattle.std.proofs.Common.{ℕ, pos, negsuc, Bool, false, ◌&&◌, IsTrue, List, [], ◌∷◌, ◌++◌, Option, Some, None, refl, ap, ◌∙◌, append_assoc, arith, codes, cond, subst}
 use Rattle.std.specs.{List.list_all, Str.bytes_eq}
 use Rattle.latex2mathml_elements.specs.Characters.{IsAllowed, EachText, EachTextOf, EachTextOfCells, EachTextOfRows}
 use Rattle.latex2mathml_elements.specs.Element.{Element, Elements, Rows, Cells, token, space, rectangle, container, pair, triple, table, none, more, one_row, more_rows, one_cell, more_cells}
@@ -59,8 +59,10 @@ module _ (schema : Schema) (allows : (parent : Option Name) (name : Name) (child
     element (token t a text) s h =
         let inner = content_leads schema (token_name t) [] false (add (token_name t) s) text in
         around _ [] inner.0 s (name_valid (token t a text)) (grind arith) (settings a) (record { runs = inner.1; is_clean = contents text h })
-    element (space n) s h =
-        subst (λ l. Piece schema C (codes "<mspace width=\"" ++ l) s (add (codes "mspace") s)) (append_assoc (width_text n) (codes "em\"") (codes "/>")) (space_piece s (width n))
+    element (space (pos n)) s h =
+        subst (λ l. Piece schema C (codes "<mspace width=\"" ++ l) s (add (codes "mspace") s)) (append_assoc (width_text (pos n)) (codes "em\"") (codes "/>")) (space_piece s (width (pos n)))
+    element (space (negsuc n)) s h =
+        subst (λ l. Piece schema C (codes "<mspace style=\"margin-left: " ++ l) s (add (codes "mspace") s)) (append_assoc (width_text (negsuc n)) (codes "em\"") (codes "/>")) (space_piece s (width (negsuc n)))
     element (rectangle e) s h = space_piece s (extent e)
     element (container c a xs) s h =
         let inner = elements xs (container_name c) [] (add (container_name c) s) h in

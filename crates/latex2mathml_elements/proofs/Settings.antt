@@ -1,12 +1,12 @@
 -- The text of attributes is plain, and is the text of a list of attributes of markup.
-use Rattle.std.proofs.Common.{◌≡◌, ℕ, zero, ℤ, pos, Bool, true, false, ◌&&◌, ◌==◌, IsTrue, List, [], ◌∷◌, ◌++◌, append_assoc, append-nil, Option, Some, None, refl, arith, codes, map, if◌then◌else◌}
+use Rattle.std.proofs.Common.{◌≡◌, ℕ, zero, ℤ, pos, negsuc, Bool, true, false, ◌&&◌, ◌==◌, IsTrue, List, [], ◌∷◌, ◌++◌, append_assoc, append-nil, Option, Some, None, refl, arith, codes, map, if◌then◌else◌}
 use Rattle.std.specs.{Cmp.Lexicographic.bytes_decides, List.flat_map, List.list_all, Str.byte, Str.bytes_eq}
 use Rattle.std.proofs.{lemmas.Grind.flat_map-append, lemmas.List.Folds.list_all-append, lemmas.List.Folds.list_all-map}
 use Rattle.latex2mathml_elements.specs.{Attributes.Attributes, Attributes.Boxing, Columns.Alignment, Columns.Column, Columns.Density, Columns.Spacing, Lines.Line, Lines.RowLines}
 use Rattle.latex2mathml_elements.specs.Attributes as boxes
 use Rattle.latex2mathml_elements.specs.Print.{accent_text, alignment_style, alignment_text, attributes_text, border_style, boxing_text, column_style, column_text, form_text, if_so, lines_text, math_tag, size_text, space_text, sides_style, stretch_text, style_text}
 use Rattle.latex2mathml_elements.specs.Colors.{Color, color_code, color_text}
-use Rattle.latex2mathml_elements.specs.Extents.{Extent, black_text, ems, extent_text, length_if_any, length_text}
+use Rattle.latex2mathml_elements.specs.Extents.{Extent, black_text, ems, extent_text, length_if_any, length_text, width_start}
 use Rattle.latex2mathml_elements.proofs.Plain.{IsPlain, IsQuotable, color_quotable, ems_quotable, is_plain, name_plain, width_quotable}
 use Rattle.latex2mathml_trees.specs.Markup.{Attribute, attribute, plain, is_attribute, is_name, is_part, spell_attribute}
 use Rattle.latex2mathml_trees.specs.Width.{width_text}
@@ -85,8 +85,13 @@ quoted name value unit valid u v =
       plain = simp (list_all-append, name_plain name valid, (quotable value v).0, (quotable unit u).0);
     }
 
-pub width : (n : ℤ) → AreSettings (codes " width=\"" ++ (width_text n ++ codes "em\""))
-width n = quoted (codes "width") (width_text n) (codes "em") refl refl (width_quotable n)
+pub width : (n : ℤ) → AreSettings (width_start n ++ (width_text n ++ codes "em\""))
+width (pos n) = quoted (codes "width") (width_text (pos n)) (codes "em") refl refl (width_quotable (pos n))
+width (negsuc n) = quoted (codes "style") (codes "margin-left: " ++ width_text (negsuc n)) (codes "em") refl refl (width_quotable (negsuc n))
+
+extent_width : (n : ℤ) → AreSettings (width_start n ++ (ems n ++ codes "em\""))
+extent_width (pos n) = quoted (codes "width") (ems (pos n)) (codes "em") refl refl (ems_quotable (pos n))
+extent_width (negsuc n) = quoted (codes "style") (codes "margin-left: " ++ ems (negsuc n)) (codes "em") refl refl (ems_quotable (negsuc n))
 
 measure : (name : List ℕ) → IsTrue (is_name name) → (n : ℤ) → AreSettings (length_text name n)
 measure name valid n = quoted name (ems n) (codes "em") valid refl (ems_quotable n)
@@ -158,7 +163,7 @@ row lines = words (lines_text lines) (grind arith)
 
 pub extent : (e : Extent) → AreSettings (extent_text e)
 extent e =
-    beside (measure (codes "width") refl e.width)
+    beside (extent_width e.width)
     (beside (measure_if_any (codes "height") refl e.height)
     (beside (measure_if_any (codes "depth") refl e.depth)
     (words (black_text e.is_black) (grind arith))))

@@ -35,10 +35,15 @@ abbrev pub black_text : Bool → List ℕ
 black_text true = codes " mathbackground=\"black\""
 black_text false = []
 
+-- The attribute for a width, up to its number. MathML has no negative widths: they move what follows back, in the language of styles.
+abbrev pub width_start : ℤ → List ℕ
+width_start (pos n) = codes " width=\""
+width_start (negsuc n) = codes " style=\"margin-left: "
+
 -- the attributes of an extent
 abbrev pub extent_text : Extent → List ℕ
 extent_text e =
-    length_text (codes "width") e.width
+    (width_start e.width ++ (ems e.width ++ codes "em\""))
     ++ (length_if_any (codes "height") e.height
     ++ (length_if_any (codes "depth") e.depth
     ++ black_text e.is_black))

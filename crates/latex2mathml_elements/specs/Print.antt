@@ -4,7 +4,7 @@ use Rattle.latex2mathml_elements.specs.Attributes.{Attributes, Side, Above, Belo
 use Rattle.latex2mathml_elements.specs.Columns.{Alignment, LeftAligned, RightAligned, Continued, Density, Dense, Opened, Spacing, Unspaced, SpaceBefore, SpaceAround, Column}
 use Rattle.latex2mathml_elements.specs.Element.{Token, Mi, Mn, Mo, Mtext, Container, Mrow, Msqrt, Mstyle, Mpadded, Mphantom, Pair, Mfrac, Mroot, Msub, Msup, Munder, Mover, Triple, Msubsup, Munderover, Element, Elements, Rows, Cells, token, space, rectangle, container, pair, triple, table, none, more, one_row, more_rows, one_cell, more_cells}
 use Rattle.latex2mathml_elements.specs.Lines.{Line, NoLine, OneLine, TwoLines, Dashes, RowLines, is_lined}
-use Rattle.latex2mathml_elements.specs.{Colors.color_text, Extents.extent_text, Extents.length_if_any}
+use Rattle.latex2mathml_elements.specs.{Colors.color_text, Extents.extent_text, Extents.length_if_any, Extents.width_start}
 use Rattle.latex2mathml_tokens.specs.Escape.{content}
 use Rattle.latex2mathml_trees.specs.Width.{thousandths_text, width_text}
 
@@ -242,7 +242,7 @@ cell_print column inside = cell_tag column ++ (inside ++ codes "</mtd>")
 abbrev mutual
   pub print : Element → List ℕ
   print (token t a text) = start_tag (token_name t) a ++ (content text ++ end_tag (token_name t))
-  print (space width) = codes "<mspace width=\"" ++ (width_text width ++ codes "em\"/>")
+  print (space width) = codes "<mspace" ++ (width_start width ++ (width_text width ++ codes "em\"/>"))
   print (rectangle e) = codes "<mspace" ++ (extent_text e ++ codes "/>")
   print (container c a xs) = start_tag (container_name c) a ++ (prints xs ++ end_tag (container_name c))
   print (pair p a x y) = start_tag (pair_name p) a ++ (print x ++ (print y ++ end_tag (pair_name p)))

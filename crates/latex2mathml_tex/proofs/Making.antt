@@ -3,7 +3,7 @@ use Rattle.std.proofs.Common.{◌≡◌, ℕ, ◌+◌, ◌≤◌, ◌&&◌, Bool
 use Rattle.std.proofs.lemmas.List.{length-drop}
 use Rattle.latex2mathml_elements.specs.Element.{Element, token}
 use Rattle.latex2mathml_builder.specs.{Built.Built, Built.elements_in, Stacks.is_token, Stacks.lengthened, Stacks.ordered, Stacks.group_at}
-use Rattle.latex2mathml_tex_grammar.specs.{Atoms.atom, Atoms.element_as, Makes.Core, Makes.classed, Makes.core, Makes.is_sign, Makes.no_letters, Makes.spaced_as, Makes.struck, Makes.text, Makes.choice}
+use Rattle.latex2mathml_tex_grammar.specs.{Atoms.atom, Atoms.element_as, Makes.Core, Makes.classed, Makes.core, Makes.classed_kind, Makes.no_letters, Makes.spaced_as, Makes.struck, Makes.text, Makes.choice}
 use Rattle.latex2mathml_tex_grammar.specs.Refusal.{NothingToNegate, refusal_at}
 use Rattle.latex2mathml_tex_grammar.specs.Rules.{gives, refuses, slashed, struck_atom}
 use Rattle.latex2mathml_tex_commands.specs.Meanings.{class_of, style_of}
@@ -107,12 +107,12 @@ module _ (p : Parser) (last : Last) (operand : CodeOperand) where
     pub made_held : (b : Built) (c : CodeCore) → IsPut c made below (elements_in b) → BeginsMade → Holds s (record p { builder = b }) (state.Core c)
     made_held b c is g = made_put b c made.atom.element is.element is.is g
 
-    pub classed_put : (b d : Built) (class : CodeClass) (style : CodeStyle) (c : CodeCore) → last ≡ last_is.Classed class style → 1 ≤ length (elements_of p) → elements_in b ≡ changed_at (base style class) 0 (elements_of p) → (sign : Bool) → sign ≡ is_sign (top (elements_in b)) → elements_in d ≡ changed_at (spaced class) 0 (elements_in b) → ((x : Element) → sign ≡ is_sign x → core_with c (spaced class x) ≡ classed (class_of class) (operand_with operand x)) → BeginsMade → Holds s (record p { builder = d }) (state.Core c)
-    classed_put b d class style c e some put sign is put_space same g =
+    pub classed_put : (b d : Built) (class : CodeClass) (style : CodeStyle) (c : CodeCore) → last ≡ last_is.Classed class style → 1 ≤ length (elements_of p) → elements_in b ≡ changed_at (base style class) 0 (elements_of p) → (kind : CodeKind) → kind_of kind ≡ classed_kind (class_of class) (top (elements_in b)) → elements_in d ≡ changed_at (spaced class) 0 (elements_in b) → ((x : Element) → kind_of kind ≡ classed_kind (class_of class) x → core_with c (spaced class x) ≡ classed (class_of class) (operand_with operand x)) → BeginsMade → Holds s (record p { builder = d }) (state.Core c)
+    classed_put b d class style c e some put kind is put_space same g =
         let x = base style class (top (elements_of p)) in
         let one : elements_in b ≡ x ∷ below = put ∙ rw e (first_changed (base style class) (elements_of p) some) in
         let then : elements_in d ≡ spaced class x ∷ below = put_space ∙ ap (changed_at (spaced class) 0) one in
-        made_put d c (spaced class x) then (rw e (same x (is ∙ ap (λ ys. is_sign (top ys)) one))) g
+        made_put d c (spaced class x) then (rw e (same x (is ∙ ap (λ ys. classed_kind (class_of class) (top ys)) one))) g
 
 -- One of four operands
 

@@ -1,11 +1,11 @@
 -- Where an operand, and an atom without scripts, lead within the innermost frame.
-use Rattle.std.proofs.Common.{◌≡◌, ◌⊎◌, inl, inr, ℕ, ◌+◌, ◌-◌, ◌≤◌, false, IsTrue, List, [], ◌∷◌, Option, drop, take, length, reverse, refl, sym, ap, ◌∙◌, subst, arith}
+use Rattle.std.proofs.Common.{◌≡◌, ◌⊎◌, inl, inr, ℕ, ◌+◌, ◌-◌, ◌≤◌, false, IsTrue, List, [], ◌∷◌, Option, drop, take, length, reverse, refl, sym, ap, ◌∙◌, subst, arith, pos}
 use Rattle.std.proofs.lemmas.List.{drop-drop, length-drop, length-take, reverse-append}
 use Rattle.latex2mathml_elements.specs.Element.{Element}
 use Rattle.latex2mathml_builder.specs.Built.{Built, elements_in}
 use Rattle.latex2mathml_attributes.specs.declared.attributes.Side.{Side}
-use Rattle.latex2mathml_tex_grammar.specs.Atoms.{Atom, Blank, Kind, Nothing, is_parted}
-use Rattle.latex2mathml_tex_grammar.specs.{Rules.gives, Makes.Core, Makes.no_scripts, Makes.takes_limits, Reading.Read, Symbols.InDisplay, Symbols.InScript, Symbols.InText, Symbols.Style, Units.Units}
+use Rattle.latex2mathml_tex_grammar.specs.Atoms.{Atom, Blank, Kind, Nothing, gap}
+use Rattle.latex2mathml_tex_grammar.specs.{Rules.gives, Makes.Core, Makes.no_scripts, Makes.takes_limits, Reading.Read, Symbols.Style, Units.Units}
 use Rattle.latex2mathml_tex_grammar.specs.Rows.{empty_row, operand_of, row_element, single, with_atom}
 use Rattle.latex2mathml_tex.specs.Frames.{ScriptMade, Start, after_first, context_at, first_count, inside, last_count, made_of, primes_put, within}
 use Rattle.latex2mathml_tex.specs.Innermost.{IsInnermost, none_begun, on_top}
@@ -118,11 +118,9 @@ innermost_takes style fs others f c (none_begun h k g) e = let no : ⊥ = rw g a
 innermost_takes style fs others f c (on_top h) e = rw h (subst (λ l. IsTrue (first_accepts operand_made l)) (sym (reverse-append others (f ∷ []))) (takes_operand c f e))
 
 -- nothing separates the first atom of a row from what precedes it
-never_parted : (style : Style) (kind : Kind) → is_parted style Nothing kind ≡ false
+never_parted : (style : Style) (kind : Kind) → gap style Nothing kind ≡ pos 0
 never_parted style Blank = refl
-never_parted InDisplay kind = refl
-never_parted InText kind = refl
-never_parted InScript kind = refl
+never_parted style kind = refl
 
 one_alone : (n : ℕ) (xs : List Element) → n ≡ 1 → n ≤ length xs → row_element (take n xs) ≡ top xs
 one_alone n [] e h = absurd (omega (arith, e, h))

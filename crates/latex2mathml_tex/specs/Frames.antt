@@ -4,7 +4,7 @@ use Rattle.std.specs.Prelude.{◌≡◌, ℕ, zero, suc, ◌+◌, Bool, true, Is
 use Rattle.latex2mathml_elements.specs.{Attributes.Above, Attributes.plain, Element.Element, Element.Mover, Element.Munderover, Element.pair, Element.triple}
 use Rattle.latex2mathml_attributes.specs.Names.{side_of, stretch_of}
 use Rattle.latex2mathml_tex_grammar.specs.Makes as makes
-use Rattle.latex2mathml_tex_grammar.specs.Makes.{Core, braced, core, group, classed, operator_name, accent, brace, stack, fraction, outlined_fraction, square_root, root, between_delimiters, struck, boxed_atom, choice}
+use Rattle.latex2mathml_tex_grammar.specs.Makes.{Core, braced, core, group, classed, operator_name, accent, brace, stack, stacked_relation, fraction, outlined_fraction, square_root, root, between_delimiters, struck, boxed_atom, choice}
 use Rattle.latex2mathml_tex_grammar.specs.Reading.{Outcome, Read, Refused, ReadsAtoms, ReadsRule}
 use Rattle.latex2mathml_tex_grammar.specs.{Formulas.alone, Formulas.formula_context, Atoms.Before, Atoms.Nothing, Atoms.Plain, Atoms.atom, Symbols.Style, Symbols.InScript, Symbols.InText, Symbols.Relation, Units.Units, Symbols.Ordinary}
 use Rattle.latex2mathml_tex_grammar.specs.Rows.{Operand, Row, as_base, row_element}
@@ -112,8 +112,8 @@ made_of (last.Classed class style) xs y = classed (class_of class) (as_base (sty
 made_of (last.Boxed b style) xs y = core (boxed_atom (box_of b) (as_base (style_of style) Ordinary y))
 made_of (last.Fraction rule own) xs y = fraction (fraction_rule_of rule) (option_map style_of own) (top xs) y.element
 made_of (last.Outlined o) xs y = outlined_fraction (outline_of o) (top xs) y.element
-made_of (last.Stack s style) xs y = stack (side_of s) y.class (top xs) (as_base (style_of style) y.class y).element
-made_of (last.StackedRelation style) xs y = stack Above Relation (top xs) (as_base (style_of style) Relation y).element
+made_of (last.Stack s style) xs y = stack (side_of s) (Plain y.class) (top xs) (as_base (style_of style) y.class y).element
+made_of (last.StackedRelation style) xs y = stack Above (stacked_relation y.class) (top xs) (as_base (style_of style) Relation y).element
 made_of last.OverArrow xs y = core (atom (Plain Relation) true (pair Mover plain (top xs) y.element))
 made_of last.OverAndUnderArrow xs y = labeled_arrow (top (drop 1 xs)) (top xs) y.element
 
@@ -123,8 +123,8 @@ abbrev pub after_first : First → ℕ → Context → Context → List Element 
 after_first (first.Fraction rule own) place c outer xs x =
     of_one place c (λ y. fraction (fraction_rule_of rule) (option_map style_of own) x.element y.element)
 after_first (first.Outlined o) place c outer xs x = of_one place c (λ y. outlined_fraction (outline_of o) x.element y.element)
-after_first (first.Stack s) place c outer xs x = of_one place outer (λ y. stack (side_of s) y.class x.element (as_base outer.style y.class y).element)
-after_first first.StackedRelation place c outer xs x = of_one place outer (λ y. stack Above Relation x.element (as_base outer.style Relation y).element)
+after_first (first.Stack s) place c outer xs x = of_one place outer (λ y. stack (side_of s) (Plain y.class) x.element (as_base outer.style y.class y).element)
+after_first first.StackedRelation place c outer xs x = of_one place outer (λ y. stack Above (stacked_relation y.class) x.element (as_base outer.style Relation y).element)
 after_first first.InBlock place c outer xs x = reads_operand place c (λ y. of_two place c c (λ z w. choice c.style x y z))
 after_first (first.InLine o) place c outer xs y = of_two place c c (λ z w. choice c.style (operand_in o xs) y z)
 after_first (first.InScripts o) place c outer xs z = of_one place c (λ w. choice c.style (operand_in o (drop 1 xs)) (operand_in o xs) z)

@@ -1,5 +1,5 @@
 -- The top elements changed, and a row with an atom after it.
-use Rattle.std.proofs.Common.{◌≡◌, ℕ, ◌+◌, ◌<◌, ◌≤◌, ◌==◌, Bool, false, true, zero, suc, List, [], ◌∷◌, ◌++◌, Option, Some, None, length, take, drop, arith, pos, refl, sym, ap, ◌∙◌}
+use Rattle.std.proofs.Common.{◌≡◌, ℕ, ◌+◌, ◌<◌, ◌≤◌, ◌==◌, Bool, false, true, zero, suc, List, [], ◌∷◌, ◌++◌, Option, Some, None, length, take, drop, arith, ℤ, pos, negsuc, refl, sym, ap, ◌∙◌}
 use Rattle.std.proofs.Math.Dec.{eqb-suc-zero}
 use Rattle.std.proofs.lemmas.List.{drop-drop}
 use Rattle.latex2mathml_elements.specs.Attributes.{Attributes, plain}
@@ -173,10 +173,10 @@ no_sign style first before code_kind.PlusOrMinus s p o x = absurd (p refl)
 no_sign style first before (code_kind.Plain class) s p o x = absurd (o class refl)
 no_sign style first before kind s p o x = refl
 
--- what separates an atom that is no space from those before it
-pub parted_there : (style : Style) (before : Before) (kind : CodeKind) → (kind ≡ code_kind.Blank → ⊥) → Atoms.parts style before (Atoms.past before (kind_of kind)) ≡ Atoms.is_parted style before (kind_of kind)
-parted_there style before code_kind.Blank h = absurd (h refl)
-parted_there style before kind h = refl
+-- the space before an atom that is no space itself
+pub gap_there : (style : Style) (before : Before) (kind : CodeKind) → (kind ≡ code_kind.Blank → ⊥) → Atoms.missing (Atoms.table_space style (Atoms.class_before before) (Atoms.class_before (Atoms.past before (kind_of kind)))) (Atoms.own_after style before + Atoms.own_before style before (kind_of kind)) ≡ Atoms.gap style before (kind_of kind)
+gap_there style before code_kind.Blank h = absurd (h refl)
+gap_there style before kind h = refl
 
 -- an atom that joins nothing: no letter of a word, and no relation behind another
 pub apart_there : (last kind : CodeKind) → (kind ≡ code_kind.UprightLetters → ⊥) → (is_relation kind ≡ true → is_relation last ≡ true → ⊥) → Rows.joining (kind_of last) (kind_of kind) ≡ Rows.Apart
@@ -255,17 +255,24 @@ begins_row (suc n) (x ∷ []) enough = absurd (omega arith)
 begins_row (suc n) (x ∷ y ∷ xs) enough = sym (eqb-suc-zero n)
 
 -- an atom that no space separates from the row
-pub put_adapted : (n : ℕ) (style : Style) (before : Before) (kind : Kind) (xs : List Element) → suc n ≤ length xs → Atoms.is_parted style before kind ≡ false → take (suc n) (changed_at (Atoms.element_there style (n == 0) before kind) 0 xs) ≡ Rows.put Rows.Apart style before (Atoms.atom kind false (top xs)) (take n (drop 1 xs))
+pub put_adapted : (n : ℕ) (style : Style) (before : Before) (kind : Kind) (xs : List Element) → suc n ≤ length xs → Atoms.gap style before kind ≡ pos 0 → take (suc n) (changed_at (Atoms.element_there style (n == 0) before kind) 0 xs) ≡ Rows.put Rows.Apart style before (Atoms.atom kind false (top xs)) (take n (drop 1 xs))
 put_adapted n style before kind [] enough none = absurd (omega arith)
 put_adapted n style before kind (x ∷ xs) enough none = rw (begins_row n (x ∷ xs) enough, none)
 
--- an atom that a thin space separates from the row
-pub put_parted : (n : ℕ) (style : Style) (before : Before) (kind : Kind) (xs ys : List Element) → suc n ≤ length xs → Atoms.is_parted style before kind ≡ true → ys ≡ changed_at (Atoms.element_there style (n == 0) before kind) 0 xs → take (suc (suc n)) (take 1 ys ++ (space (pos 3) ∷ drop 1 ys)) ≡ Rows.put Rows.Apart style before (Atoms.atom kind false (top xs)) (take n (drop 1 xs))
-put_parted n style before kind [] ys enough apart is = absurd (omega arith)
-put_parted n style before kind (x ∷ xs) ys enough apart is = rw (is, begins_row n (x ∷ xs) enough, apart) refl
+-- a space that has a width
+some_parted : (width : ℤ) (xs : List Element) → (width ≡ pos 0 → ⊥) → space width ∷ xs ≡ Rows.parted width xs
+some_parted (pos zero) xs some = absurd (some refl)
+some_parted (pos (suc n)) xs some = refl
+some_parted (negsuc n) xs some = refl
+
+-- an atom that a space of this width separates from the row
+pub put_parted : (n : ℕ) (style : Style) (before : Before) (kind : Kind) (width : ℤ) (xs ys : List Element) → suc n ≤ length xs → (width ≡ pos 0 → ⊥) → width ≡ Atoms.gap style before kind → ys ≡ changed_at (Atoms.element_there style (n == 0) before kind) 0 xs → take (suc (suc n)) (take 1 ys ++ (space width ∷ drop 1 ys)) ≡ Rows.put Rows.Apart style before (Atoms.atom kind false (top xs)) (take n (drop 1 xs))
+put_parted n style before kind width [] ys enough some gap is = absurd (omega arith)
+put_parted n style before kind width (x ∷ xs) ys enough some gap is =
+    rw (is, begins_row n (x ∷ xs) enough, sym gap) (ap (λ zs. Atoms.element_there style (n == 0) before kind x ∷ zs) (some_parted width (take n xs) some))
 
 -- an atom that stays as it is, with no space before it
-pub put_as_it_is : (joining : Rows.Joining) (n : ℕ) (style : Style) (before : Before) (kind : Kind) (xs : List Element) → suc n ≤ length xs → joining ≡ Rows.Apart → Atoms.is_parted style before kind ≡ false → ((x : Element) → Atoms.element_there style (n == 0) before kind x ≡ x) → take (suc n) xs ≡ Rows.put joining style before (Atoms.atom kind false (top xs)) (take n (drop 1 xs))
+pub put_as_it_is : (joining : Rows.Joining) (n : ℕ) (style : Style) (before : Before) (kind : Kind) (xs : List Element) → suc n ≤ length xs → joining ≡ Rows.Apart → Atoms.gap style before kind ≡ pos 0 → ((x : Element) → Atoms.element_there style (n == 0) before kind x ≡ x) → take (suc n) xs ≡ Rows.put joining style before (Atoms.atom kind false (top xs)) (take n (drop 1 xs))
 put_as_it_is joining n style before kind [] enough apart none stays = absurd (omega arith)
 put_as_it_is joining n style before kind (x ∷ xs) enough apart none stays = rw (apart, begins_row n (x ∷ xs) enough, none) (ap (λ y. y ∷ take n xs) (sym (stays x)))
 

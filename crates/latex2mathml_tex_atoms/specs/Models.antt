@@ -8,6 +8,7 @@ use Rattle.latex2mathml_tex_grammar.specs.Atoms as atoms
 use Rattle.latex2mathml_tex_grammar.specs.Makes as makes
 use Rattle.latex2mathml_tex_grammar.specs.Rows as rows
 use Rattle.latex2mathml_tex_grammar.specs.Rules as rules
+use Rattle.latex2mathml_tex_grammar.specs.SpaceTable as table
 use Rattle.latex2mathml_tex_grammar.specs.Words as words
 use Rattle.latex2mathml_tex_commands.specs.Meanings.{alphabet_of, class_of, fraction_rule_of, limit_place_of, style_of}
 use Rattle.latex2mathml_attributes.specs.declared.attributes.Side.{Side}
@@ -18,13 +19,15 @@ use Rattle.latex2mathml_tex_atoms.specs.declared.atoms.{Before.Before, Context.C
 use Rattle.latex2mathml_tex_atoms.specs.declared.atoms.Before.TheVariants as before
 use Rattle.latex2mathml_tex_atoms.specs.declared.atoms.Joining.TheVariants as joining
 use Rattle.latex2mathml_tex_atoms.specs.declared.atoms.Kind.TheVariants as kind
+use Rattle.latex2mathml_tex_atoms.specs.declared.spaces.Entry.{Entry}
+use Rattle.latex2mathml_tex_atoms.specs.declared.spaces.Entry.TheVariants as entry
 
 abbrev pub kind_of : Kind → atoms.Kind
 kind_of (kind.SignOf class) = atoms.SignOf (class_of class)
 kind_of kind.PlusOrMinus = atoms.PlusOrMinus
 kind_of (kind.Plain class) = atoms.Plain (class_of class)
 kind_of kind.UprightLetters = atoms.UprightLetters
-kind_of kind.FunctionWord = atoms.FunctionWord
+kind_of (kind.Unspaced class) = atoms.Unspaced (class_of class)
 kind_of kind.Divider = atoms.Divider
 kind_of kind.Blank = atoms.Blank
 
@@ -41,7 +44,15 @@ joining_of joining.Apart = rows.Apart
 abbrev pub before_of : Before → atoms.Before
 before_of before.Nothing = atoms.Nothing
 before_of (before.After class) = atoms.After (class_of class)
-before_of before.AfterName = atoms.AfterName
+before_of (before.AfterUnspaced class) = atoms.AfterUnspaced (class_of class)
+
+abbrev pub entry_of : Entry → table.Entry
+entry_of entry.Zero = table.Zero
+entry_of entry.Thin = table.Thin
+entry_of entry.ThinOutsideScripts = table.ThinOutsideScripts
+entry_of entry.MediumOutsideScripts = table.MediumOutsideScripts
+entry_of entry.ThickOutsideScripts = table.ThickOutsideScripts
+entry_of entry.NoEntry = table.NoEntry
 
 abbrev pub context_of : Context → rules.Context
 context_of c = rules.in_context (style_of c.style) (option_map alphabet_of c.alphabet)

@@ -20,6 +20,7 @@ delimiter_element a text = token Mo a text
 abbrev pub height_of : Height → Fences.Height
 height_of height.Low = Fences.Low
 height_of height.Tall = Fences.Tall
+height_of height.Taller = Fences.Taller
 height_of height.VeryTall = Fences.VeryTall
 
 -- the widths of a delimiter

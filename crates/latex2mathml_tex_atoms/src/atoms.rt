@@ -40,8 +40,8 @@ pub enum Kind {
     Plain(Class),
     /// An upright letter, which forms one word with those next to it.
     UprightLetters,
-    /// The name of a function.
-    FunctionWord,
+    /// An element of this class that has no space of its own, such as the name of a function.
+    Unspaced(Class),
     /// A delimiter within others.
     Divider,
     /// A space.
@@ -95,7 +95,9 @@ impl Kind {
     {
         matches!(
             self,
-            Kind::SignOf(Class::Operator) | Kind::Plain(Class::Operator) | Kind::FunctionWord
+            Kind::SignOf(Class::Operator)
+                | Kind::Plain(Class::Operator)
+                | Kind::Unspaced(Class::Operator)
         )
     }
 
@@ -135,12 +137,12 @@ impl Kind {
     }
 }
 
-/// What precedes an atom, ignoring spaces.
+/// What precedes an atom, ignoring spaces: nothing, or an atom of this class, which may have no space of its own.
 #[derive(Clone, Copy)]
 pub enum Before {
     Nothing,
     After(Class),
-    AfterName,
+    AfterUnspaced(Class),
 }
 
 impl Before {
@@ -150,15 +152,8 @@ impl Before {
         ensures { result ≡ Atoms.begins_operand (before_of self) }
     {
         match self {
-            Before::Nothing | Before::AfterName => true,
-            Before::After(class) => match class {
-                Class::Operator
-                | Class::Binary
-                | Class::Relation
-                | Class::Opening
-                | Class::Punctuation => true,
-                Class::Ordinary | Class::Closing | Class::Inner => false,
-            },
+            Before::Nothing => true,
+            Before::After(class) | Before::AfterUnspaced(class) => awaits_operand(class),
         }
     }
 
@@ -176,8 +171,8 @@ impl Before {
         ensures { result ≡ Atoms.leads_operator (before_of self) }
     {
         match self {
-            Before::Nothing | Before::AfterName => false,
-            other => other.begins_operand(),
+            Before::After(class) => awaits_operand(class),
+            Before::Nothing | Before::AfterUnspaced(_) => false,
         }
     }
 
@@ -208,41 +203,23 @@ impl Before {
             Kind::PlusOrMinus => Before::After(self.class_there(Class::Binary)),
             Kind::Plain(class) => Before::After(self.class_there(class)),
             Kind::UprightLetters => Before::After(Class::Ordinary),
-            Kind::FunctionWord => Before::AfterName,
+            Kind::Unspaced(class) => Before::AfterUnspaced(self.class_there(class)),
             Kind::Divider => Before::After(Class::Opening),
             Kind::Blank => self,
         }
     }
-
-    /// Whether a thin space precedes an atom of this kind.
-    pub fn is_parted(self, style: Style, kind: Kind) -> bool
-        ensures { result ≡ Atoms.is_parted (style_of style) (before_of self) (kind_of kind) }
-    {
-        match kind {
-            Kind::Blank => false,
-            kind => parts(style, self, self.past(kind)),
-        }
-    }
 }
 
-/// Whether there is a thin space between two atoms. An operator and a comma have a space of their own. What is inner has none in
-/// scripts.
-fn parts(style: Style, before: Before, behind: Before) -> bool
-    ensures { result ≡ Atoms.parts (style_of style) (before_of before) (before_of behind) }
+/// Whether no binary operator can follow an atom of this class.
+#[inline(always)]
+fn awaits_operand(class: Class) -> bool
+    ensures { result ≡ Atoms.awaits_operand (class_of class) }
 {
-    match (before, behind) {
-        (Before::AfterName, Before::After(Class::Ordinary) | Before::AfterName) => true,
-        (Before::After(Class::Ordinary | Class::Closing | Class::Inner), Before::AfterName) => true,
-        (Before::AfterName, Before::After(Class::Inner))
-        | (
-            Before::After(Class::Ordinary | Class::Closing | Class::Inner),
-            Before::After(Class::Inner),
-        )
-        | (
-            Before::After(Class::Inner),
-            Before::After(Class::Ordinary | Class::Opening | Class::Punctuation),
-        ) => !matches!(style, Style::InScript),
-        _ => false,
+    match class {
+        Class::Operator | Class::Binary | Class::Relation | Class::Opening | Class::Punctuation => {
+            true
+        }
+        Class::Ordinary | Class::Closing | Class::Inner => false,
     }
 }
 

@@ -24,6 +24,8 @@ pub enum Height {
     Low,
     /// Taller: they stretch, and have no more room than TeX's `\Big`.
     Tall,
+    /// As tall as two rows: they have no more room than TeX's `\bigg`.
+    Taller,
     /// Mostly so tall that they need all room.
     VeryTall,
 }
@@ -42,7 +44,7 @@ impl Height {
     {
         match self {
             Height::Low => Stretch::Rigid,
-            Height::Tall | Height::VeryTall => Stretch::Stretching,
+            Height::Tall | Height::Taller | Height::VeryTall => Stretch::Stretching,
         }
     }
 
@@ -53,6 +55,7 @@ impl Height {
     {
         match self {
             Height::Tall => room(Size::Bigger, delimiter),
+            Height::Taller => room(Size::VeryBig, delimiter),
             Height::Low | Height::VeryTall => None,
         }
     }

@@ -12,5 +12,6 @@ pub mod outlines;
 pub mod rests;
 pub mod shapes;
 pub mod signs;
+mod spaces;
 pub mod widths;
 pub mod words;

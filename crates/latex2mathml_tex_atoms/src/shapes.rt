@@ -88,11 +88,40 @@ pub fn make_base(builder: &mut Builder, style: Style, class: Class, own: Class)
     }
 }
 
-/// Whether the top element is a sign.
-pub fn is_sign(builder: &Builder) -> bool
-    ensures { result ≡ Makes.is_sign (top (elements_in builder.now)) }
+/// Returns what the top element is to its neighbours as an atom of this class. Only a sign has a space of its own.
+pub fn classed_kind(builder: &Builder, class: Class) -> Kind
+    ensures { kind_of result
+        ≡ Makes.classed_kind (class_of class) (top (elements_in builder.now)) }
 {
-    matches!(builder.token_at(0), Some((Token::Mo, _)))
+    match builder.token_at(0) {
+        Some((Token::Mo, attributes)) => classed_sign(class, attributes.space),
+        _ => classed_other(class),
+    }
+}
+
+/// Returns what a sign that says this space is to its neighbours, as an atom of this class.
+fn classed_sign(class: Class, own: Option<Space>) -> Kind
+    ensures { kind_of result
+        ≡ Makes.classed_sign (class_of class) (option_map space_of own) }
+{
+    match (class, own) {
+        (Class::Operator, None) => Kind::Plain(Class::Operator),
+        (Class::Operator, Some(_)) => Kind::Unspaced(Class::Operator),
+        (Class::Binary | Class::Relation | Class::Punctuation, _) => Kind::SignOf(class),
+        _ => Kind::Plain(class),
+    }
+}
+
+/// Returns what an element that is no sign is to its neighbours, as an atom of this class.
+fn classed_other(class: Class) -> Kind
+    ensures { kind_of result ≡ Makes.classed_other (class_of class) }
+{
+    match class {
+        Class::Operator | Class::Binary | Class::Relation | Class::Punctuation => {
+            Kind::Unspaced(class)
+        }
+        Class::Ordinary | Class::Opening | Class::Closing | Class::Inner => Kind::Plain(class),
+    }
 }
 
 /// Makes the top element, if it is a sign, one that precedes no operand. It is all of an atom of this class.
@@ -251,8 +280,9 @@ fn put_adapted(
         Joining::Apart => {}
     }
     adapt(builder, 0, style, count == 0, before, kind);
-    if before.is_parted(style, kind) {
-        builder.space_below(3)?;
+    let gap = before.gap(style, kind);
+    if gap != 0 {
+        builder.space_below(gap)?;
         // all elements of a row are among those of the builder, so their number fits in a `usize`
         let _ = builder.len();
         return Ok(count + 2);

@@ -1,5 +1,5 @@
 //! Signs: how they are adapted to their position in a row.
-ghost use Rattle.std.specs.Prelude.{◌≡◌, ◌≢◌, Bool, false, IsTrue, option_map};
+ghost use Rattle.std.specs.Prelude.{◌≡◌, ◌≢◌, Bool, false, IsTrue, option_map, pos};
 ghost use Rattle.latex2mathml_attributes.specs.Names.{space_of};
 ghost use Rattle.latex2mathml_elements.specs.Element.{Element};
 ghost use Rattle.latex2mathml_tex_grammar.specs.Atoms;
@@ -19,23 +19,25 @@ use latex2mathml_tex_commands::meaning::{Class, Style};
 #[inline(always)]
 pub(crate) fn is_put_as_it_is(style: Style, first: bool, before: Before, kind: Kind) -> bool
     ensures word { IsTrue result → kind ≢ Kind.UprightLetters }
-    ensures parted { IsTrue result
-        → Atoms.is_parted (style_of style) (before_of before) (kind_of kind) ≡ false }
+    ensures gap { IsTrue result
+        → Atoms.gap (style_of style) (before_of before) (kind_of kind) ≡ pos 0 }
     ensures element { (x : Element) → IsTrue result
         → Atoms.element_there (style_of style) first (before_of before) (kind_of kind) x ≡ x }
 {
-    if let Before::AfterName | Before::After(Class::Inner) = before {
+    if let Before::AfterUnspaced(_) | Before::After(Class::Inner | Class::Operator) = before {
         return false;
     }
     match kind {
-        Kind::Plain(Class::Inner) | Kind::SignOf(Class::Inner) => false,
-        Kind::Plain(Class::Operator) | Kind::SignOf(Class::Operator) => !before.leads_operator(),
-        Kind::Plain(_) => true,
-        Kind::SignOf(Class::Relation) => keeps_space(style) && !before.leads_relation(),
+        Kind::Plain(Class::Ordinary) => true,
+        Kind::Plain(Class::Operator | Class::Opening | Class::Closing | Class::Punctuation) => {
+            !before.begins_operand()
+        }
+        Kind::Plain(_) | Kind::SignOf(Class::Inner) => false,
+        Kind::SignOf(Class::Ordinary | Class::Opening) => keeps_space(style),
         Kind::SignOf(Class::Binary) => keeps_space(style) && !is_ordinary(first, before),
-        Kind::SignOf(_) => keeps_space(style),
+        Kind::SignOf(_) => keeps_space(style) && !before.begins_operand(),
         Kind::PlusOrMinus => keeps_space(style) && !first && !before.begins_operand(),
-        Kind::UprightLetters | Kind::FunctionWord | Kind::Divider | Kind::Blank => false,
+        Kind::UprightLetters | Kind::Unspaced(_) | Kind::Divider | Kind::Blank => false,
     }
 }
 
@@ -158,7 +160,7 @@ fn lead(builder: &mut Builder, depth: usize, leads: bool)
         builder.give(
             depth,
             Attributes {
-                space: space_behind(attributes.space),
+                space: only_after(attributes.space),
                 ..attributes
             },
         );
@@ -166,8 +168,8 @@ fn lead(builder: &mut Builder, depth: usize, leads: bool)
 }
 
 /// Returns the space of a sign that has none before it.
-fn space_behind(space: Option<Space>) -> Option<Space>
-    ensures { option_map space_of result ≡ Atoms.space_behind (option_map space_of space) }
+fn only_after(space: Option<Space>) -> Option<Space>
+    ensures { option_map space_of result ≡ Atoms.only_after (option_map space_of space) }
 {
     match space {
         None => Some(Space::NoSpaceBefore),

@@ -1,5 +1,5 @@
 -- Atoms whose parts hold no character that XML forbids hold none.
-use Rattle.std.proofs.Common.{◌≡◌, ℕ, zero, suc, Bool, true, false, ◌==◌, List, [], ◌∷◌, ◌++◌, map, reverse, Option, Some, None, refl, sym, subst, codes}
+use Rattle.std.proofs.Common.{◌≡◌, ℕ, zero, suc, ℤ, pos, negsuc, Bool, true, false, ◌==◌, List, [], ◌∷◌, ◌++◌, map, reverse, Option, Some, None, refl, sym, subst, codes}
 use Rattle.std.proofs.{lemmas.Bool.and_parts, lemmas.Grind.reverse_onto}
 use Rattle.std.specs.{List.list_all, Str.NonePass}
 use Rattle.latex2mathml_elements.specs.Attributes.{Attributes, Side, Above, Below, Stretch}
@@ -7,7 +7,7 @@ use Rattle.latex2mathml_elements.specs.Characters.{is_forbidden, IsAllowed, HasA
 use Rattle.latex2mathml_elements.specs.Element.{Mi, Mn, Mo, Mtext, Element, token, space, rectangle, container, pair, triple, table, children}
 use Rattle.latex2mathml_elements.proofs.{Characters.allowed_both, Characters.allowed_char, Characters.allowed_plain, Characters.plain_is_allowed, Plain.IsPlain, Plain.is_plain}
 use Rattle.latex2mathml_tex_grammar.specs.Alphabets.{in_alphabet}
-use Rattle.latex2mathml_tex_grammar.specs.Atoms.{Atom, Kind, SignOf, PlusOrMinus, Plain, UprightLetters, FunctionWord, Blank, Divider, Before, begins_operand, is_ordinary, as_prefix, as_infix, without_space, without_space_before, led, leads_operator, leads_relation, tight, element_there, is_parted, lone_sign, element_as}
+use Rattle.latex2mathml_tex_grammar.specs.Atoms.{Atom, Kind, SignOf, PlusOrMinus, Plain, UprightLetters, Unspaced, Blank, Divider, Before, begins_operand, is_ordinary, as_prefix, as_infix, without_space, without_space_before, led, leads_operator, leads_relation, tight, element_there, gap, lone_sign, element_as}
 use Rattle.latex2mathml_tex_grammar.specs.Fences.{Height, fenced, height_if}
 use Rattle.latex2mathml_tex_grammar.specs.Makes.{text, letter, upright_letter, number, symbol, struck, classed, on_side, accent, brace, stack, in_style, fraction_element, fraction, lowered_divider, lowered, between_delimiters, spaced_as, Scripts, primes_text, prime_mark, behind_primes, superscript, are_stacked, fixed_base, with_scripts, before_base, base_there, scripted_atom, scripted}
 use Rattle.latex2mathml_tex_grammar.specs.Meaning.{FractionRule, Bar, NoBar, Braced, Bracketed, Bare, LimitPlace, Beside, ByStyle, Movable, Stacked}
@@ -138,13 +138,14 @@ element_there_allowed style first before PlusOrMinus x h =
 element_there_allowed style first before (Plain Operator) x h = led_allowed (leads_operator before) x h
 element_there_allowed style first before (Plain class) x h = h
 element_there_allowed style first before UprightLetters x h = h
-element_there_allowed style first before FunctionWord x h = h
+element_there_allowed style first before (Unspaced class) x h = h
 element_there_allowed style first before Divider x h = h
 element_there_allowed style first before Blank x h = h
 
-parted_allowed : (b : Bool) (xs : List Element) → AreAllowedElements xs → AreAllowedElements (parted b xs)
-parted_allowed true xs h = (tt, h)
-parted_allowed false xs h = h
+parted_allowed : (width : ℤ) (xs : List Element) → AreAllowedElements xs → AreAllowedElements (parted width xs)
+parted_allowed (pos zero) xs h = h
+parted_allowed (pos (suc n)) xs h = (tt, h)
+parted_allowed (negsuc n) xs h = (tt, h)
 
 join_allowed : (change : Attributes → Attributes) (x : Element) (xs : List Element) → HasAllowedTexts x → AreAllowedElements xs → AreAllowedElements (join change x xs)
 join_allowed change (token t a letter) [] h k = (h, k)
@@ -166,7 +167,7 @@ put_allowed : (joining : Joining) (style : Style) (before : Before) (x : Atom) (
 put_allowed ToWord style before x xs h k = join_allowed _ x.element xs h k
 put_allowed ToRelations style before x xs h k = join_allowed _ x.element xs h k
 put_allowed Apart style before x xs h k =
-    (element_there_allowed style (is_empty xs) before x.kind x.element h, parted_allowed (is_parted style before x.kind) xs k)
+    (element_there_allowed style (is_empty xs) before x.kind x.element h, parted_allowed (gap style before x.kind) xs k)
 
 pub with_atom_allowed : (style : Style) (row : Row) (x : Atom) → IsAllowedRow row → IsAllowedAtom x → IsAllowedRow (with_atom style row x)
 with_atom_allowed style row x h k = put_allowed _ style row.before x row.elements k h
@@ -245,8 +246,8 @@ accent_allowed side mark width x h k = on_side_allowed side _ x _ k (allowed_cha
 pub brace_allowed : (side : Side) (mark : ℕ) (x : Element) → is_forbidden mark ≡ false → HasAllowedTexts x → IsAllowedCore (brace side mark x)
 brace_allowed side mark x h k = on_side_allowed side _ x _ k (allowed_char mark h)
 
-pub stack_allowed : (side : Side) (class : Class) (mark base : Element) → HasAllowedTexts mark → HasAllowedTexts base → IsAllowedCore (stack side class mark base)
-stack_allowed side class mark base h k = on_side_allowed side _ base mark k h
+pub stack_allowed : (side : Side) (kind : Kind) (mark base : Element) → HasAllowedTexts mark → HasAllowedTexts base → IsAllowedCore (stack side kind mark base)
+stack_allowed side kind mark base h k = on_side_allowed side _ base mark k h
 
 -- Fractions and delimiters
 

@@ -10,6 +10,7 @@ use Rattle.latex2mathml_tex_grammar.specs.Makes.{Core, core, Scripts, letter, sy
 use Rattle.latex2mathml_tex_grammar.specs.Refusal.{Refusal, OutsideTable, MisplacedCharacter, CharacterInWords, refusal_at}
 use Rattle.latex2mathml_tex_grammar.specs.Meaning.{Meaning, Shows, FunctionName, Dots, Spacing, Styled, Words as TakesWordsIn, Fraction, Root, Accent, Brace, Stack, StackedRelation, OperatorName, Negation, Slash, Sized, Left, Middle, Right, Limits, NoLimits, Classed, Changes, ToAlphabet, ToStyle, Divides, ToColor, BeginTable, EndTable, LineBreak, Substack, Skip, SkipInBraces, Boxed, Smash, ContinuedFraction, GeneralFraction, Choice, Bar, FractionRule, Box, Phantom, PhantomWidth, PhantomHeight, Smashed, WithoutHeight, WithoutDepth, OverRight, OverLeft, OverBoth, Frame, StrikeUp, StrikeDown, StrikeTwice, Raise, InColor, Highlight, Rectangle, Arrow, Raised, Colored, OnColor}
 use Rattle.latex2mathml_tex_grammar.specs.{Colors.color_of, Lengths.width_of}
+use Rattle.latex2mathml_tex_grammar.specs.Atoms.{Plain}
 use Rattle.latex2mathml_tex_grammar.specs.Rows.{as_base, lone, Operand, row_element}
 use Rattle.latex2mathml_tex_grammar.specs.Rules.{Context, Rule, gives, refuses, takes_if, a_character, a_digit, decimal, after_digits, a_number, a_symbol, begins_none, character_rule, struck_atom, slashed, a_box, a_fraction, meaning_rule, command_rule, rule, with_value, a_bar, a_left_brace, a_right_brace, empty_braces, an_outer_delimiter, has_width, a_line, numbered_style, a_style, an_outlined_fraction, a_general_fraction, a_choice}
 use Rattle.latex2mathml_tex_grammar.specs.Starts.{OperandStart, NoStart, GroupStart, DigitStart, operand_start, start_of_digit, Mark, Prime, Below, Above as AboveMark, LimitsAt, step_of, step_of_mark}
@@ -297,7 +298,7 @@ meaning_rule_allowed place c Root h =
     (λ bracket given degree k x i. (i, row_element_allowed degree.elements k), λ x k. (k, tt))
 meaning_rule_allowed place c (Accent side mark width) h = λ x k. accent_allowed side mark width x.element (not_forbidden mark h) k
 meaning_rule_allowed place c (Brace side mark) h = λ x k. brace_allowed side mark x.element (not_forbidden mark h) k
-meaning_rule_allowed place c (Stack side) h = λ mark k base i. stack_allowed side base.class mark.element _ k (as_base_allowed c.style base.class base i)
+meaning_rule_allowed place c (Stack side) h = λ mark k base i. stack_allowed side (Plain base.class) mark.element _ k (as_base_allowed c.style base.class base i)
 meaning_rule_allowed place c StackedRelation h = λ mark k base i. (as_base_allowed c.style Relation base i, k)
 meaning_rule_allowed place c OperatorName h = (λ star given x k. k, λ x k. k)
 meaning_rule_allowed place c Negation h =

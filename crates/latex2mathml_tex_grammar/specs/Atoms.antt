@@ -1,6 +1,7 @@
 -- Atoms, and what each is to those next to it: the space between them, prefix signs, words of upright letters.
-use Rattle.std.specs.Prelude.{Bool, true, false, Option, Some, None, if◌then◌else◌}
+use Rattle.std.specs.Prelude.{ℕ, ℤ, pos, ◌+◌, ◌-ℤ◌, Bool, true, false, Option, Some, None, if◌then◌else◌}
 use Rattle.latex2mathml_elements.specs.{Attributes.Form, Attributes.Prefix, Attributes.Infix, Attributes.Space, Attributes.NoSpace, Attributes.Thick, Attributes.NoSpaceBefore, Attributes.ThickAfter, Element.Element, Element.Mo, Element.token}
+use Rattle.latex2mathml_tex_grammar.specs.SpaceTable.{space_between}
 use Rattle.latex2mathml_tex_grammar.specs.Symbols.{Class, Ordinary, Operator, Binary, Relation, Opening, Closing, Punctuation, Inner, Style, InScript}
 
 -- what an atom is to its neighbours
@@ -13,8 +14,8 @@ pub data Kind : Type 0 where
   Plain : Class → Kind
   -- an upright letter, which forms one word with those next to it
   UprightLetters : Kind
-  -- the name of a function
-  FunctionWord : Kind
+  -- an element of this class that has no space of its own, such as the name of a function
+  Unspaced : Class → Kind
   -- a delimiter within others. Like an opening one, it begins what follows it.
   Divider : Kind
   -- a space
@@ -31,24 +32,28 @@ pub record Atom : Type 0 where
 abbrev pub atom : Kind → Bool → Element → Atom
 atom kind high element = record { element = element; kind = kind; high = high }
 
--- what precedes an atom, spaces aside
+-- what precedes an atom, spaces aside: nothing, or an atom of this class, which may have no space of its own
 pub data Before : Type 0 where
   Nothing : Before
   After : Class → Before
-  AfterName : Before
+  AfterUnspaced : Class → Before
+
+-- whether no binary operator can follow an atom of this class
+abbrev pub awaits_operand : Class → Bool
+awaits_operand Operator = true
+awaits_operand Binary = true
+awaits_operand Relation = true
+awaits_operand Opening = true
+awaits_operand Punctuation = true
+awaits_operand Ordinary = false
+awaits_operand Closing = false
+awaits_operand Inner = false
 
 -- whether no binary operator can follow
 abbrev pub begins_operand : Before → Bool
 begins_operand Nothing = true
-begins_operand AfterName = true
-begins_operand (After Operator) = true
-begins_operand (After Binary) = true
-begins_operand (After Relation) = true
-begins_operand (After Opening) = true
-begins_operand (After Punctuation) = true
-begins_operand (After Ordinary) = false
-begins_operand (After Closing) = false
-begins_operand (After Inner) = false
+begins_operand (After class) = awaits_operand class
+begins_operand (AfterUnspaced class) = awaits_operand class
 
 -- the class that an atom of this class has there: where no binary operator can be, a binary one is ordinary
 abbrev pub class_there : Before → Class → Class
@@ -61,34 +66,78 @@ past before (SignOf class) = After (class_there before class)
 past before PlusOrMinus = After (class_there before Binary)
 past before (Plain class) = After (class_there before class)
 past before UprightLetters = After Ordinary
-past before FunctionWord = AfterName
+past before (Unspaced class) = AfterUnspaced (class_there before class)
 past before Divider = After Opening
 past before Blank = before
 
--- Whether there is a thin space between two atoms. It separates the name of a function from another name, from what is
--- ordinary, and from a closing sign before it. Except in scripts, it separates what is inner from names, from what is ordinary
--- or inner, from a closing sign before it, and from an opening sign or a comma after it. An operator has a space of its own,
--- and so has a comma after it.
-abbrev pub parts : Style → Before → Before → Bool
-parts style AfterName (After Ordinary) = true
-parts style AfterName AfterName = true
-parts style (After Ordinary) AfterName = true
-parts style (After Closing) AfterName = true
-parts style (After Inner) AfterName = true
-parts InScript before behind = false
-parts style AfterName (After Inner) = true
-parts style (After Ordinary) (After Inner) = true
-parts style (After Closing) (After Inner) = true
-parts style (After Inner) (After Inner) = true
-parts style (After Inner) (After Ordinary) = true
-parts style (After Inner) (After Opening) = true
-parts style (After Inner) (After Punctuation) = true
-parts style before behind = false
+-- The space between two atoms
 
--- whether there is a thin space before an atom of this kind; a space needs none
-abbrev pub is_parted : Style → Before → Kind → Bool
-is_parted style before Blank = false
-is_parted style before kind = parts style before (past before kind)
+-- whether a relation has no space before it: after an opening sign, and after a comma, which has a space of its own
+abbrev pub leads_relation : Before → Bool
+leads_relation (After Opening) = true
+leads_relation (After Punctuation) = true
+leads_relation before = false
+
+-- whether an operator has no space before it: not after what is ordinary, closing or inner, nor after what has no space
+abbrev pub leads_operator : Before → Bool
+leads_operator (After class) = awaits_operand class
+leads_operator before = false
+
+-- The space that a browser leaves at each side of an atom of this class, in eighteenths of an em. In scripts only operators have
+-- some.
+abbrev pub own_space : Style → Class → ℕ
+own_space style Operator = 3
+own_space InScript class = 0
+own_space style Binary = 4
+own_space style Relation = 5
+own_space style class = 0
+
+-- the space after an atom that precedes another; only there does a comma have some
+abbrev pub own_after : Style → Before → ℕ
+own_after InScript (After Punctuation) = 0
+own_after style (After Punctuation) = 3
+own_after style (After class) = own_space style class
+own_after style before = 0
+
+-- none, if so
+abbrev pub unless : Bool → ℕ → ℕ
+unless true width = 0
+unless false width = width
+
+-- the space before an atom of this class there
+abbrev pub class_own_before : Style → Before → Class → ℕ
+class_own_before style before Relation = unless (leads_relation before) (own_space style Relation)
+class_own_before style before Operator = unless (leads_operator before) (own_space style Operator)
+class_own_before style before class = own_space style (class_there before class)
+
+-- the space before an atom of this kind there
+abbrev pub own_before : Style → Before → Kind → ℕ
+own_before style before (SignOf class) = class_own_before style before class
+own_before style before (Plain class) = class_own_before style before class
+own_before style before PlusOrMinus = class_own_before style before Binary
+own_before style before kind = 0
+
+-- the class of what precedes an atom, where anything does
+abbrev pub class_before : Before → Option Class
+class_before Nothing = None
+class_before (After class) = Some class
+class_before (AfterUnspaced class) = Some class
+
+-- the space of the table between atoms of these classes, where there are two; none where the table has no entry
+abbrev pub table_space : Style → Option Class → Option Class → Option ℕ
+table_space style (Some left) (Some right) = space_between style left right
+table_space style left right = None
+
+-- the space that is missing, or the space that is too much, as a negative number; nothing is added where the table has no entry
+abbrev pub missing : Option ℕ → ℕ → ℤ
+missing None own = pos 0
+missing (Some width) own = pos width -ℤ pos own
+
+-- What is added between an atom and what precedes it, so that the space there is that of the table. A space needs none.
+abbrev pub gap : Style → Before → Kind → ℤ
+gap style before Blank = pos 0
+gap style before kind =
+    missing (table_space style (class_before before) (class_before (past before kind))) (own_after style before + own_before style before kind)
 
 -- a sign that precedes its operand
 abbrev pub as_prefix : Element → Element
@@ -111,35 +160,20 @@ tight InScript x = without_space x
 tight style x = x
 
 -- the space of a sign that has none before it
-abbrev pub space_behind : Option Space → Option Space
-space_behind None = Some NoSpaceBefore
-space_behind (Some Thick) = Some ThickAfter
-space_behind (Some space) = Some space
+abbrev pub only_after : Option Space → Option Space
+only_after None = Some NoSpaceBefore
+only_after (Some Thick) = Some ThickAfter
+only_after (Some space) = Some space
 
 -- a sign without the space before it
 abbrev pub without_space_before : Element → Element
-without_space_before (token t a text) = token t (record a { space = space_behind a.space }) text
+without_space_before (token t a text) = token t (record a { space = only_after a.space }) text
 without_space_before x = x
 
 -- a sign without the space before it, if so
 abbrev pub led : Bool → Element → Element
 led true x = without_space_before x
 led false x = x
-
--- whether a relation has no space before it: after an opening sign, and after a comma, which has a space of its own
-abbrev pub leads_relation : Before → Bool
-leads_relation (After Opening) = true
-leads_relation (After Punctuation) = true
-leads_relation before = false
-
--- whether an operator has no space before it: not after what is ordinary, closing or inner, nor after a name, which has none
-abbrev pub leads_operator : Before → Bool
-leads_operator (After Operator) = true
-leads_operator (After Binary) = true
-leads_operator (After Relation) = true
-leads_operator (After Opening) = true
-leads_operator (After Punctuation) = true
-leads_operator before = false
 
 -- a sign of this class, which is not binary
 abbrev pub sign_there : Style → Before → Class → Element → Element

@@ -36,6 +36,7 @@ pub mod Rules
 pub mod Scanning
 pub mod Signs
 pub mod Sorted
+pub mod SpaceTable
 pub mod Spacing
 pub mod SpacingExamples
 pub mod Starts

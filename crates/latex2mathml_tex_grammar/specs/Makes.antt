@@ -5,7 +5,7 @@ use Rattle.latex2mathml_elements.specs.Attributes.{Attributes, Side, Above, Belo
 use Rattle.latex2mathml_elements.specs.Element.{Mi, Mn, Mo, Msqrt, Mstyle, Mpadded, Mphantom, Mfrac, Mroot, Msub, Msup, Munder, Mover, Msubsup, Munderover, Element, token, space, rectangle, container, pair, triple, children}
 use Rattle.latex2mathml_tex_grammar.specs.{Alphabets.in_alphabet, Rows.Row, Rows.Operand, Rows.lone, Rows.row_element}
 use Rattle.latex2mathml_elements.specs.{Extents.wide, Groups.grouped}
-use Rattle.latex2mathml_tex_grammar.specs.Atoms.{Atom, Kind, SignOf, PlusOrMinus, Plain, UprightLetters, FunctionWord, Blank, Divider, After, Before, Nothing, atom, element_there}
+use Rattle.latex2mathml_tex_grammar.specs.Atoms.{Atom, Kind, SignOf, PlusOrMinus, Plain, UprightLetters, Unspaced, Blank, Divider, After, Before, Nothing, atom, element_there}
 use Rattle.latex2mathml_tex_grammar.specs.Meaning.{FractionRule, Bar, NoBar, Braced, Bracketed, Bare, LimitPlace, Beside, ByStyle, Movable, Stacked, Box, Phantom, PhantomWidth, PhantomHeight, Smashed, WithoutHeight, WithoutDepth, OverRight, OverLeft, OverBoth, Frame, StrikeUp, StrikeDown, StrikeTwice, Raised, Colored, OnColor}
 use Rattle.latex2mathml_tex_grammar.specs.Fences.{Tall, fenced, height_if, sized_delimiter}
 use Rattle.latex2mathml_tex_grammar.specs.Widths.{room}
@@ -136,7 +136,7 @@ symbol alphabet (Integral c) = core (atom (Plain Operator) true (token Mo plain 
 
 -- the name of a function, with limits at this place
 abbrev pub function_name : LimitPlace → List ℕ → Core
-function_name limits name = operator limits (atom FunctionWord false (token Mi plain name))
+function_name limits name = operator limits (atom (Unspaced Operator) false (token Mi plain name))
 
 -- a space of this width, in eighteenths of an em
 abbrev pub spacing : ℤ → Atom
@@ -161,11 +161,6 @@ braced row = atom (Plain Ordinary) row.high (row_element (lone row.last row.elem
 abbrev pub group : Operand → Atom
 group x = atom (Plain Ordinary) x.high x.element
 
--- whether an element is a sign
-abbrev pub is_sign : Element → Bool
-is_sign (token Mo a sign_text) = true
-is_sign x = false
-
 -- the space of a sign that is an atom of this class, and was of the class `own`
 abbrev pub class_space : Class → Class → Option Space → Option Space
 class_space Binary Binary before = before
@@ -180,14 +175,27 @@ abbrev pub spaced_as : Class → Class → Element → Element
 spaced_as class own (token Mo a sign_text) = token Mo (record a { space = class_space class own a.space }) sign_text
 spaced_as class own x = x
 
--- What an atom of this class is to its neighbours, by whether it is a sign, which has a space of its own. An operator that is none
--- is like the name of a function.
-abbrev pub classed_kind : Class → Bool → Kind
-classed_kind Operator false = FunctionWord
-classed_kind Binary true = SignOf Binary
-classed_kind Relation true = SignOf Relation
-classed_kind Punctuation true = SignOf Punctuation
-classed_kind class sign = Plain class
+-- What a sign that has this space is to its neighbours, as an atom of this class. An operator that says its space has none.
+abbrev pub classed_sign : Class → Option Space → Kind
+classed_sign Operator None = Plain Operator
+classed_sign Operator (Some own) = Unspaced Operator
+classed_sign Binary own = SignOf Binary
+classed_sign Relation own = SignOf Relation
+classed_sign Punctuation own = SignOf Punctuation
+classed_sign class own = Plain class
+
+-- what an element that is no sign is to its neighbours, as an atom of this class: it has no space of its own
+abbrev pub classed_other : Class → Kind
+classed_other Operator = Unspaced Operator
+classed_other Binary = Unspaced Binary
+classed_other Relation = Unspaced Relation
+classed_other Punctuation = Unspaced Punctuation
+classed_other class = Plain class
+
+-- what an atom of this class is to its neighbours
+abbrev pub classed_kind : Class → Element → Kind
+classed_kind class (token Mo a sign_text) = classed_sign class a.space
+classed_kind class x = classed_other class
 
 -- where the limits of an atom of this class are
 abbrev pub limits_of : Class → LimitPlace
@@ -197,11 +205,11 @@ limits_of class = Beside
 -- an operand as an atom of this class
 abbrev pub classed : Class → Operand → Core
 classed class x =
-    operator (limits_of class) (atom (classed_kind class (is_sign x.element)) x.high (spaced_as class x.class x.element))
+    operator (limits_of class) (atom (classed_kind class x.element) x.high (spaced_as class x.class x.element))
 
 -- an operand as the name of a function, with limits at this place
 abbrev pub operator_name : LimitPlace → Operand → Core
-operator_name limits x = operator limits (atom FunctionWord x.high x.element)
+operator_name limits x = operator limits (atom (Unspaced Operator) x.high x.element)
 
 -- an operand as an atom that keeps its class
 abbrev pub shown : Operand → Core
@@ -271,14 +279,20 @@ abbrev pub accent : Side → ℕ → Stretch → Element → Core
 accent side mark width x =
     core (atom (Plain Ordinary) true (on_side side (record plain { accent = Some side }) x (token Mo (record plain { stretch = Some width }) (text mark))))
 
--- an element with a brace above or below it; its scripts are the labels of the brace
+-- an element with a brace above or below it is an operator; its scripts are the labels of the brace
 abbrev pub brace : Side → ℕ → Element → Core
 brace side mark x =
-    operator Stacked (atom (Plain Operator) true (on_side side plain x (token Mo (record plain { stretch = Some Stretching }) (text mark))))
+    operator Stacked (atom (Unspaced Operator) true (on_side side plain x (token Mo (record plain { stretch = Some Stretching }) (text mark))))
 
--- an element above or below a base; together they are an atom of this class
-abbrev pub stack : Side → Class → Element → Element → Core
-stack side class mark base = core (atom (Plain class) true (on_side side plain base mark))
+-- What a relation with something above it is to its neighbours, whose base is of this class. It has the space of its base, and what
+-- is ordinary has none.
+abbrev pub stacked_relation : Class → Kind
+stacked_relation Ordinary = Unspaced Relation
+stacked_relation own = Plain Relation
+
+-- an element above or below a base; together they are this to their neighbours
+abbrev pub stack : Side → Kind → Element → Element → Core
+stack side kind mark base = core (atom kind true (on_side side plain base mark))
 
 -- an arrow as long as the longer of what is above it and below it; a relation
 abbrev pub arrow_sign : ℕ → Element
@@ -408,7 +422,7 @@ pub record Scripts : Type 0 where
 abbrev pub takes_limits : Kind → Bool
 takes_limits (SignOf Operator) = true
 takes_limits (Plain Operator) = true
-takes_limits FunctionWord = true
+takes_limits (Unspaced Operator) = true
 takes_limits kind = false
 
 -- no scripts after an atom of this kind

@@ -1,7 +1,7 @@
 -- Rows: the elements of atoms that are next to each other. Here the last element comes first.
-use Rattle.std.specs.Prelude.{pos, Bool, true, false, ◌||◌, List, [], ◌∷◌, ◌++◌, reverse, Option, None}
+use Rattle.std.specs.Prelude.{zero, ℤ, pos, Bool, true, false, ◌||◌, List, [], ◌∷◌, ◌++◌, reverse, Option, None}
 use Rattle.latex2mathml_elements.specs.{Attributes.Attributes, Attributes.plain, Colors.Color, Element.Element, Element.Mrow, Element.token, Element.space, Element.container, Element.children}
-use Rattle.latex2mathml_tex_grammar.specs.Atoms.{Atom, Kind, SignOf, PlusOrMinus, Plain, UprightLetters, Blank, Before, Nothing, is_parted, past, element_there, element_as, without_space}
+use Rattle.latex2mathml_tex_grammar.specs.Atoms.{Atom, Kind, SignOf, PlusOrMinus, Plain, UprightLetters, Blank, Before, Nothing, gap, past, element_there, element_as, without_space}
 use Rattle.latex2mathml_tex_grammar.specs.{Meaning.FractionRule}
 use Rattle.latex2mathml_tex_grammar.specs.Symbols.{Class, Ordinary, Operator, Binary, Relation, Punctuation, Style}
 
@@ -41,14 +41,10 @@ pub record Row : Type 0 where
 abbrev pub empty_row : Row
 empty_row = record { elements = []; before = Nothing; last = Blank; high = false; class = Ordinary; restyled = None; under = None }
 
--- a thin space
-abbrev pub thin_space : Element
-thin_space = space (pos 3)
-
--- these elements, with a thin space before them if one is due
-abbrev pub parted : Bool → List Element → List Element
-parted true xs = thin_space ∷ xs
-parted false xs = xs
+-- these elements with a space of this width after them, where it has one
+abbrev pub parted : ℤ → List Element → List Element
+parted (pos zero) xs = xs
+parted width xs = space width ∷ xs
 
 -- whether an atom joins the one before it
 pub data Joining : Type 0 where
@@ -77,7 +73,7 @@ is_empty (x ∷ xs) = false
 abbrev pub put : Joining → Style → Before → Atom → List Element → List Element
 put ToWord style before x xs = join (λ a. plain) x.element xs
 put ToRelations style before x xs = join (λ a. a) x.element xs
-put Apart style before x xs = element_there style (is_empty xs) before x.kind x.element ∷ parted (is_parted style before x.kind) xs
+put Apart style before x xs = element_there style (is_empty xs) before x.kind x.element ∷ parted (gap style before x.kind) xs
 
 -- the class of one atom as a base: a binary operator and a relation stay what they are
 abbrev pub class_of_kind : Kind → Class

@@ -5,7 +5,7 @@ use Rattle.std.specs.{Char.is_ascii_alphabetic, Char.is_ascii_digit, Str.byte, S
 use Rattle.latex2mathml_elements.specs.{Attributes.Above, Columns.Columns, Columns.Centered, Columns.LeftAligned, Columns.RightAligned, Columns.Dense, Columns.Usual, Columns.Alike, Columns.density_in, Element.Element}
 use Rattle.latex2mathml_tex_grammar.specs.{Atoms.After, Atoms.Before, Atoms.Nothing, Atoms.Plain, Atoms.atom, Commands.meaning_of, Commands.symbol_of, Delimiters.delimiter_of, Delimiters.negated_of, Dots.centered_dots, Dots.centers_dots, Dots.low_dots, Rows.Row, Rows.Operand, Rows.as_base, Rows.empty_row, Rows.row_element}
 use Rattle.latex2mathml_tex_grammar.specs.Environments.{Environment, Bracket, NoBracket, Position, Alignment, columns_of, fitted, listed, written_out, environment_of, pairs}
-use Rattle.latex2mathml_tex_grammar.specs.Makes.{Core, core, letter, upright_letter, number, relation, symbol, function_name, spacing, braced, group, classed, no_letters, operator_name, accent, brace, stack, fraction, square_root, root, between_delimiters, sized, struck, blank, boxed_atom, bar, arrow, Outline, outlined_fraction, choice}
+use Rattle.latex2mathml_tex_grammar.specs.Makes.{Core, core, letter, upright_letter, number, relation, symbol, function_name, spacing, braced, group, classed, no_letters, operator_name, accent, brace, stack, stacked_relation, fraction, square_root, root, between_delimiters, sized, struck, blank, boxed_atom, bar, arrow, Outline, outlined_fraction, choice}
 use Rattle.latex2mathml_tex_grammar.specs.Meaning.{Meaning, Shows, FunctionName, Dots, Spacing, Styled, Words as TakesWordsIn, Fraction, Root, Accent, Brace, Stack, StackedRelation, OperatorName, Negation, Slash, Sized, Left, Middle, Right, Limits, NoLimits, Classed, Changes, Beside, ByStyle, FractionRule, BeginTable, EndTable, LineBreak, Substack, Skip, SkipInBraces, Box, Smashed, WithoutHeight, WithoutDepth, Boxed, Smash, Raise, InColor, Highlight, Rectangle, Arrow, Raised, Colored, OnColor, ContinuedFraction, GeneralFraction, Bar, Choice}
 use Rattle.latex2mathml_tex_grammar.specs.Refusal.{UnknownCommand, MissingArgument, MissingDelimiter, ChangeAsArgument, UnopenedBrace, RightWithoutLeft, MiddleWithoutLeft, LimitsWithoutOperator, NothingToNegate, OutsideTable, MisplacedCharacter, Refusal, refusal_at, UnknownEnvironment, EndWithoutBegin, OtherName, TooManyColumns, LengthTooLarge, UnknownColor}
 use Rattle.latex2mathml_tex_grammar.specs.Scanning.{Spot, Argument, Name, ColumnList, RepeatedColumns, Number, BeforeArgument, BeforeBrace, BeforePosition, AtUnit, BeforeLengthInBraces, BeforeStar, InLength, AtBracket, ColorName}
@@ -395,8 +395,8 @@ meaning_rule place c Root = a_root place c
 meaning_rule place c (Accent side mark width) = of_one place c (λ x. accent side mark width x.element)
 meaning_rule place c (Brace side mark) = of_one place c (λ x. brace side mark x.element)
 meaning_rule place c Choice = a_choice place c
-meaning_rule place c (Stack side) = of_two place (styled c InScript) c (λ mark base. stack side base.class mark.element (as_base c.style base.class base).element)
-meaning_rule place c StackedRelation = of_two place (styled c InScript) c (λ mark base. stack Above Relation mark.element (as_base c.style Relation base).element)
+meaning_rule place c (Stack side) = of_two place (styled c InScript) c (λ mark base. stack side (Plain base.class) mark.element (as_base c.style base.class base).element)
+meaning_rule place c StackedRelation = of_two place (styled c InScript) c (λ mark base. stack Above (stacked_relation base.class) mark.element (as_base c.style Relation base).element)
 meaning_rule place c OperatorName = an_operator_name place c
 meaning_rule place c Negation = a_negation place c
 meaning_rule place c Slash = of_one place c (λ x. slashed x (struck x.element))

@@ -4,7 +4,7 @@ use Rattle.latex2mathml_elements.specs.Attributes.{plain, MathStyle}
 use Rattle.latex2mathml_elements.specs.{Columns.Alignment, Columns.Continued, Columns.Columns, Columns.column_at, Columns.density_in, Extents.Extent, Struts.strut, Struts.with_strut, Tables.attributes_in, Tables.rows_in}
 use Rattle.latex2mathml_elements.specs.Element.{Mrow, Element, Rows, container, table, children}
 use Rattle.latex2mathml_tex_grammar.specs.{Atoms.Before, Atoms.After, Atoms.Plain, Atoms.atom, Makes.Core, Makes.core, Makes.math_style, Rows.Row, Rows.empty_row, Rows.lone, Rows.row_element}
-use Rattle.latex2mathml_tex_grammar.specs.Fences.{Height, Tall, VeryTall, fenced}
+use Rattle.latex2mathml_tex_grammar.specs.Fences.{Height, Tall, Taller, VeryTall, fenced}
 use Rattle.latex2mathml_tex_grammar.specs.Symbols.{Class, Ordinary, Opening, Inner, Style, InDisplay, InText}
 
 -- What precedes the first atom of a cell: some cells continue something ordinary. Any other cell begins like a formula, as if after
@@ -62,6 +62,7 @@ said_style style around = Some (math_style style)
 -- how high a table of these rows and lines is: one row is mostly no higher than what is between other delimiters
 abbrev pub height_of : List Element → Height
 height_of (row ∷ []) = Tall
+height_of (row ∷ other ∷ []) = Taller
 height_of rows = VeryTall
 
 -- an element of this height between delimiters, if there are any

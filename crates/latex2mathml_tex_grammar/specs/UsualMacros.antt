@@ -35,7 +35,7 @@ usual_entries =
     (codes "begingroup", 0, codes "{") ∷
     (codes "bfseries", 0, codes "\\bf") ∷
     (codes "bgroup", 0, codes "{") ∷
-    (codes "bmod", 0, codes "\\mskip5mu\\mathbin{\\operatorname{mod}}\\mskip5mu") ∷
+    (codes "bmod", 0, codes "\\mathbin{\\mathchoice{\\mkern1mu\\mathrm{mod}\\mkern1mu}{\\mkern1mu\\mathrm{mod}\\mkern1mu}{\\mkern5mu\\mathrm{mod}\\mkern5mu}{\\mkern5mu\\mathrm{mod}\\mkern5mu}}") ∷
     (codes "bra", 1, codes "\\langle #1|") ∷
     (codes "braket", 1, codes "\\langle #1\\rangle") ∷
     (codes "cancelto", 2, codes "{\\cancel{#2}^{#1}}") ∷

@@ -2,10 +2,10 @@
 //! was to be appended.
 ghost use Rattle.std.specs.Prelude.{Some};
 ghost use Rattle.latex2mathml_tokens.specs.Escape.{content, content_char};
-ghost use Rattle.latex2mathml_trees.specs.{Print.print, Texts.Appends, Tree.space, Tree.undefined};
+ghost use Rattle.latex2mathml_trees.specs.{Print.print, Texts.Appends, Tree.space, Tree.undefined, Width.width_text};
 
 use crate::text::{Place, needs_escape, write_escaped, write_undefined};
-use crate::width::write_space;
+use crate::width::{write_space, write_width};
 use std::alloc::AllocError;
 use std::fmt;
 
@@ -45,6 +45,18 @@ impl fmt::Display for Space {
     }
 }
 
+/// The width of a space, in eighteenths of an em.
+#[derive(Drop)]
+struct Width(i32);
+
+impl fmt::Display for Width {
+    ghost output = { λ width. Some (width_text width.0) };
+
+    fn fmt<W: fmt::Write>(&self, f: &mut fmt::Formatter<W>) -> fmt::Result {
+        write_width(self.0, f)
+    }
+}
+
 /// Appends a text as contents to another. A text in which nothing is escaped is appended whole.
 pub fn append_content(text: &str, out: &mut String) -> Result<(), AllocError>
     ensures { Appends out.old out.new (content text.now) result }
@@ -81,4 +93,11 @@ pub fn append_space(width: i32, out: &mut String) -> Result<(), AllocError>
     ensures { Appends out.old out.new (print (space width)) result }
 {
     write!(out, "{}", Space(width))
+}
+
+/// Appends a width that is given in eighteenths of an em as a number of ems.
+pub fn append_width(width: i32, out: &mut String) -> Result<(), AllocError>
+    ensures { Appends out.old out.new (width_text width) result }
+{
+    write!(out, "{}", Width(width))
 }

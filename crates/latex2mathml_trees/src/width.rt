@@ -11,11 +11,18 @@ pub fn write_space<W: fmt::Write>(width: i32, f: &mut fmt::Formatter<W>) -> fmt:
         (codes "<mspace width=\"" ++ (width_text width ++ codes "em\"/>")) f.new }
 {
     f.write_str("<mspace width=\"")?;
+    write_width(width, f)?;
+    f.write_str("em\"/>")
+}
+
+/// Writes a width that is given in eighteenths of an em as a number of ems. An `Err` is one that the formatter's writer returned.
+pub fn write_width<W: fmt::Write>(width: i32, f: &mut fmt::Formatter<W>) -> fmt::Result
+    ensures { WritesOnOk W.write_str_gives f.old result (width_text width) f.new }
+{
     if width < 0 {
         f.write_str("-")?;
     }
-    write_thousandths(thousandths_of(width), f)?;
-    f.write_str("em\"/>")
+    write_thousandths(thousandths_of(width), f)
 }
 
 /// Returns the number of thousandths that is nearest to a number of eighteenths, without its sign.

@@ -3,7 +3,7 @@ ghost use Rattle.std.specs.Prelude.{◌≡◌, ◌+◌, ◌<◌, Ok, drop};
 ghost use Rattle.latex2mathml_tex_grammar.specs.{Makes.struck, Rules.gives, Rules.struck_atom};
 ghost use Rattle.latex2mathml_tex.specs.Choices.{depth_in, in_line, in_scripts};
 ghost use Rattle.latex2mathml_tex.specs.Frames.{first_count, last_count, made_of};
-ghost use Rattle.latex2mathml_tex_atoms.specs.Models.{core_with, operand_with, top};
+ghost use Rattle.latex2mathml_tex_atoms.specs.Models.{core_with, kind_of, operand_with, top};
 ghost use Rattle.latex2mathml_tex_grammar.specs.Makes;
 ghost use Rattle.latex2mathml_elements.specs.Element.{Element};
 ghost use Rattle.latex2mathml_tex_commands.specs.Meanings.{class_of};
@@ -19,7 +19,7 @@ use latex2mathml_tex_atoms::boxes::put_in_box;
 use latex2mathml_tex_atoms::fractions::put_fraction;
 use latex2mathml_tex_atoms::outlines::put_outlined;
 use latex2mathml_tex_atoms::shapes::{
-    is_sign, make_base, put_accent, put_brace, put_stack, space_sign, with_atom,
+    classed_kind, make_base, put_accent, put_brace, put_stack, space_sign, with_atom,
 };
 use latex2mathml_tex_commands::meaning::{Class, LimitPlace, Style};
 use latex2mathml_tex_units::error::TexErrorKind;
@@ -172,7 +172,7 @@ impl<'a> Parser<'a> {
             Last::Brace(side, mark) => {
                 put_brace(&mut self.builder, side, mark)?;
                 *next = State::Core(Core {
-                    kind: Kind::Plain(Class::Operator),
+                    kind: Kind::Unspaced(Class::Operator),
                     high: true,
                     limits: LimitPlace::Stacked,
                 });
@@ -180,7 +180,7 @@ impl<'a> Parser<'a> {
             }
             Last::OperatorName(limits) => {
                 *next = State::Core(Core {
-                    kind: Kind::FunctionWord,
+                    kind: Kind::Unspaced(Class::Operator),
                     high: operand.high,
                     limits,
                 });
@@ -193,9 +193,9 @@ impl<'a> Parser<'a> {
             }
             Last::Classed(class, style) => {
                 make_base(&mut self.builder, style, class, operand.class);
-                let is_sign = is_sign(&self.builder);
+                let kind = classed_kind(&self.builder, class);
                 space_sign(&mut self.builder, class, operand.class);
-                *next = State::Core(classed(class, is_sign, operand));
+                *next = State::Core(classed(class, kind, operand));
                 Ok(())
             }
             Last::Boxed(operand_box, style) => {
@@ -223,7 +223,7 @@ impl<'a> Parser<'a> {
             Last::StackedRelation(style) => {
                 make_base(&mut self.builder, style, Class::Relation, operand.class);
                 put_stack(&mut self.builder, Side::Above)?;
-                *next = State::Core(Core::new(Kind::Plain(Class::Relation), true));
+                *next = State::Core(Core::new(stacked_relation(operand.class), true));
                 Ok(())
             }
             Last::OverArrow => {
@@ -290,17 +290,22 @@ fn depth_in(style: Style) -> usize
     }
 }
 
-/// Returns an operand, which may be a sign, as an atom of this class.
-fn classed(class: Class, is_sign: bool, operand: Operand) -> Core
-    ensures { (x : Element) → is_sign ≡ Makes.is_sign x
+/// Returns what a relation with something above it is to its neighbours, whose base is of this class. It has the space of its base.
+fn stacked_relation(own: Class) -> Kind
+    ensures { kind_of result ≡ Makes.stacked_relation (class_of own) }
+{
+    match own {
+        Class::Ordinary => Kind::Unspaced(Class::Relation),
+        _ => Kind::Plain(Class::Relation),
+    }
+}
+
+/// Returns an operand as an atom of this class, of the kind that it has then.
+fn classed(class: Class, kind: Kind, operand: Operand) -> Core
+    ensures { (x : Element) → kind_of kind ≡ Makes.classed_kind (class_of class) x
         → core_with result (Makes.spaced_as (class_of class) (class_of operand.class) x)
         ≡ Makes.classed (class_of class) (operand_with operand x) }
 {
-    let kind = match class {
-        Class::Operator if !is_sign => Kind::FunctionWord,
-        Class::Binary | Class::Relation | Class::Punctuation if is_sign => Kind::SignOf(class),
-        _ => Kind::Plain(class),
-    };
     let limits = match class {
         Class::Operator => LimitPlace::ByStyle,
         _ => LimitPlace::Beside,

@@ -98,7 +98,7 @@ impl<'a> Parser<'a> {
     {
         self.builder.text(Token::Mi, Attributes::plain(), name)?;
         *next = State::Core(Core {
-            kind: Kind::FunctionWord,
+            kind: Kind::Unspaced(Class::Operator),
             high: false,
             limits,
         });

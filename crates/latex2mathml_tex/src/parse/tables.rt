@@ -1,10 +1,9 @@
 //! Tables: how each cell begins and ends, and what is made of the cells.
-ghost use Rattle.std.specs.Prelude.{◌≡◌, ◌+◌, ◌∷◌, ◌<◌, ◌≤◌, ◌==◌, if◌then◌else◌, IfOk, MatchBool, OnOk, drop, length, option_map, reverse, string_bytes, take};
+ghost use Rattle.std.specs.Prelude.{◌≡◌, ◌+◌, ◌∷◌, ◌<◌, ◌≤◌, IfOk, List, MatchBool, OnOk, drop, length, option_map, reverse, string_bytes, take};
 ghost use Rattle.latex2mathml_builder.specs.{Built.elements_in, Stacks.table_with};
 ghost use Rattle.latex2mathml_attributes.specs.{Arounds.extent_of, Columns.columns_of, Lines.line_of};
-ghost use Rattle.latex2mathml_elements.specs.{Attributes.styled};
+ghost use Rattle.latex2mathml_elements.specs.{Attributes.styled, Element.Element};
 ghost use Rattle.latex2mathml_attributes.specs.Names.{math_style_of};
-ghost use Rattle.latex2mathml_tex_grammar.specs.Fences;
 ghost use Rattle.latex2mathml_tex_grammar.specs.Tables;
 ghost use Rattle.latex2mathml_tex_grammar.specs.{Meaning.Substack, RowLines.lined, Starts.cell_end, Tables.row_of, Rows.lone, Rows.row_element};
 ghost use Rattle.latex2mathml_tex_grammar.specs.Rules.{meaning_rule, rows_of_text};
@@ -323,12 +322,13 @@ fn put_table(
 
 /// Returns how high a table of this many rows is.
 fn table_height(rows: usize) -> Height
-    ensures { height_of result ≡ if rows == 1 then Fences.Tall else Fences.VeryTall }
+    ensures { (xs : List Element) → 0 < rows → rows ≤ length xs
+        → height_of result ≡ Tables.height_of (take rows xs) }
 {
-    if rows == 1 {
-        Height::Tall
-    } else {
-        Height::VeryTall
+    match rows {
+        1 => Height::Tall,
+        2 => Height::Taller,
+        _ => Height::VeryTall,
     }
 }
 

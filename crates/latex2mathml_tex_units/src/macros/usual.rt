@@ -58,7 +58,7 @@ static ENTRIES: [Usual; 154] = [
     Usual { name: "begingroup", arity: 0, body: "{" },
     Usual { name: "bfseries", arity: 0, body: "\\bf" },
     Usual { name: "bgroup", arity: 0, body: "{" },
-    Usual { name: "bmod", arity: 0, body: "\\mskip5mu\\mathbin{\\operatorname{mod}}\\mskip5mu" },
+    Usual { name: "bmod", arity: 0, body: "\\mathbin{\\mathchoice{\\mkern1mu\\mathrm{mod}\\mkern1mu}{\\mkern1mu\\mathrm{mod}\\mkern1mu}{\\mkern5mu\\mathrm{mod}\\mkern5mu}{\\mkern5mu\\mathrm{mod}\\mkern5mu}}" },
     Usual { name: "bra", arity: 1, body: "\\langle #1|" },
     Usual { name: "braket", arity: 1, body: "\\langle #1\\rangle" },
     Usual { name: "cancelto", arity: 2, body: "{\\cancel{#2}^{#1}}" },

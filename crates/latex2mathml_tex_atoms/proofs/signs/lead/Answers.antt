@@ -9,7 +9,7 @@ use Rattle.latex2mathml_tex_atoms.proofs.signs.lead.Goals.{else-leads-via-else-l
 pub returns-in-Some : goal.returns-in-Some
 returns-in-Some c =
     c.give.ensures.elements
-    ∙ given_changed (Atoms.led c.args.leads) (token_of c.in-Some.field-0-0) (attributes_of c.in-Some.attributes) _ (λ text. rw (c.if-leads.true, sym c.space_behind.ensures) refl) c.args.depth (elements_in c.args.builder.now) c.in-Some.ensures
+    ∙ given_changed (Atoms.led c.args.leads) (token_of c.in-Some.field-0-0) (attributes_of c.in-Some.attributes) _ (λ text. rw (c.if-leads.true, sym c.only_after.ensures) refl) c.args.depth (elements_in c.args.builder.now) c.in-Some.ensures
 
 pub returns-else-leads : goal.returns-else-leads
 returns-else-leads c =

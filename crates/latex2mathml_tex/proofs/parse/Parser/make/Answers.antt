@@ -101,7 +101,7 @@ pub returns-in-Classed-clause-holds : goal.returns-in-Classed-clause-holds
 returns-in-Classed-clause-holds c = λ s g.
     let p = c.args.self.now in
     let some : 1 ≤ length (elements_of p) = enough 1 p (rw c.in-Classed.is at c.requires.elements) in
-    classed_put p c.args.last c.args.operand s c.make_base.new.builder c.space_sign.new.builder c.in-Classed.class c.in-Classed.style c.classed.result c.in-Classed.is some c.make_base.ensures.elements c.is_sign-is_sign.result c.is_sign-is_sign.ensures c.space_sign.ensures.elements c.classed.ensures g
+    classed_put p c.args.last c.args.operand s c.make_base.new.builder c.space_sign.new.builder c.in-Classed.class c.in-Classed.style c.classed.result c.in-Classed.is some c.make_base.ensures.elements c.classed_kind-kind.result c.classed_kind-kind.ensures c.space_sign.ensures.elements c.classed.ensures g
 
 pub returns-in_ok-put_fraction-in-Fraction : goal.returns-in_ok-put_fraction-in-Fraction
 returns-in_ok-put_fraction-in-Fraction c =
@@ -139,7 +139,7 @@ returns-in_ok-put_stack-in-StackedRelation c =
     let f = base p c.args.last c.args.operand c.in-StackedRelation.style class.Relation in
     let is = c.make_base-in-StackedRelation.ensures.elements in
     record {
-      holds = λ s g. rw c.new-in-StackedRelation.ensures (made_held p c.args.last c.args.operand s c.put_stack-in-StackedRelation.new.builder _ (record { element = rw c.in-StackedRelation.is (rw (is, top_changed f xs some, behind_changed f xs, behind_two_changed f xs) at c.in_ok-put_stack-in-StackedRelation.ensures); is = rw c.in-StackedRelation.is refl }) g);
+      holds = λ s g. rw c.new-in-StackedRelation.ensures (made_held p c.args.last c.args.operand s c.put_stack-in-StackedRelation.new.builder _ (record { element = rw c.in-StackedRelation.is (rw (is, top_changed f xs some, behind_changed f xs, behind_two_changed f xs) at c.in_ok-put_stack-in-StackedRelation.ensures); is = rw (c.in-StackedRelation.is, c.stacked_relation.ensures) refl }) g);
       step = rw c.new-in-StackedRelation.ensures (made_step p c.args.last c.args.operand c.put_stack-in-StackedRelation.new.builder _ (made p c.args.last c.args.operand).atom.element (rw c.in-StackedRelation.is (rw (is, top_changed f xs some, behind_changed f xs, behind_two_changed f xs) at c.in_ok-put_stack-in-StackedRelation.ensures)) c.requires);
     }
 

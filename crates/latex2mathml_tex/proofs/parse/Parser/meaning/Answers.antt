@@ -1,7 +1,8 @@
 use Rattle.std.proofs.Common.{arith, inl, inr, refl, subst}
 use Rattle.latex2mathml_elements.specs.Attributes.{Above}
 use Rattle.latex2mathml_attributes.specs.Names.{side_of, stretch_of}
-use Rattle.latex2mathml_tex_grammar.specs.Makes.{accent, brace, classed, core, group, stack, struck}
+use Rattle.latex2mathml_tex_grammar.specs.Atoms.{Plain}
+use Rattle.latex2mathml_tex_grammar.specs.Makes.{accent, brace, classed, core, group, stack, stacked_relation, struck}
 use Rattle.latex2mathml_tex_grammar.specs.Refusal.{ChangeAsArgument, LimitsWithoutOperator, MiddleWithoutLeft, RightWithoutLeft, refusal_at, EndWithoutBegin, OutsideTable}
 use Rattle.latex2mathml_tex_grammar.specs.Rows.{as_base}
 use Rattle.latex2mathml_tex_grammar.specs.Rules.{gives, of_two, refuses, slashed, styled}
@@ -71,7 +72,7 @@ returns-in-Stack-clause-holds c = λ s g.
     let p = c.args.self.now in
     let place = c.args.place in
     let mark = styled (context_of c.args.context) InScript in
-    let begins = subst (λ d. Begins (of_two place mark d (λ m base. stack (side_of c.in-Stack.side) base.class m.element (as_base d.style base.class base).element)) 0 s p) g.context (begun (rw c.in-Stack.is at g)) in
+    let begins = subst (λ d. Begins (of_two place mark d (λ m base. stack (side_of c.in-Stack.side) (Plain base.class) m.element (as_base d.style base.class base).element)) 0 s p) g.context (begun (rw c.in-Stack.is at g)) in
     c.open-in-Stack.ensures.holds s g.style (rw c.styled.ensures (operand_due (after_first (first.Stack c.in-Stack.side) place mark (context_at (level 0 s p)) (elements_of p)) begins.leads))
 
 pub returns-in-StackedRelation-clause-holds : goal.returns-in-StackedRelation-clause-holds
@@ -79,7 +80,7 @@ returns-in-StackedRelation-clause-holds c = λ s g.
     let p = c.args.self.now in
     let place = c.args.place in
     let mark = styled (context_of c.args.context) InScript in
-    let begins = subst (λ d. Begins (of_two place mark d (λ m base. stack Above Relation m.element (as_base d.style Relation base).element)) 0 s p) g.context (begun (rw c.in-StackedRelation.is at g)) in
+    let begins = subst (λ d. Begins (of_two place mark d (λ m base. stack Above (stacked_relation base.class) m.element (as_base d.style Relation base).element)) 0 s p) g.context (begun (rw c.in-StackedRelation.is at g)) in
     c.open-in-StackedRelation.ensures.holds s g.style (rw c.styled-in-StackedRelation.ensures (operand_due (after_first first.StackedRelation place mark (context_at (level 0 s p)) (elements_of p)) begins.leads))
 
 pub returns-in-Slash-clause-holds : goal.returns-in-Slash-clause-holds

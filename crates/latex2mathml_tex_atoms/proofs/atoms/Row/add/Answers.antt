@@ -1,4 +1,4 @@
-use Rattle.std.proofs.Common.{rules, ◌≡◌, ◌∙◌, ◌+◌, ◌==◌, ◌||◌, false, suc, ap, arith, drop, refl, sym, take}
+use Rattle.std.proofs.Common.{rules, ◌≡◌, ◌∙◌, ◌+◌, ◌==◌, ◌||◌, suc, ap, arith, drop, refl, pos, sym, take}
 use Rattle.latex2mathml_elements.specs.Element.{Element}
 use Rattle.latex2mathml_tex_grammar.specs.Atoms
 use Rattle.latex2mathml_tex_grammar.specs.Rows
@@ -19,7 +19,7 @@ returns-clause-added c = λ t.
     let high : c.if-self.high ≡ (row.high || c.args.core.high) = elim c.if-self.branch [ then-self w ↦ search rules | else-self w ↦ search rules ] in
     let joining = Rows.joining (kind_of row.last) kind in
     let apart : joining ≡ Rows.Apart = search rules in
-    let none : Atoms.is_parted style before kind ≡ false = search rules in
+    let none : Atoms.gap style before kind ≡ pos 0 = search rules in
     let stays : (x : Element) → Atoms.element_there style (row.count == 0) before kind x ≡ x = λ x. search rules in
     record {
       row = λ xs enough. same_row _ _ _ _ _ _ _ _ _ _ _ _ _ _
