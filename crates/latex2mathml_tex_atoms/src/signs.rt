@@ -24,7 +24,7 @@ pub(crate) fn is_put_as_it_is(style: Style, first: bool, before: Before, kind: K
     ensures element { (x : Element) → IsTrue result
         → Atoms.element_there (style_of style) first (before_of before) (kind_of kind) x ≡ x }
 {
-    if let Before::AfterUnspaced(_) | Before::After(Class::Inner | Class::Operator) = before {
+    if let Before::AfterUnspaced(_) | Before::After(Class::Inner) = before {
         return false;
     }
     match kind {
@@ -33,7 +33,10 @@ pub(crate) fn is_put_as_it_is(style: Style, first: bool, before: Before, kind: K
             !before.begins_operand()
         }
         Kind::Plain(_) | Kind::SignOf(Class::Inner) => false,
-        Kind::SignOf(Class::Ordinary | Class::Opening) => keeps_space(style),
+        Kind::SignOf(Class::Ordinary) => keeps_space(style),
+        Kind::SignOf(Class::Opening) => {
+            keeps_space(style) && !matches!(before, Before::After(Class::Operator))
+        }
         Kind::SignOf(Class::Binary) => keeps_space(style) && !is_ordinary(first, before),
         Kind::SignOf(_) => keeps_space(style) && !before.begins_operand(),
         Kind::PlusOrMinus => keeps_space(style) && !first && !before.begins_operand(),

@@ -1,13 +1,14 @@
 -- The atoms of each construct.
 use Rattle.std.specs.Prelude.{ℕ, zero, suc, ◌==◌, ◌||◌, ℤ, pos, Bool, true, false, List, [], ◌∷◌, ◌++◌, map, Option, Some, None, codes, if◌then◌else◌}
 use Rattle.std.specs.{Char.encode_utf8, Option.is_some, Str.encode_utf8_all}
-use Rattle.latex2mathml_elements.specs.Attributes.{Attributes, Side, Above, Below, Form, Prefix, Postfix, Stretch, Stretching, Rigid, Space, NoSpace, Narrow, Medium, Thick, ThinAfter, Size, Bigger, Boxing, NoWidth, Flat, NoHeight, NoDepth, ByItsWidth, ByHalfItsWidth, Framed, StruckUp, StruckDown, StruckTwice, NullDelimiters, boxed, MathStyle, DisplayStyle, TextStyle, ScriptStyle, plain}
+use Rattle.latex2mathml_elements.specs.Attributes.{Attributes, Side, Above, Below, Stretch, Stretching, Rigid, Space, NoSpace, Narrow, Medium, Thick, ThinAfter, Size, Bigger, Boxing, NoWidth, Flat, NoHeight, NoDepth, ByItsWidth, ByHalfItsWidth, Framed, StruckUp, StruckDown, StruckTwice, NullDelimiters, boxed, MathStyle, DisplayStyle, TextStyle, ScriptStyle, plain}
 use Rattle.latex2mathml_elements.specs.Element.{Mi, Mn, Mo, Msqrt, Mstyle, Mpadded, Mphantom, Mfrac, Mroot, Msub, Msup, Munder, Mover, Msubsup, Munderover, Element, token, space, rectangle, container, pair, triple, children}
 use Rattle.latex2mathml_tex_grammar.specs.{Alphabets.in_alphabet, Rows.Row, Rows.Operand, Rows.lone, Rows.row_element}
 use Rattle.latex2mathml_elements.specs.{Extents.wide, Groups.grouped}
 use Rattle.latex2mathml_tex_grammar.specs.Atoms.{Atom, Kind, SignOf, PlusOrMinus, Plain, UprightLetters, Unspaced, Blank, Divider, After, Before, Nothing, atom, element_there}
 use Rattle.latex2mathml_tex_grammar.specs.Meaning.{FractionRule, Bar, NoBar, Braced, Bracketed, Bare, LimitPlace, Beside, ByStyle, Movable, Stacked, Box, Phantom, PhantomWidth, PhantomHeight, Smashed, WithoutHeight, WithoutDepth, OverRight, OverLeft, OverBoth, Frame, StrikeUp, StrikeDown, StrikeTwice, Raised, Colored, OnColor}
 use Rattle.latex2mathml_tex_grammar.specs.Fences.{Tall, fenced, height_if, sized_delimiter}
+use Rattle.latex2mathml_tex_grammar.specs.SignAttributes.{sign_attributes}
 use Rattle.latex2mathml_tex_grammar.specs.Widths.{room}
 use Rattle.latex2mathml_tex_grammar.specs.Symbols.{Class, Ordinary, Operator, Binary, Relation, Opening, Closing, Punctuation, Inner, Style, InDisplay, InText, InScript, Alphabet, Upright, Symbol, Letter, UprightLetter, Sign, BigOperator, Integral}
 
@@ -53,61 +54,6 @@ digits_in (Some alphabet) digits = encode_utf8_all (map (in_alphabet alphabet) d
 -- a number of these digits
 abbrev pub number : Option Alphabet → List ℕ → Atom
 number alphabet digits = atom (Plain Ordinary) false (token Mn plain (digits_in alphabet digits))
-
--- the signs that MathML stretches, but TeX does not
-abbrev pub stretches : ℕ → Bool
-stretches c = c == 0x7C || c == 0x2223 || c == 0x2225  -- | ∣ ∥
-    || c == 0x2190 || c == 0x2191 || c == 0x2192 || c == 0x2193 || c == 0x2194 || c == 0x2195  -- ← ↑ → ↓ ↔ ↕
-    || c == 0x219E || c == 0x21A0 || c == 0x21A2 || c == 0x21A3 || c == 0x21A6 || c == 0x21A9 || c == 0x21AA || c == 0x21AB || c == 0x21AC || c == 0x21B0 || c == 0x21B1  -- ↞ ↠ ↢ ↣ ↦ ↩ ↪ ↫ ↬ ↰ ↱
-    || c == 0x21BC || c == 0x21BD || c == 0x21BE || c == 0x21BF || c == 0x21C0 || c == 0x21C1 || c == 0x21C2 || c == 0x21C3  -- ↼ ↽ ↾ ↿ ⇀ ⇁ ⇂ ⇃
-    || c == 0x21C4 || c == 0x21C6 || c == 0x21C7 || c == 0x21C8 || c == 0x21C9 || c == 0x21CA || c == 0x21CB || c == 0x21CC  -- ⇄ ⇆ ⇇ ⇈ ⇉ ⇊ ⇋ ⇌
-    || c == 0x21D0 || c == 0x21D1 || c == 0x21D2 || c == 0x21D3 || c == 0x21D4 || c == 0x21D5 || c == 0x21DA || c == 0x21DB || c == 0x21E0 || c == 0x21E2  -- ⇐ ⇑ ⇒ ⇓ ⇔ ⇕ ⇚ ⇛ ⇠ ⇢
-    || c == 0x27F5 || c == 0x27F6 || c == 0x27F7 || c == 0x27F8 || c == 0x27F9 || c == 0x27FA || c == 0x27FC  -- ⟵ ⟶ ⟷ ⟸ ⟹ ⟺ ⟼
-
--- the attributes of a sign that must not be stretched
-abbrev pub rigid : ℕ → Attributes
-rigid c = if stretches c then record plain { stretch = Some Rigid } else plain
-
--- the signs around an operand at which browsers leave a space and TeX does not: relations, and signs that browsers do not know
-abbrev pub leaves_space : ℕ → Bool
-leaves_space c = c == 0x3F || c == 0x2223 || c == 0x2225  -- ? ∣ ∥
-    || c == 0x231C || c == 0x231D || c == 0x231E || c == 0x231F  -- ⌜ ⌝ ⌞ ⌟
-    || c == 0x23B0 || c == 0x23B1  -- ⎰ ⎱
-    || c == 0x250C || c == 0x2510 || c == 0x2514 || c == 0x2518  -- ┌ ┐ └ ┘
-
--- the attributes of a delimiter outside of `\left` and `\right`: it is not stretched, and has no space if a browser would give it some
-abbrev pub delimiter_attributes : Form → ℕ → Attributes
-delimiter_attributes form c =
-    if leaves_space c
-    then record plain { form = Some form; stretch = Some Rigid; space = Some NoSpace }
-    else record plain { form = Some form; stretch = Some Rigid }
-
--- the relations around which browsers leave another space than TeX
-abbrev pub lacks_space : ℕ → Bool
-lacks_space c = c == 0x3A || c == 0x2234 || c == 0x2235 || c == 0x2322 || c == 0x2323  -- : ∴ ∵ ⌢ ⌣
-
--- the attributes of a relation: it has TeX's space also where a browser would give it another
-abbrev pub relation_attributes : ℕ → Attributes
-relation_attributes c = if lacks_space c then record plain { space = Some Thick } else rigid c
-
--- the binary signs that some browsers draw larger in the style of a block
-abbrev pub grows : ℕ → Bool
-grows c = c == 0x228E || c == 0x2295 || c == 0x2296 || c == 0x2297 || c == 0x2299  -- ⊎ ⊕ ⊖ ⊗ ⊙
-
--- the attributes of a binary sign: it has one size
-abbrev pub binary_attributes : ℕ → Attributes
-binary_attributes c = if grows c then record plain { keeps_size = true } else rigid c
-
--- the attributes of a sign, by its class
-abbrev pub sign_attributes : Class → ℕ → Attributes
-sign_attributes Ordinary c = record plain { space = Some NoSpace; stretch = Some Rigid }
-sign_attributes Opening c = delimiter_attributes Prefix c
-sign_attributes Closing c = delimiter_attributes Postfix c
-sign_attributes Punctuation c = record plain { separator = true }
-sign_attributes Inner c = record plain { space = Some NoSpace }
-sign_attributes Operator c = plain
-sign_attributes Binary c = binary_attributes c
-sign_attributes Relation c = relation_attributes c
 
 -- plus, minus, plus-minus and minus-plus
 abbrev pub is_plus_or_minus : ℕ → Bool

@@ -3,6 +3,7 @@ ghost use Rattle.std.specs.Prelude.{◌≡◌, false, true, IfOk, IsTrue, Some, 
 ghost use Rattle.latex2mathml_attributes.specs.Names.{attributes_of, element_with_text, form_of};
 ghost use Rattle.latex2mathml_elements.specs.{Attributes.plain, Element.Mo, Element.token};
 ghost use Rattle.latex2mathml_tex_grammar.specs.Makes;
+ghost use Rattle.latex2mathml_tex_grammar.specs.SignAttributes;
 ghost use Rattle.latex2mathml_tex_grammar.specs.Makes.{core};
 ghost use Rattle.latex2mathml_tex_grammar.specs.{Atoms.Plain, Atoms.atom, Symbols.Operator};
 ghost use Rattle.latex2mathml_tex_commands.specs.Meanings.{alphabet_of, class_of, limit_place_of};
@@ -150,7 +151,7 @@ fn put_character(
 }
 
 fn sign_attributes(class: Class, c: char) -> Attributes
-    ensures { attributes_of result ≡ Makes.sign_attributes (class_of class) c }
+    ensures { attributes_of result ≡ SignAttributes.sign_attributes (class_of class) c }
 {
     match class {
         Class::Ordinary => Attributes {
@@ -184,7 +185,7 @@ fn sign_attributes(class: Class, c: char) -> Attributes
 
 /// Returns the attributes of a sign that must not be stretched.
 fn rigid(c: char) -> Attributes
-    ensures { attributes_of result ≡ Makes.rigid c }
+    ensures { attributes_of result ≡ SignAttributes.rigid c }
 {
     if stretches(c) {
         Attributes {
@@ -198,7 +199,7 @@ fn rigid(c: char) -> Attributes
 
 /// Returns the attributes of a sign that opens or closes, by its form.
 fn delimiter_attributes(form: Form, c: char) -> Attributes
-    ensures { attributes_of result ≡ Makes.delimiter_attributes (form_of form) c }
+    ensures { attributes_of result ≡ SignAttributes.delimiter_attributes (form_of form) c }
 {
     if leaves_space(c) {
         Attributes {
@@ -218,7 +219,7 @@ fn delimiter_attributes(form: Form, c: char) -> Attributes
 
 /// Whether browsers leave a space of their own at the sign.
 fn leaves_space(c: char) -> bool
-    ensures { result ≡ Makes.leaves_space c }
+    ensures { result ≡ SignAttributes.leaves_space c }
 {
     matches!(
         c,
@@ -246,9 +247,9 @@ fn is_plus_or_minus(c: char) -> bool
 /// Whether a binary sign or a relation has no attributes. In ASCII, all but two do not, and most signs are in ASCII.
 #[inline(always)]
 fn is_plain(c: char) -> bool
-    ensures stretches { IsTrue result → Makes.stretches c ≡ false }
-    ensures space { IsTrue result → Makes.lacks_space c ≡ false }
-    ensures size { IsTrue result → Makes.grows c ≡ false }
+    ensures stretches { IsTrue result → SignAttributes.stretches c ≡ false }
+    ensures space { IsTrue result → SignAttributes.lacks_space c ≡ false }
+    ensures size { IsTrue result → SignAttributes.grows c ≡ false }
 {
     if c.is_ascii() {
         return c != '|' && c != ':';
@@ -258,14 +259,14 @@ fn is_plain(c: char) -> bool
 
 /// Whether some browsers draw the binary sign larger in the style of a block.
 fn grows(c: char) -> bool
-    ensures { result ≡ Makes.grows c }
+    ensures { result ≡ SignAttributes.grows c }
 {
     matches!(c, '⊎' | '⊕' | '⊖' | '⊗' | '⊙')
 }
 
 /// Whether browsers leave another space around the relation than TeX.
 fn lacks_space(c: char) -> bool
-    ensures { result ≡ Makes.lacks_space c }
+    ensures { result ≡ SignAttributes.lacks_space c }
 {
     matches!(c, ':' | '∴' | '∵' | '⌢' | '⌣')
 }
@@ -273,7 +274,7 @@ fn lacks_space(c: char) -> bool
 /// Whether MathML stretches the sign but TeX does not.
 #[inline(never)]
 fn stretches(c: char) -> bool
-    ensures { result ≡ Makes.stretches c }
+    ensures { result ≡ SignAttributes.stretches c }
 {
     matches!(
         c,

@@ -24,6 +24,10 @@ pub returns-in-472 : goal.returns-in-472
 unfolding digits
 returns-in-472 c = (let is : c.args.length ≡ pos 472 = omega (arith, ints, c.in-472, c.ranges.length.sfits) in ap ems (sym is))
 
+pub returns-in-528 : goal.returns-in-528
+unfolding digits
+returns-in-528 c = (let is : c.args.length ≡ pos 528 = omega (arith, ints, c.in-528, c.ranges.length.sfits) in ap ems (sym is))
+
 pub returns-in-597 : goal.returns-in-597
 unfolding digits
 returns-in-597 c = (let is : c.args.length ≡ pos 597 = omega (arith, ints, c.in-597, c.ranges.length.sfits) in ap ems (sym is))
@@ -39,6 +43,14 @@ returns-in-611 c = (let is : c.args.length ≡ pos 611 = omega (arith, ints, c.i
 pub returns-in-667 : goal.returns-in-667
 unfolding digits
 returns-in-667 c = (let is : c.args.length ≡ pos 667 = omega (arith, ints, c.in-667, c.ranges.length.sfits) in ap ems (sym is))
+
+pub returns-in-736 : goal.returns-in-736
+unfolding digits
+returns-in-736 c = (let is : c.args.length ≡ pos 736 = omega (arith, ints, c.in-736, c.ranges.length.sfits) in ap ems (sym is))
+
+pub returns-in-750 : goal.returns-in-750
+unfolding digits
+returns-in-750 c = (let is : c.args.length ≡ pos 750 = omega (arith, ints, c.in-750, c.ranges.length.sfits) in ap ems (sym is))
 
 pub returns-in-840 : goal.returns-in-840
 unfolding digits
