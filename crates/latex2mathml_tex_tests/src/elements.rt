@@ -73,7 +73,7 @@ fn fraction_in_a_row(rt: HostRuntime) -> Result<(), Fail> {
         rt.alloc(),
         &builder,
         1,
-        "<mrow><mi mathvariant=\"normal\">x</mi><mfrac linethickness=\"0\"><mo form=\"prefix\" stretchy=\"false\" lspace=\"0.05em\" rspace=\"0.05em\">&lt;&amp;é</mo><mn>12</mn></mfrac><mspace width=\"-0.167em\"/></mrow>",
+        "<mrow><mi mathvariant=\"normal\">x</mi><mfrac linethickness=\"0\"><mo form=\"prefix\" stretchy=\"false\" lspace=\"0.05em\" rspace=\"0.05em\">&lt;&amp;é</mo><mn>12</mn></mfrac><mspace style=\"margin-left: -0.167em\"/></mrow>",
     )
 }
 
