@@ -13,8 +13,9 @@ enum { LEVELS = 1000000, MANY = 100000, RANDOM_INPUTS = 10000, THREADS = 4, CALL
 #define MATH(display, contents) "<math xmlns=\"http://www.w3.org/1998/Math/MathML\" display=\"" display "\">" contents "</math>"
 #define LESS "<mi>x</mi><mo>&lt;</mo><mi>y</mi>"
 #define FRACTION "<mfrac><mn>1</mn><mn>2</mn></mfrac>"
-#define UNFENCED "<mpadded style=\"padding: 0 calc(0.12em - 1px)\">"
-#define TEX_FRACTION UNFENCED FRACTION "</mpadded>"
+#define UNFENCED "<mrow style=\"padding: 0 calc(0.12em - 1px)\">"
+#define END_UNFENCED "<mo lspace=\"0\" rspace=\"0\"></mo></mrow>"
+#define TEX_FRACTION UNFENCED FRACTION END_UNFENCED
 #define OPEN_BRACE "The token \"RBrace\" is expected, but the token \"EOF\" is found.\""
 #define NO_TEXT "The input is not UTF-8 text."
 #define NO_DEFINITIONS "The definitions are not UTF-8 text."
@@ -218,7 +219,7 @@ static const struct nest tex_nests[] = {
     {"TeX rows", "{a", "x", "}", LATEX2MATHML_DONE, "<mrow><mi>a</mi>", "<mi>x</mi>", "</mrow>"},
     {"TeX scripts", "x^{", "x", "}", LATEX2MATHML_DONE, "<msup><mi>x</mi>", "<mi>x</mi>", "</msup>"},
     {"TeX roots", "\\sqrt{", "x", "}", LATEX2MATHML_DONE, "<msqrt>", "<mi>x</mi>", "</msqrt>"},
-    {"TeX fractions", "\\frac1{", "x", "}", LATEX2MATHML_DONE, UNFENCED "<mfrac><mn>1</mn>", "<mi>x</mi>", "</mfrac></mpadded>"},
+    {"TeX fractions", "\\frac1{", "x", "}", LATEX2MATHML_DONE, UNFENCED "<mfrac><mn>1</mn>", "<mi>x</mi>", "</mfrac>" END_UNFENCED},
     {"TeX words", "\\text{$", "x", "$}", LATEX2MATHML_DONE, "", "<mi>x</mi>", ""},
 };
 

@@ -13,7 +13,8 @@ from tests.texts import LESS, LESS_BLOCK, NO_TEXT, STOPPED, UNCLOSED, UNPAIRED, 
 FORMULA = rb"a<\frac12"
 HALF = "<mfrac><mn>1</mn><mn>2</mn></mfrac>"
 OF_FORMULA = math(f"<mi>a</mi><mo>&lt;</mo>{HALF}") + b"\n"
-OF_TEX_FORMULA = math(f'<mi>a</mi><mo>&lt;</mo><mpadded style="padding: 0 calc(0.12em - 1px)">{HALF}</mpadded>') + b"\n"
+SPACED_HALF = f'<mrow style="padding: 0 calc(0.12em - 1px)">{HALF}<mo lspace="0" rspace="0"></mo></mrow>'
+OF_TEX_FORMULA = math(f"<mi>a</mi><mo>&lt;</mo>{SPACED_HALF}") + b"\n"
 DOCUMENT = "é $x$ é".encode()
 OF_DOCUMENT = "é ".encode() + X + " é".encode()
 ENERGY = math("<mi>E</mi><mo>=</mo><mi>m</mi><msup><mi>c</mi><mn>2</mn></msup>") + b" is"

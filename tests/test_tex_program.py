@@ -70,7 +70,7 @@ class Definitions(Case):
     def test_data(self):
         """The file of the program's own run."""
         words = ["--definitions", ROOT / "crates/latex2mathml_tex_app/data/macros.tex"]
-        half = '<mpadded style="padding: 0 calc(0.12em - 1px)"><mfrac><mi>ℝ</mi><mn>2</mn></mfrac></mpadded>'
+        half = '<mrow style="padding: 0 calc(0.12em - 1px)"><mfrac><mi>ℝ</mi><mn>2</mn></mfrac><mo lspace="0" rspace="0"></mo></mrow>'
         self.expect(ask(*words, stdin=b"\\half{\\R}"), stdout=math(half.encode()) + b"\n")
 
     @each_row(cases.by_heading("tex_definition_refusals.txt"))

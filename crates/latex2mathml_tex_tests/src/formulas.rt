@@ -39,7 +39,7 @@ fn fraction_on_a_line_of_its_own(rt: HostRuntime) -> Result<(), Fail> {
     let markup = tex_to_mathml(rt.alloc(), &macros, "\\frac1{y}", DisplayStyle::Block);
     expect_text(
         markup,
-        "<math xmlns=\"http://www.w3.org/1998/Math/MathML\" display=\"block\"><mpadded style=\"padding: 0 calc(0.12em - 1px)\"><mfrac><mn>1</mn><mi>y</mi></mfrac></mpadded></math>",
+        "<math xmlns=\"http://www.w3.org/1998/Math/MathML\" display=\"block\"><mrow style=\"padding: 0 calc(0.12em - 1px)\"><mfrac><mn>1</mn><mi>y</mi></mfrac><mo lspace=\"0\" rspace=\"0\"></mo></mrow></math>",
     )
 }
 

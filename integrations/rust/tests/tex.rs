@@ -14,7 +14,10 @@ fn math(display: DisplayStyle, content: &str) -> String {
 
 /// A half of some content.
 fn half(above: &str) -> String {
-    format!(r#"<mpadded style="padding: 0 calc(0.12em - 1px)"><mfrac>{}<mn>2</mn></mfrac></mpadded>"#, above)
+    format!(
+        r#"<mrow style="padding: 0 calc(0.12em - 1px)"><mfrac>{}<mn>2</mn></mfrac><mo lspace="0" rspace="0"></mo></mrow>"#,
+        above
+    )
 }
 
 /// The `math` element that shows some content, with its source, which is already escaped.
