@@ -1,7 +1,7 @@
 """The space that Chromium leaves between the atoms of a formula of `tex_to_mathml`, against TeX's table of spaces, and the space that
 both browsers leave at the sides of fractions and of columns, between rows, and next to an atom that begins a cell. Also negative
-spaces, the room for delimiters, and how large signs are drawn. The comparison of markup with KaTeX (`test_tex_katex`) sees none of
-it."""
+spaces, the room for delimiters, how large signs are drawn, how high fractions are, and how long lines and arrows. The comparison of
+markup with KaTeX (`test_tex_katex`) sees none of it."""
 import itertools
 import math
 import unittest
@@ -46,6 +46,23 @@ NEGATIVE = {r"c\!c": [-3 / 18], r"c\negmedspace c": [-4 / 18], r"c\negthickspace
 FRACTIONS = {r"\frac cd\frac cd": [0.24], r"c\frac cd c": [0.12, 0.12], r"c\tfrac cd": [0.12], r"{c\atop d}c": [0.12],
              r"2\frac cd(": [0.12, 0.12], r"\genfrac{}{}{}{}cd c": [0.12]}
 
+# Formulas whose parts are where they are because of the height of a fraction. What is around it for space changes no height.
+HEIGHTS = dict.fromkeys([r"\frac{\frac cc}c", r"\frac c{\frac cc}", r"c_{\frac cc}", r"c^{\frac cc}", r"\frac cc^c_c", r"\frac{\sqrt{\frac cc}}c",
+                         r"\sqrt{\frac cc}^c", r"\frac c{\hat{\frac cc}}", r"\hat{\frac cc}^c", r"\left(\frac cc\right)^c_c",
+                         r"\overset{\frac cc}c", r"\underset{\frac cc}c"], [0])
+# With an `mpadded` in the place of the `mrow`, Firefox moves a letter of each by 0.08em or more.
+EQUALLY = 0.02
+
+# Lines and arrows, and how many ems they begin before the letters that they cover, or that are their label, and end behind these.
+# TeX's arrows are 7mu longer on each side, in the size of scripts.
+BEYOND = 0.7 * 7 / 18
+LINES = {**dict.fromkeys([r"\overline{cc}", r"\overline{ccccccc}", r"\overline{z_1+z_2}", r"c^{\overline{ccc}}", r"\varlimsup c", r"\underline{cc}",
+                          r"\underline{ccccccc}", r"\underline{z_1+z_2}", r"\varliminf c"], [0, 0]),
+         **dict.fromkeys([r"\xrightarrow{ccccc}", r"\xleftarrow[ccccc]{c}", r"\xmapsto[c]{ccccc}", r"\xlongequal{ccccc}", r"\xRightarrow{ccccc}",
+                          r"\xleftrightarrow{ccccc}", r"\xhookrightarrow{c+c+c}"], [BEYOND, BEYOND])}
+# less than half of that: a line also covers the space behind a script
+ABOUT = 0.1
+
 # Tables of letters, and the ems that TeX leaves in the first row: before the first letter, between the letters, and after the last.
 TABLES = {r"\begin{matrix}c&c&c\\c\end{matrix}": [0, 1, 1, 0], r"\begin{cases}c&c\\c\end{cases}": [0, 1, 0],
           r"\begin{pmatrix*}[r]c&c\end{pmatrix*}": [0, 1, 0], r"\begin{gathered}c\\c\end{gathered}": [0, 0],
@@ -83,8 +100,9 @@ PAGE = """<!DOCTYPE html><meta charset="utf-8"><style>math { font-size: 100px }<
 const gapsBetween = (boxes, em) => boxes.slice(1).map((box, place) => (box.left - boxes[place].right) / em);
 const boxesOf = elements => elements.map(element => element.getBoundingClientRect());
 const gaps = %s;
-addEventListener("load", () => {
-    fetch("/spaces.html", {method: "POST", body: JSON.stringify([...document.querySelectorAll("p > math")].map(gaps))});
+addEventListener("load", async () => {
+    const found = await Promise.all([...document.querySelectorAll("p > math")].map(gaps));
+    fetch("/spaces.html", {method: "POST", body: JSON.stringify(found)});
 });
 </script>"""
 OF_ATOMS = """formula => {
@@ -113,6 +131,37 @@ OF_SIZES = """formula => {
 OF_RIGID = """formula => {
     const sign = formula.querySelector("mo").getBoundingClientRect();
     return [Math.max(0, sign.height / 100 - 1.1), Math.max(0, sign.width / 100 - 1.7)];
+}"""
+# how many ems any letter is elsewhere, seen from the first one, than where nothing is around the fractions for space
+OF_HEIGHTS = """formula => {
+    const bare = formula.parentElement.appendChild(formula.cloneNode(true));
+    const fractions = [...bare.querySelectorAll(":is(mrow, mpadded)[style] > mfrac")];
+    fractions.forEach(fraction => fraction.parentElement.replaceWith(fraction));
+    const [lines, bareLines] = [formula, bare].map(each => boxesOf([...each.querySelectorAll("mi")]).map(box => box.bottom / 100));
+    const apart = lines.map((line, place) => Math.abs(line - lines[0] - bareLines[place] + bareLines[0]));
+    return fractions.length && apart.length > 1 ? [Math.max(...apart)] : [];
+}"""
+# How many ems the first sign that stretches begins before the letters around it, and ends behind them. The box of a sign is not as
+# long as what is drawn of it, so the formula is drawn: the sign is blue, and the letters are on a red ground.
+OF_LINES = """async formula => {
+    const drawn = formula.cloneNode(true), width = 900, height = 400;
+    drawn.setAttribute("style", "font-size: 100px; color: transparent");
+    const sign = drawn.querySelector("mo[stretchy=true]");
+    sign.style.color = "#00f";
+    sign.parentElement.querySelectorAll("mi, mn").forEach(letter => letter.style.background = "#f00");
+    const picture = new Image(), canvas = Object.assign(document.createElement("canvas"), {width, height});
+    const page = `<body xmlns="http://www.w3.org/1999/xhtml"><p style="margin: 100px">${new XMLSerializer().serializeToString(drawn)}</p></body>`;
+    picture.src = "data:image/svg+xml," + encodeURIComponent(`<svg xmlns="http://www.w3.org/2000/svg" width="${width}" height="${height}">
+        <foreignObject width="${width}" height="${height}">${page}</foreignObject></svg>`);
+    await picture.decode();
+    const context = canvas.getContext("2d");
+    context.drawImage(picture, 0, 0);
+    const [red, blue] = [0, 2].map(color => {
+        const dots = context.getImageData(0, 0, width, height).data.filter((_, place) => place % 4 == color);
+        const columns = [...dots.keys()].filter(place => dots[place] > 127).map(place => place % width);
+        return {left: Math.min(...columns), right: Math.max(...columns)};
+    });
+    return [(red.left - blue.left) / 100, (blue.right - red.right) / 100];
 }"""
 # the ems between the lines of the letter c in two rows
 OF_ROWS = """formula => {
@@ -188,10 +237,10 @@ class AsTexSpaces(Spaces):
 
 
 class Gaps(Spaces):
-    def compare(self, browser, formulas, gaps_of):
+    def compare(self, browser, formulas, gaps_of, within=NEARLY):
         for (formula, ems), gaps in zip(formulas.items(), self.spaces(formulas, browser, gaps_of), strict=True):
             with self.subTest(formula):
-                alike = all(math.isclose(gap, em, abs_tol=NEARLY) for gap, em in zip(gaps, ems, strict=True))
+                alike = all(math.isclose(gap, em, abs_tol=within) for gap, em in zip(gaps, ems, strict=True))
                 self.assertTrue(alike, msg=f"found {gaps}, TeX {ems}")
 
 
@@ -239,6 +288,26 @@ class Fractions(Gaps):
     @requires("firefox-esr")
     def test_in_firefox(self):
         self.compare(firefox, FRACTIONS, OF_FRACTIONS)
+
+
+class Heights(Gaps):
+    @requires("chromium")
+    def test_in_chromium(self):
+        self.compare(chromium, HEIGHTS, OF_HEIGHTS, EQUALLY)
+
+    @requires("firefox-esr")
+    def test_in_firefox(self):
+        self.compare(firefox, HEIGHTS, OF_HEIGHTS, EQUALLY)
+
+
+class Lines(Gaps):
+    @requires("chromium")
+    def test_in_chromium(self):
+        self.compare(chromium, LINES, OF_LINES, ABOUT)
+
+    @requires("firefox-esr")
+    def test_in_firefox(self):
+        self.compare(firefox, LINES, OF_LINES, ABOUT)
 
 
 @requires("chromium")
