@@ -84,7 +84,8 @@ SMALL_ROWS = {r"\begin{smallmatrix}c\\c\end{smallmatrix}": [0.6], r"x_{\substack
               r"x_{\begin{subarray}{l}c\\c\end{subarray}}": [0.6]}
 
 # A formula that is broken into lines, and how much of the room of its shorter lines is at the left of each
-BROKEN = {r"\begin{multline}c\\c\\ccccc\\c\end{multline}": [0, 1 / 2, 1], r"\begin{multline*}ccc\\c\end{multline*}": [1]}
+BROKEN = {r"\begin{multline}c\\c\\ccccc\\c\end{multline}": [0, 1 / 2, 1], r"\begin{multline*}ccc\\c\end{multline*}": [1],
+          r"c\\ccccc": [1 / 2], r"\begin{gathered}c\\ccccc\end{gathered}": [1 / 2]}
 
 # Delimiters, and how many ems wide they are at least and at most. Those with a size are as wide as TeX's. Those that stretch are at
 # least as wide as the lowest form of TeX's, and at most as wide as the highest one.

@@ -29,7 +29,6 @@ boxing_of boxing.Framed = attributes.Framed
 boxing_of boxing.StruckUp = attributes.StruckUp
 boxing_of boxing.StruckDown = attributes.StruckDown
 boxing_of boxing.StruckTwice = attributes.StruckTwice
-boxing_of boxing.NullDelimiters = attributes.NullDelimiters
 
 abbrev pub around_name : Around → Container
 around_name around.Unseen = Mphantom

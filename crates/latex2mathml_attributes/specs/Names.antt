@@ -7,6 +7,8 @@ use Rattle.latex2mathml_attributes.specs.declared.attributes.Form.{Form}
 use Rattle.latex2mathml_attributes.specs.declared.attributes.Form.TheVariants as form
 use Rattle.latex2mathml_attributes.specs.declared.attributes.MathStyle.{MathStyle}
 use Rattle.latex2mathml_attributes.specs.declared.attributes.MathStyle.TheVariants as math_style
+use Rattle.latex2mathml_attributes.specs.declared.attributes.Padding.{Padding}
+use Rattle.latex2mathml_attributes.specs.declared.attributes.Padding.TheVariants as padding
 use Rattle.latex2mathml_attributes.specs.declared.attributes.Side.{Side}
 use Rattle.latex2mathml_attributes.specs.declared.attributes.Side.TheVariants as side
 use Rattle.latex2mathml_attributes.specs.declared.attributes.Size.{Size}
@@ -57,6 +59,15 @@ abbrev pub stretch_of : Stretch → attributes.Stretch
 stretch_of stretch.Stretching = attributes.Stretching
 stretch_of stretch.Rigid = attributes.Rigid
 
+abbrev pub padding_of : Padding → attributes.Boxing
+padding_of padding.NullDelimiters = attributes.NullDelimiters
+padding_of padding.ArrowLabel = attributes.ArrowLabel
+
+-- the change to the box of an element that has space at its sides, or a greatest width in thousandths of an em
+abbrev pub boxing_in : Option Padding → Option ℕ → Option attributes.Boxing
+boxing_in None room = option_map attributes.AtMost room
+boxing_in (Some p) room = Some (padding_of p)
+
 abbrev pub attributes_of : Attributes → attributes.Attributes
 attributes_of a = record {
   upright = a.upright;
@@ -71,7 +82,7 @@ attributes_of a = record {
   accent = option_map side_of a.accent;
   no_line = a.no_line;
   style = option_map math_style_of a.style;
-  boxing = option_map attributes.AtMost a.room;
+  boxing = boxing_in a.padding a.room;
   raised = pos 0;
   color = None;
   background = None;

@@ -37,8 +37,6 @@ pub enum Boxing {
     StruckDown,
     /// Both lines cross the box.
     StruckTwice,
-    /// TeX's null delimiters, which are space, are at the sides of the box.
-    NullDelimiters,
 }
 
 /// What an element does with the one in it.
@@ -73,7 +71,6 @@ impl Boxing {
                 "<mpadded style=\"background: linear-gradient(to top right, transparent calc(50% - 0.04em), currentcolor, transparent calc(50% + 0.04em))\">",
             Boxing::StruckTwice =>
                 "<mpadded style=\"background: linear-gradient(to top left, transparent calc(50% - 0.04em), currentcolor, transparent calc(50% + 0.04em)), linear-gradient(to top right, transparent calc(50% - 0.04em), currentcolor, transparent calc(50% + 0.04em))\">",
-            Boxing::NullDelimiters => "<mpadded style=\"padding: 0 calc(0.12em - 1px)\">",
         }
     }
 }

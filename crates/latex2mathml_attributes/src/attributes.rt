@@ -1,8 +1,8 @@
 //! The attributes of elements.
-ghost use Rattle.std.specs.Prelude.{◌≡◌, ◌++◌, true, IfSome, OnOk, codes, option_map, string_bytes};
+ghost use Rattle.std.specs.Prelude.{◌≡◌, ◌++◌, true, IfSome, OnOk, Some, codes, option_map, string_bytes};
 ghost use Rattle.latex2mathml_elements.specs.Attributes.{AtMost, plain, styled};
 ghost use Rattle.latex2mathml_elements.specs.Print.{accent_text, attributes_text, boxing_text, form_text, if_so, size_text, space_text, start_tag, stretch_text, style_text};
-ghost use Rattle.latex2mathml_attributes.specs.Names.{attributes_if_any, attributes_of, form_of, math_style_of, side_of, size_of, space_of, stretch_of};
+ghost use Rattle.latex2mathml_attributes.specs.Names.{attributes_if_any, attributes_of, boxing_in, form_of, math_style_of, padding_of, side_of, size_of, space_of, stretch_of};
 
 use crate::extent::append_length;
 use std::alloc::AllocError;
@@ -67,6 +67,15 @@ pub enum MathStyle {
     Script,
 }
 
+/// Space at both sides of what is in an element.
+#[derive(Debug, Clone, Copy)]
+pub enum Padding {
+    /// That of TeX's null delimiters, which are at the sides of a fraction.
+    NullDelimiters,
+    /// That by which an arrow is longer than its label.
+    ArrowLabel,
+}
+
 /// The attributes of an element. Where one is missing, the browser decides.
 #[derive(Debug, Clone, Copy)]
 pub struct Attributes {
@@ -89,7 +98,8 @@ pub struct Attributes {
     pub no_line: bool,
     /// The style of what is in it, whatever the style around it is.
     pub style: Option<MathStyle>,
-    /// How wide it is at most, in thousandths of an em.
+    pub padding: Option<Padding>,
+    /// How wide it is at most, in thousandths of an em, if it has no padding.
     pub room: Option<u16>,
 }
 
@@ -111,6 +121,7 @@ impl Attributes {
             accent: None,
             no_line: false,
             style: None,
+            padding: None,
             room: None,
         }
     }
@@ -154,6 +165,7 @@ impl Attributes {
                 accent: None,
                 no_line: false,
                 style: None,
+                padding: None,
                 room: None,
             } => None,
             attributes => Some(attributes),
@@ -180,6 +192,7 @@ impl Attributes {
                 accent: None,
                 no_line: false,
                 style: None,
+                padding: None,
                 room: None,
             } => usual_tag(form, stretch, space),
             _ => None,
@@ -203,7 +216,7 @@ impl Attributes {
         append_some(accent_text(self.accent), out)?;
         append_some(text_if(self.no_line, " linethickness=\"0\""), out)?;
         append_some(style_text(self.style), out)?;
-        append_room(self.room, out)?;
+        append_boxing(self.padding, self.room, out)?;
         Ok(())
     }
 }
@@ -255,6 +268,21 @@ fn append_some(text: &'static str, out: &mut String) -> Result<(), AllocError>
     out.push_str(text)
 }
 
+/// Appends the attribute for an element with padding, or that is at most this many thousandths of an em wide, if it is one.
+fn append_boxing(
+    padding: Option<Padding>,
+    room: Option<u16>,
+    out: &mut String,
+) -> Result<(), AllocError>
+    ensures { OnOk result (string_bytes out.new
+        ≡ string_bytes out.old ++ boxing_text (boxing_in padding room)) }
+{
+    match padding {
+        Some(padding) => out.push_str(padding_text(padding)),
+        None => append_room(room, out),
+    }
+}
+
 /// Appends the attribute for an element that is at most this many thousandths of an em wide, if it is.
 fn append_room(room: Option<u16>, out: &mut String) -> Result<(), AllocError>
     ensures { OnOk result (string_bytes out.new
@@ -264,6 +292,15 @@ fn append_room(room: Option<u16>, out: &mut String) -> Result<(), AllocError>
         append_length(" style=\"max-width: ", i32::from(width), out)?;
     }
     Ok(())
+}
+
+fn padding_text(padding: Padding) -> &'static str
+    ensures { result.now ≡ boxing_text (Some (padding_of padding)) }
+{
+    match padding {
+        Padding::NullDelimiters => " style=\"padding: 0 calc(0.12em - 1px)\"",
+        Padding::ArrowLabel => " style=\"padding: 0 0.389em\"",
+    }
 }
 
 fn text_if(flag: bool, text: &'static str) -> &'static str

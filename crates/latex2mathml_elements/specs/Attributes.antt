@@ -65,6 +65,8 @@ pub data Boxing : Type 0 where
   StruckTwice : Boxing
   -- TeX's null delimiters are at its sides, which are space
   NullDelimiters : Boxing
+  -- it is the label of an arrow, with the space by which the arrow is longer at both sides
+  ArrowLabel : Boxing
   -- a table in which the lines of all cells of a row are one line
   JoinedLines : Boxing
   -- it is at most this wide, in thousandths of an em

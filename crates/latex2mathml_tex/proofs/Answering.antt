@@ -8,7 +8,7 @@ use Rattle.latex2mathml_tex_grammar.specs.{Atoms.Atom, Atoms.Before, DefinitionT
 use Rattle.latex2mathml_tex_grammar.specs.Formulas.{IsExpansion, IsReading, ReadsFormula, as_atoms, as_rows, formula_context, is_outside, row_print, row_print_with_source, shown, source_text}
 use Rattle.latex2mathml_tex_grammar.specs.Formulas as formula
 use Rattle.latex2mathml_tex_grammar.specs.Reading.{Outcome, Read, Refused, ReadsAtoms, text_ends, never_ended, atoms_stopped, atoms_end, atom_read, atom_refused, rest_read, change_refused, ReadsRule, rule_gives, rows_read, rows_to_end, ReadsScripts, scripts_end, mark_taken, script_read, script_refused, mark_refused}
-use Rattle.latex2mathml_tex_grammar.specs.{Rules.WholeText, Rules.begun, Rules.rows_of_text, Units.End, Units.Units}
+use Rattle.latex2mathml_tex_grammar.specs.{Rules.WholeText, Rules.begun, Rules.rows_of_text, Separators.text_columns, Units.End, Units.Units}
 use Rattle.latex2mathml_tex_grammar.proofs.{AllowedReadings.markup_allowed, AllowedReadings.markup_with_source_allowed, Readings.expanded, Readings.has_expansion, Readings.rows_end_text, Readings.same_expansion}
 use Rattle.latex2mathml_tex_units.specs.MacroTables.{macros_in}
 use Rattle.latex2mathml_tex_commands.specs.Meanings.{style_of}
@@ -48,20 +48,20 @@ only_row style row o (atom_refused p s d) = cc
 only_row style row o (rest_read p s t r d) = cc
 only_row style row o (change_refused p s t r) = cc
 
-rows_made : (s : Start) (l : Units) → s.units ≡ l → s.form ≡ form.Rows → (o : Outcome Core) → ReadsRule (rows_of_text (formula_context s.style)) l o → CoreMade (whole_level s) o
+rows_made : (s : Start) (l : Units) → s.units ≡ l → s.form ≡ form.Rows → (o : Outcome Core) → ReadsRule (rows_of_text (text_columns l) (formula_context s.style)) l o → CoreMade (whole_level s) o
 rows_made s l same rows (Refused r) d = rw rows (Refused r, rw same d, refl)
 rows_made s l same rows (Read x m) (rows_read e p rule_gives) = (let (at, end) = rows_end_text e in cc (p, end))
 rows_made s l same rows (Read x m) (rows_to_end {at = at} {lines = lines} e p rule_gives) = λ o scripts.
     rw (only_atom s.style _ x.atom o scripts) (λ q d.
     rw (only_row s.style (with_atom s.style (begun WholeText) x.atom) q d, rows) (Read x (End at), rw same (rows_to_end e p rule_gives), refl))
 
-pub begins_rows : (p : Parser) → p.frames.stack.items ≡ [] → Begins (rows_of_text (context_at (level 0 (start_of form.Rows p) p))) 0 (start_of form.Rows p) p
+pub begins_rows : (p : Parser) → p.frames.stack.items ≡ [] → Begins (rows_of_text (text_columns (left_of p)) (context_at (level 0 (start_of form.Rows p) p))) 0 (start_of form.Rows p) p
 begins_rows p e =
     let s = start_of form.Rows p in
     let xs = elements_of p in
     record {
       style = refl;
-      leads = subst (λ fs. RuleLeads (rows_of_text (context_at (inside s fs xs))) (CoreMade (inside s fs xs)) (left_of p)) (sym e) (record { to = rows_made s (left_of p) refl refl });
+      leads = subst (λ fs. RuleLeads (rows_of_text (text_columns (left_of p)) (context_at (inside s fs xs))) (CoreMade (inside s fs xs)) (left_of p)) (sym e) (record { to = rows_made s (left_of p) refl refl });
     }
 
 -- the last state says what a formula that is read in this form comes to

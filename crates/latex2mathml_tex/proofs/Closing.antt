@@ -3,7 +3,7 @@ use Rattle.std.proofs.Common.{◌≡◌, ◌∙◌, ℕ, ◌+◌, false, ◌∷�
 use Rattle.std.proofs.lemmas.List.{drop-drop, length-drop}
 use Rattle.latex2mathml_elements.specs.Element.{Element}
 use Rattle.latex2mathml_builder.specs.Built.{Built, elements_in}
-use Rattle.latex2mathml_tex_grammar.specs.{Atoms.Plain, Atoms.atom, Makes.core, Makes.root, Rows.lone, Rows.row_element, Symbols.Ordinary}
+use Rattle.latex2mathml_tex_grammar.specs.{Atoms.Plain, Atoms.atom, Makes.arrow_label, Makes.core, Makes.root, Rows.lone, Rows.row_element, Symbols.Ordinary}
 use Rattle.latex2mathml_tex_grammar.specs.{Rules.gives, Symbols.InScript}
 use Rattle.latex2mathml_tex_grammar.specs.Rules as rules
 use Rattle.latex2mathml_tex.specs.{Frames.Start, Frames.context_at, Frames.labeled_arrow, Innermost.frame_context, Levels.Leads}
@@ -69,12 +69,17 @@ module _ (s : Start) (p : Parser) (b : Built) (place : ℕ) (row : CodeRow) (one
       let x = row_element (take row.count (elements_of p)) in
       rw (one, same) (operand_due (λ y. gives (root x y.element)) (rw (none_beside s p b place row) at g.leads))
 
+-- the elements of the row are the label of an arrow
+abbrev pub IsLabel : CodeRow → Parser → Built → Type 0
+IsLabel row p b = elements_in b ≡ arrow_label (row_element (take row.count (elements_of p))) ∷ drop row.count (elements_of p)
+
+module _ (s : Start) (p : Parser) (b : Built) (place : ℕ) (row : CodeRow) (label : IsLabel row p b) where
   -- the label above the arrow is due, in a script of the context of the level
   pub arrow_closed : (f : Frame) (c small : Context) → InnermostIs f p → c ≡ frame_context f → small ≡ record c { style = style.InScript } → ClosesRow ending.BelowArrow place row s p → Leads (level_within (frame.Last last.OverAndUnderArrow place small) 0 s (record p { builder = b })) (left_of p)
   arrow_closed f c small inner is smaller g =
       let same = ap context_of is ∙ context_is s p.style p.frames.stack.items f (drop (row.count + 1) (elements_of p)) g.style inner in
       let within : context_of small ≡ rules.styled (context_at (level (row.count + 1) s p)) InScript = ap context_of smaller ∙ ap (λ (d : rules.Context). rules.styled d InScript) same in
-      let x = row_element (take row.count (elements_of p)) in
+      let x = arrow_label (row_element (take row.count (elements_of p))) in
       let behind = drop row.count (elements_of p) in
       let others : drop 1 behind ≡ drop (row.count + 1) (elements_of p) = drop-drop 1 row.count (elements_of p) in
-      rw (one, within, others) (operand_due (λ y. gives (labeled_arrow (top behind) x y.element)) g.leads)
+      rw (label, within, others) (operand_due (λ y. gives (labeled_arrow (top behind) x y.element)) g.leads)

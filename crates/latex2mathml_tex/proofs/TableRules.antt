@@ -6,7 +6,7 @@ use Rattle.std.specs.Str.{bytes_eq}
 use mathlib.Core.List.{reverse_aux}
 use Rattle.latex2mathml_elements.specs.Attributes as attributes
 use Rattle.latex2mathml_elements.specs.Attributes.{Attributes}
-use Rattle.latex2mathml_elements.specs.Columns.{Columns, Alike, Centered, Dense, InPairs}
+use Rattle.latex2mathml_elements.specs.Columns.{Columns, Alike, Centered, Dense}
 use Rattle.latex2mathml_elements.specs.{Element.Element, Element.table, Tables.attributes_in}
 use Rattle.latex2mathml_builder.specs.{Built.Built, Built.elements_in, Stacks.table_with}
 use Rattle.latex2mathml_attributes.specs.Columns.{columns_of}
@@ -113,10 +113,10 @@ substack_begins s p columns place c dense g =
     record { style = g.style; leads = λ o d. rows_due (after_rows kind.Braces (columns_of columns) around) k o d }
 
 -- rows of a whole text
-pub text_begins : (s : Start) (p : Parser) (columns : CodeColumns) (place : ℕ) → columns_of columns ≡ InPairs → place ≡ 0 → Begins (rows_of_text (context_at (level 0 s p))) 0 s p → BeginsTable kind.Text columns place s p
-text_begins s p columns place in_pairs first g =
+pub text_begins : (s : Start) (p : Parser) (columns : CodeColumns) (place : ℕ) (d : Columns) → columns_of columns ≡ d → place ≡ 0 → Begins (rows_of_text d (context_at (level 0 s p))) 0 s p → BeginsTable kind.Text columns place s p
+text_begins s p columns place d is first g =
     let around = context_at (level 0 s p) in
-    let k = subst (λ d. RuleLeads (reads_rows ByText 0 d (styled around symbols.InDisplay) (λ lines end. gives (a_table None d symbols.InDisplay around.style lines))) (CoreMade (level 0 s p)) (left_of p)) (sym in_pairs) g.leads in
+    let k = subst (λ e. RuleLeads (reads_rows ByText 0 e (styled around symbols.InDisplay) (λ lines end. gives (a_table None e symbols.InDisplay around.style lines))) (CoreMade (level 0 s p)) (left_of p)) (sym is) g.leads in
     let j = subst (λ n. RuleLeads (reads_rows ByText n (columns_of columns) (styled around symbols.InDisplay) (λ lines end. gives (a_table None (columns_of columns) symbols.InDisplay around.style lines))) (CoreMade (level 0 s p)) (left_of p)) (sym first) k in
     record { style = g.style; leads = λ o d. rows_due (after_rows kind.Text (columns_of columns) around) j o d }
 

@@ -4,11 +4,12 @@ use Rattle.std.specs.Prelude.{◌≡◌, ℕ, zero, suc, ◌+◌, Bool, true, Is
 use Rattle.latex2mathml_elements.specs.{Attributes.Above, Attributes.plain, Element.Element, Element.Mover, Element.Munderover, Element.pair, Element.triple}
 use Rattle.latex2mathml_attributes.specs.Names.{side_of, stretch_of}
 use Rattle.latex2mathml_tex_grammar.specs.Makes as makes
-use Rattle.latex2mathml_tex_grammar.specs.Makes.{Core, braced, core, group, classed, operator_name, accent, brace, stack, stacked_relation, fraction, outlined_fraction, square_root, root, between_delimiters, struck, boxed_atom, choice}
+use Rattle.latex2mathml_tex_grammar.specs.Makes.{Core, braced, core, group, classed, operator_name, accent, brace, stack, stacked_relation, fraction, outlined_fraction, square_root, root, between_delimiters, struck, boxed_atom, choice, arrow_label}
 use Rattle.latex2mathml_tex_grammar.specs.Reading.{Outcome, Read, Refused, ReadsAtoms, ReadsRule}
 use Rattle.latex2mathml_tex_grammar.specs.{Formulas.alone, Formulas.formula_context, Atoms.Before, Atoms.Nothing, Atoms.Plain, Atoms.atom, Symbols.Style, Symbols.InScript, Symbols.InText, Symbols.Relation, Units.Units, Symbols.Ordinary}
 use Rattle.latex2mathml_tex_grammar.specs.Rows.{Operand, Row, as_base, row_element}
 use Rattle.latex2mathml_tex_grammar.specs.Rules as rules
+use Rattle.latex2mathml_tex_grammar.specs.Separators.{text_columns}
 use Rattle.latex2mathml_tex_grammar.specs.Rules.{Context, begun, Rule, gives, of_one, of_two, reads_operand, rows_of_text, slashed, struck_atom, takes_delimiter, WholeText, InBraces, InBrackets, InDollars, InDelimiters, InCell}
 use Rattle.latex2mathml_tex_grammar.specs.Words.{words_atom}
 use Rattle.latex2mathml_tex.specs.Levels.{AtomMade, as_operand, as_words, CoreMade, Level, OperandMade, PartMade, RuleLeads, ScriptsLead, Then}
@@ -32,7 +33,7 @@ use Rattle.latex2mathml_attributes.specs.declared.attributes.Side.TheVariants as
 -- the outcome of units that are read in this form
 abbrev pub ReadsAs : Form → Style → Units → Outcome Row → Type 0
 ReadsAs form.Atoms style l = ReadsAtoms WholeText (formula_context style) (begun WholeText) l
-ReadsAs form.Rows style l = λ o. (p : Outcome Core) × ReadsRule (rows_of_text (formula_context style)) l p × (o ≡ alone style p)
+ReadsAs form.Rows style l = λ o. (p : Outcome Core) × ReadsRule (rows_of_text (text_columns l) (formula_context style)) l p × (o ≡ alone style p)
 
 -- a formula: its units, its style, and the form that it is read in
 pub record Start : Type 0 where
@@ -77,9 +78,9 @@ before_at l = Nothing
 abbrev pub after_delimiters : List ℕ → Row → Rule
 after_delimiters opening row = takes_delimiter (λ closing. gives (between_delimiters opening closing row))
 
--- an atom of an arrow, the label below it, and the label above it
+-- an atom of an arrow, the label below it, and what is the label above it
 abbrev pub labeled_arrow : Element → Element → Element → Core
-labeled_arrow sign label above = core (atom (Plain Relation) true (triple Munderover plain sign label above))
+labeled_arrow sign label above = core (atom (Plain Relation) true (triple Munderover plain sign label (arrow_label above)))
 
 -- where the outcome of a row leads, within this level; these elements are below the row's own
 abbrev pub RowMade : Start → Ending → ℕ → List Element → Level → Outcome Row → Type 0
@@ -87,7 +88,7 @@ RowMade s ending.Text place xs l = Whole s
 RowMade s ending.Group place xs l = Then (λ row. gives (core (braced row))) (CoreMade l)
 RowMade s ending.Operand place xs l = λ o. OperandMade l (as_operand o)
 RowMade s ending.Degree place xs l = Then (λ row. of_one place (context_at l) (λ x. root (row_element row.elements) x.element)) (CoreMade l)
-RowMade s ending.BelowArrow place xs l = Then (λ row. of_one place (rules.styled (context_at l) InScript) (λ x. labeled_arrow (top xs) (row_element row.elements) x.element)) (CoreMade l)
+RowMade s ending.BelowArrow place xs l = Then (λ row. of_one place (rules.styled (context_at l) InScript) (λ x. labeled_arrow (top xs) (arrow_label (row_element row.elements)) x.element)) (CoreMade l)
 RowMade s (ending.Delimiters opening) place xs l = Then (after_delimiters (delimiter_text opening)) (CoreMade l)
 RowMade s (ending.Formula n) place xs l = λ o. PartMade l (as_words (take n xs) o)
 RowMade s (ending.Cell t) place xs l = TableMade t place xs (context_at l) (CoreMade l)
@@ -114,7 +115,7 @@ made_of (last.Fraction rule own) xs y = fraction (fraction_rule_of rule) (option
 made_of (last.Outlined o) xs y = outlined_fraction (outline_of o) (top xs) y.element
 made_of (last.Stack s style) xs y = stack (side_of s) (Plain y.class) (top xs) (as_base (style_of style) y.class y).element
 made_of (last.StackedRelation style) xs y = stack Above (stacked_relation y.class) (top xs) (as_base (style_of style) Relation y).element
-made_of last.OverArrow xs y = core (atom (Plain Relation) true (pair Mover plain (top xs) y.element))
+made_of last.OverArrow xs y = core (atom (Plain Relation) true (pair Mover plain (top xs) (arrow_label y.element)))
 made_of last.OverAndUnderArrow xs y = labeled_arrow (top (drop 1 xs)) (top xs) y.element
 
 -- what follows an operand before the last one, which this place takes in this context, at a level of the outer context; the

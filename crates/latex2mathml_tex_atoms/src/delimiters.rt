@@ -213,6 +213,7 @@ fn lower_divider(builder: &mut Builder, depth: usize)
             depth,
             Attributes {
                 stretch: Some(Stretch::Rigid),
+                padding: None,
                 room: None,
                 ..attributes
             },

@@ -8,9 +8,8 @@ ghost use Rattle.latex2mathml_tex_commands.specs.{Delimiters.delimiter_text, Mea
 ghost use Rattle.latex2mathml_tex_atoms.specs.{Models.top, Shapes.ReplacesTop};
 
 use crate::delimiters::{Height, enclose};
-use latex2mathml_attributes::around::{Around, Boxing};
-use latex2mathml_attributes::attributes::Attributes;
-use latex2mathml_attributes::tag::{Container, Pair};
+use latex2mathml_attributes::attributes::{Attributes, Padding, Space};
+use latex2mathml_attributes::tag::{Container, Pair, Token};
 use latex2mathml_builder::builder::Builder;
 use latex2mathml_tex_commands::meaning::{FractionRule, Style};
 use std::alloc::AllocError;
@@ -93,7 +92,16 @@ pub(crate) fn put_null_delimiters(builder: &mut Builder) -> Result<(), AllocErro
     requires { 1 ≤ length (elements_in builder.old) }
     ensures { OnOk result (ReplacesTop Makes.unfenced builder.old builder.new) }
 {
-    builder.surround(Around::Boxed(Boxing::NullDelimiters))
+    let empty = Attributes {
+        space: Some(Space::NoSpace),
+        ..Attributes::plain()
+    };
+    builder.token(Token::Mo, empty)?;
+    let attributes = Attributes {
+        padding: Some(Padding::NullDelimiters),
+        ..Attributes::plain()
+    };
+    builder.container(Container::Mrow, attributes, 2)
 }
 
 /// Makes the two top elements a fraction without its bar.

@@ -4,6 +4,7 @@
 //! The parser, in the crate `latex2mathml_tex`, calls these.
 #![tactic(auto)]
 
+pub mod arrows;
 pub mod atoms;
 pub mod boxes;
 pub mod delimiters;

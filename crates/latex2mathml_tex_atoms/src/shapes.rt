@@ -387,17 +387,6 @@ fn put_mark(
     builder.pair(pair_on(side), attributes, false)
 }
 
-/// Puts an arrow that is as long as what is above and below it.
-pub fn put_arrow(builder: &mut Builder, sign: char) -> Result<(), AllocError>
-    ensures { OnOk result (Puts (Makes.arrow_sign sign) builder.old builder.new) }
-{
-    let attributes = Attributes {
-        stretch: Some(Stretch::Stretching),
-        ..Attributes::plain()
-    };
-    builder.character(Token::Mo, attributes, sign)
-}
-
 /// Makes the element below the top one a mark on the top one.
 pub fn put_stack(builder: &mut Builder, side: Side) -> Result<(), AllocError>
     requires { 2 ≤ length (elements_in builder.old) }

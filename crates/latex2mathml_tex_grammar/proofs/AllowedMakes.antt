@@ -9,7 +9,7 @@ use Rattle.latex2mathml_elements.proofs.{Characters.allowed_both, Characters.all
 use Rattle.latex2mathml_tex_grammar.specs.Alphabets.{in_alphabet}
 use Rattle.latex2mathml_tex_grammar.specs.Atoms.{Atom, Kind, SignOf, PlusOrMinus, Plain, UprightLetters, Unspaced, Blank, Divider, Before, begins_operand, is_ordinary, as_prefix, as_infix, without_space, without_space_before, led, leads_operator, leads_relation, tight, element_there, gap, lone_sign, element_as}
 use Rattle.latex2mathml_tex_grammar.specs.Fences.{Height, fenced, height_if}
-use Rattle.latex2mathml_tex_grammar.specs.Makes.{text, letter, upright_letter, number, symbol, struck, classed, on_side, accent, brace, stack, in_style, fraction_element, fraction, lowered_divider, lowered, between_delimiters, spaced_as, Scripts, primes_text, prime_mark, behind_primes, superscript, are_stacked, fixed_base, with_scripts, before_base, base_there, scripted_atom, scripted}
+use Rattle.latex2mathml_tex_grammar.specs.Makes.{text, letter, upright_letter, number, symbol, struck, classed, on_side, accent, brace, stack, in_style, unfenced, quotient, fraction_element, fraction, lowered_divider, lowered, between_delimiters, spaced_as, Scripts, primes_text, prime_mark, behind_primes, superscript, are_stacked, fixed_base, with_scripts, before_base, base_there, scripted_atom, scripted}
 use Rattle.latex2mathml_tex_grammar.specs.Meaning.{FractionRule, Bar, NoBar, Braced, Bracketed, Bare, LimitPlace, Beside, ByStyle, Movable, Stacked}
 use Rattle.latex2mathml_tex_grammar.specs.Rows.{Row, Operand, Joining, ToWord, ToRelations, Apart, as_base, is_spaced, isolated, lone, is_empty, join, parted, put, row_element, single, with_atom, empty_row}
 use Rattle.latex2mathml_tex_grammar.specs.Symbols.{Class, Ordinary, Operator, Binary, Relation, Opening, Closing, Punctuation, Inner, Style, InDisplay, InText, InScript, Alphabet, Upright, Italic, Bold, BoldItalic, DoubleStruck, Fraktur, Calligraphic, SansSerif, Monospace, Symbol, Letter, UprightLetter, Sign, BigOperator, Integral}
@@ -258,9 +258,12 @@ in_style_allowed (Some style) x h = (h, tt)
 pub fenced_allowed : (height : Height) (opening closing : List ℕ) (inside : Element) → IsAllowed opening → IsAllowed closing → HasAllowedTexts inside → HasAllowedTexts (fenced height opening closing inside)
 fenced_allowed height opening closing inside h k i = (h, (i, (k, tt)))
 
+pub unfenced_allowed : (x : Element) → HasAllowedTexts x → HasAllowedTexts (unfenced x)
+unfenced_allowed x h = (h, (([], refl, tt), tt))
+
 fraction_element_allowed : (rule : FractionRule) (above below : Element) → HasAllowedTexts above → HasAllowedTexts below → HasAllowedTexts (fraction_element rule above below)
-fraction_element_allowed Bar above below h k = ((h, k), tt)
-fraction_element_allowed Bare above below h k = ((h, k), tt)
+fraction_element_allowed Bar above below h k = unfenced_allowed (quotient true above below) (h, k)
+fraction_element_allowed Bare above below h k = unfenced_allowed (quotient false above below) (h, k)
 fraction_element_allowed NoBar above below h k =
     (allowed_plain (codes "(") refl, ((h, k), (allowed_plain (codes ")") refl, tt)))
 fraction_element_allowed Braced above below h k =

@@ -1,8 +1,8 @@
 -- No reading of units has a text with a character that XML forbids, where the units have none.
-use Rattle.std.proofs.Common.{ℕ, List, [], ◌∷◌, Option, subst, reverse}
+use Rattle.std.proofs.Common.{ℕ, List, [], ◌∷◌, Option, None, subst, reverse}
 use Rattle.latex2mathml_elements.specs.{Characters.IsAllowed, Dollars.IsDollarFree, Element.Element, Element.children}
 use Rattle.latex2mathml_elements.specs.Columns.{Columns}
-use Rattle.latex2mathml_tex_grammar.specs.{RowGaps.gap_at, RowLines.line_next, Scanning.BeforeRow, Scanning.past_gap, Tables.Lines, Tables.a_row, Atoms.Atom, Atoms.Before, Atoms.After, Atoms.Nothing, DefinitionTexts.Defines, Delimiters.delimiter_of, Formulas.IsReading, Formulas.row_print, Formulas.row_print_with_source, Formulas.shown, Formulas.source_text, Laws.ReadingsAreAllowed, Macros.Table, Rows.Row, Rows.Operand, Rows.empty_row, Rows.lone, Rows.row_element, Symbols.Alphabet, Symbols.Opening, Symbols.Style, Environments.pairs, Rows.with_atom}
+use Rattle.latex2mathml_tex_grammar.specs.{RowGaps.gap_at, RowLines.line_next, Scanning.BeforeRow, Scanning.past_gap, Tables.Lines, Tables.a_row, Atoms.Atom, Atoms.Before, Atoms.After, Atoms.Nothing, DefinitionTexts.Defines, Delimiters.delimiter_of, Formulas.IsReading, Formulas.row_print, Formulas.row_print_with_source, Formulas.shown, Formulas.source_text, Laws.ReadingsAreAllowed, Macros.Table, Rows.Row, Rows.Operand, Rows.empty_row, Rows.lone, Rows.row_element, Symbols.Alphabet, Symbols.Opening, Symbols.InDisplay, Symbols.Style, Separators.text_columns, Rows.with_atom}
 use Rattle.latex2mathml_elements.proofs.{Annotated.annotated_print_as_elements, OneElement.print_as_elements}
 use Rattle.latex2mathml_tex_grammar.specs.Makes.{Core, core, divider, is_display, number, Scripts}
 use Rattle.latex2mathml_tex_grammar.specs.Reading.{Outcome, ReadsRule, rule_gives, rule_refuses, operand_read, operand_refused, core_read, core_refused, core_missing, core_stopped, atoms_read, atoms_refused, words_read, words_refused, units_taken, units_missing, unit_follows, no_unit_follows, digits_taken, delimiter_taken, delimiter_missing, ReadsOperand, group_operand, group_refused, digit_operand, other_operand, other_refused, no_operand, operand_at_end, operand_stopped, ReadsScripts, scripts_end, mark_taken, script_read, script_refused, mark_refused, ReadsAtom, divider_read, divider_refused, on_empty_row, base_read, base_refused, ReadsAtoms, text_ends, never_ended, atoms_stopped, atoms_end, atom_read, atom_refused, rest_read, change_refused, ReadsWord, word_stands, group_of_words, formula_read, formula_refused, words_in_alphabet, no_word, word_missing, word_at_end, word_stopped, ReadsWords, words_end, words_never_ended, words_stopped, word_read, word_refused, found_taken, found_refused, passed_over, rows_read, rows_refused, ReadsRows, cell_read, cell_refused, ReadsBehindCell, next_cell, next_row, table_ends, rows_to_end, text_ends_table, Read, Refused}
@@ -158,8 +158,8 @@ alone_allowed style (Refused r) h = tt
 
 formula_allowed : {style : Style} {l : Units} {o : Outcome Row} → ReadsFormula style l o → AreAllowedUnits l → IsAllowedOutcome IsAllowedRow o
 formula_allowed (as_atoms d s) k = rows d (nothing_read (After Opening)) k
-formula_allowed {style} (as_rows {p = p} d s t) k =
-    alone_allowed style p (rules t (λ lines at h. a_table_allowed pairs.delimiters pairs.columns pairs.style style lines tt h) k)
+formula_allowed {style} {l} (as_rows {p = p} d s t) k =
+    alone_allowed style p (rules t (λ lines at h. a_table_allowed None (text_columns l) InDisplay style lines tt h) k)
 
 pub reading_allowed : (definitions : List ℕ) (macros : Table) (text : List ℕ) (style : Style) (row : Row) → Defines definitions macros → IsReading macros text style row → IsAllowedRow row
 unfolding IsReading

@@ -18,7 +18,7 @@ use Rattle.latex2mathml_tex_grammar.specs.Symbols.{InDisplay, InText, InScript, 
 use Rattle.latex2mathml_tex_grammar.specs.Units.{Piece, Space, Open, Close, Command, Character}
 use Rattle.latex2mathml_tex_grammar.specs.Words.{Word, Shown, Formula, Accented, Nothing, WordRule, IsWord, BeginsFormula, NoWord, Words, word_space, word_character, with_text, accented, with_character, end_accent, with_accent_ended, with_word, words_element, word_rule, character_rule as word_of_character, meaning_rule as word_of_meaning, accent_rule as word_of_accent, command_rule as word_of_command}
 use Rattle.latex2mathml_tex_grammar.proofs.Allowed.{IsAllowedPiece, AreAllowedElements, IsAllowedAccent, IsAllowedElement, IsAllowedCore, IsAllowedOperand, AreAllowedScripts, AreAllowedWords, IsAllowedWord, IsAllowedWordRule, IsAllowedStep, IsAllowedRule, AreGiven}
-use Rattle.latex2mathml_tex_grammar.proofs.AllowedMakes.{letter_allowed, upright_letter_allowed, symbol_allowed, number_allowed, lone_allowed, row_element_allowed, single_allowed, struck_allowed, as_base_allowed, classed_allowed, accent_allowed, brace_allowed, stack_allowed, fraction_allowed, fenced_allowed, in_style_allowed, between_allowed, behind_primes_allowed}
+use Rattle.latex2mathml_tex_grammar.proofs.AllowedMakes.{letter_allowed, upright_letter_allowed, symbol_allowed, number_allowed, lone_allowed, row_element_allowed, single_allowed, struck_allowed, as_base_allowed, classed_allowed, accent_allowed, brace_allowed, stack_allowed, fraction_allowed, fenced_allowed, in_style_allowed, unfenced_allowed, between_allowed, behind_primes_allowed}
 use Rattle.latex2mathml_elements.specs.Columns.{Alike, Centered, Dense}
 use Rattle.latex2mathml_elements.specs.{Groups.grouped}
 use Rattle.latex2mathml_tex_grammar.specs.Environments.{environment_of}
@@ -164,8 +164,8 @@ bar_allowed place raise text =
     with_value_allowed _ _ (λ width other. with_value_allowed _ _ (λ height. raised_allowed raise (black width height) tt) (width_of other)) (width_of text)
 
 arrow_allowed : (sign_character : ℕ) (below : Option Element) (above : Element) → is_forbidden sign_character ≡ false → IsAllowedElement below → HasAllowedTexts above → IsAllowedCore (arrow sign_character below above)
-arrow_allowed sign_character None above h k i = (allowed_char sign_character h, i)
-arrow_allowed sign_character (Some below) above h k i = (allowed_char sign_character h, k, i)
+arrow_allowed sign_character None above h k i = (allowed_char sign_character h, (i, tt))
+arrow_allowed sign_character (Some below) above h k i = (allowed_char sign_character h, (k, tt), (i, tt))
 
 in_box_allowed : (box : Box) (x : Element) → HasAllowedTexts x → HasAllowedTexts (in_box box x)
 in_box_allowed Phantom x h = (h, tt)
@@ -217,7 +217,7 @@ quotient_allowed true above below h k = (h, k)
 quotient_allowed false above below h k = (h, k)
 
 between_any_allowed : (opening closing : List ℕ) (x : Element) → IsAllowed opening → IsAllowed closing → HasAllowedTexts x → HasAllowedTexts (between_any opening closing x)
-between_any_allowed [] [] x h k i = (i, tt)
+between_any_allowed [] [] x h k i = unfenced_allowed x i
 between_any_allowed [] (c ∷ cs) x h k i = fenced_allowed Tall [] (c ∷ cs) x h k i
 between_any_allowed (c ∷ cs) closing x h k i = fenced_allowed Tall (c ∷ cs) closing x h k i
 

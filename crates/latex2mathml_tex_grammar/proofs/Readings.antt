@@ -9,6 +9,7 @@ use Rattle.std.specs.Str.{byte}
 use Rattle.latex2mathml_tex_grammar.specs.Makes.{Core}
 use Rattle.latex2mathml_tex_grammar.specs.Next.{past_space}
 use Rattle.latex2mathml_tex_grammar.specs.Rules.{ByText, InCell, rows_of_text}
+use Rattle.latex2mathml_tex_grammar.specs.Separators.{text_columns}
 use Rattle.latex2mathml_tex_grammar.specs.Starts.{PartsCells, EndsRow, EndsTable, ends, is_break, is_character}
 use Rattle.latex2mathml_tex_grammar.specs.Tables.{Lines}
 use Rattle.latex2mathml_tex_grammar.specs.Units.{Unit, Next}
@@ -52,10 +53,10 @@ abbrev pub EndsWithText : Outcome Row → Type 0
 EndsWithText (Read row rest) = (end : ℕ) × (rest ≡ End end)
 EndsWithText (Refused r) = ⊤
 
-rule_to_the_end : (c : Context) (style : Style) (o : Outcome Core) {l : Units} → ReadsRule (rows_of_text c) l o → EndsWithText (alone style o)
-rule_to_the_end c style (Read x rest) (rows_read d p ds) = (let (at, e) = rows_end_text d in cc (p, e))
-rule_to_the_end c style (Read x rest) (rows_to_end {at = at} d p rule_gives) = (at, refl)
-rule_to_the_end c style (Refused r) d = tt
+rule_to_the_end : (columns : Columns) (c : Context) (style : Style) (o : Outcome Core) {l : Units} → ReadsRule (rows_of_text columns c) l o → EndsWithText (alone style o)
+rule_to_the_end columns c style (Read x rest) (rows_read d p ds) = (let (at, e) = rows_end_text d in cc (p, e))
+rule_to_the_end columns c style (Read x rest) (rows_to_end {at = at} d p rule_gives) = (at, refl)
+rule_to_the_end columns c style (Refused r) d = tt
 
 atoms_to_the_end : {c : Context} (o : Outcome Row) {row : Row} {l : Units} → ReadsAtoms WholeText c row l o → EndsWithText o
 atoms_to_the_end (Read row rest) d = to_the_end d
@@ -63,7 +64,7 @@ atoms_to_the_end (Refused r) d = tt
 
 pub formula_to_the_end : {style : Style} {o : Outcome Row} {l : Units} → ReadsFormula style l o → EndsWithText o
 formula_to_the_end {o = o} (as_atoms d s) = atoms_to_the_end o d
-formula_to_the_end {style} (as_rows {p = p} d s t) = rule_to_the_end (formula_context style) style p t
+formula_to_the_end {style = style} {l = l} (as_rows {p = p} d s t) = rule_to_the_end (text_columns l) (formula_context style) style p t
 
 -- the units that a text expands to
 abbrev pub expanded : Table → List ℕ → Units
@@ -82,7 +83,7 @@ formula_outcome style l = (let (o, d) = (has_one_outcome WholeText (formula_cont
   where
     as_either : {o : Outcome Row} → ReadsAtoms WholeText (formula_context style) (begun WholeText) l o → IsTrue (asks_for_rows o) ⊎ IsFalse (asks_for_rows o) → (o : Outcome Row) × ReadsFormula style l o
     as_either {o} d (inr s) = (o, as_atoms d s)
-    as_either d (inl s) = (let (p, t) = rule_outcome (rows_of_text (formula_context style)) l in (alone style p, as_rows d s t))
+    as_either d (inl s) = (let (p, t) = rule_outcome (rows_of_text (text_columns l) (formula_context style)) l in (alone style p, as_rows d s t))
 
 one_formula : {style : Style} {l : Units} {o p : Outcome Row} → ReadsFormula style l o → ReadsFormula style l p → o ≡ p
 one_formula (as_atoms d s) (as_atoms e t) = one_atoms d e

@@ -1,9 +1,10 @@
 -- White space between the units of a formula is ignored.
-use Rattle.std.proofs.Common.{◌≡◌, ℕ, List, refl, sym, subst, ◌∙◌, IsTrue, IsFalse}
+use Rattle.std.proofs.Common.{◌≡◌, ◌||◌, ℕ, List, ap, refl, sym, subst, ◌∙◌, IsTrue, IsFalse}
 use Rattle.latex2mathml_tex_grammar.specs.{Expansion.Stands, Expansion.role_of, ExpansionLaws.AllStand, Formulas.IsExpansion, Formulas.IsReading, Formulas.IsRefusal, Formulas.formula_context, Laws.HaveAlikeExpansions, Laws.IsSpaceNothing, Laws.StandsByItself, Macros.Table, Refusal.Refusal, Rows.Row, Symbols.Style}
 use Rattle.latex2mathml_tex_grammar.specs.Reading.{Outcome, Read, Refused, ReadsAtoms, ReadsRule}
 use Rattle.latex2mathml_tex_grammar.specs.Rules.{Context, WholeText, begun, rows_of_text}
 use Rattle.latex2mathml_tex_grammar.specs.Spacing.{Standing, InFormula, standing_behind, AreAlike, both_end, both_stop, same_piece, space_before, space_behind, Alike, AreAlikeOutcomes, HaveAlikeUnits}
+use Rattle.latex2mathml_tex_grammar.specs.Separators.{columns_by, depth_behind, has_separator, separates, text_columns}
 use Rattle.latex2mathml_tex_grammar.specs.Units.{Units, Next, End, Stop, HasUnits}
 use Rattle.latex2mathml_tex_grammar.proofs.{AlikeRules.both_whole, Expanded.own, OneList.units_are, Readings.expanded_are, Readings.formula_to_the_end, Spaces.in_formula, Unique.one_atoms, AlikeRules.rows_too, AlikeRules.gives_too, Carrying.carry_rule}
 use Rattle.latex2mathml_tex_grammar.proofs.Carrying.{Carried, also_read, also_refused, carry_atoms}
@@ -34,20 +35,33 @@ alike_outcomes p (also_refused {r = r} q e d) one = subst (AreAlikeOutcomes (Ref
 with_units : {macros : Table} {text : List ℕ} {l m : Units} (P : Units → Type 0) → IsExpansion macros text l → IsExpansion macros text m → P l → P m
 with_units P h k p = subst P (sym (expanded_are h) ∙ expanded_are k) p
 
+-- white space separates no cells
+same_separators : {at : Standing} {l m : Units} (depth : ℕ) → AreAlike at l m → has_separator depth l ≡ has_separator depth m
+same_separators depth both_end = refl
+same_separators depth (both_stop e) = refl
+same_separators depth (same_piece {u = u} {v = v} {l = l} e h) =
+    ap (λ p. separates p depth || has_separator (depth_behind p depth) l) e
+    ∙ ap (λ b. separates v.piece depth || b) (same_separators (depth_behind v.piece depth) h)
+same_separators depth (space_before w e h) = rw e (same_separators depth h)
+same_separators depth (space_behind w e h) = rw e (same_separators depth h)
+
 -- formulas are carried over too
 
 atoms_there : {style : Style} {m : Units} {o : Outcome Row} → IsFalse (asks_for_rows o) → Carried InFormula (ReadsAtoms WholeText (formula_context style) (begun WholeText) m) o → Carried InFormula (ReadsFormula style m) o
 atoms_there s (also_read n h d) = also_read n h (as_atoms d s)
 atoms_there s (also_refused q e d) = also_refused q e (as_atoms d (subst (λ k. IsFalse (is_outside k)) e s))
 
-rows_there : {style : Style} {m : Units} {o : Outcome Row} {p : Outcome Core} → IsTrue (asks_for_rows o) → Carried InFormula (ReadsAtoms WholeText (formula_context style) (begun WholeText) m) o → Carried InFormula (ReadsRule (rows_of_text (formula_context style)) m) p → Carried InFormula (ReadsFormula style m) (alone style p)
+rows_there : {style : Style} {m : Units} {o : Outcome Row} {p : Outcome Core} → IsTrue (asks_for_rows o) → Carried InFormula (ReadsAtoms WholeText (formula_context style) (begun WholeText) m) o → Carried InFormula (ReadsRule (rows_of_text (text_columns m) (formula_context style)) m) p → Carried InFormula (ReadsFormula style m) (alone style p)
 rows_there s (also_read n h d) rows = cc s
 rows_there s (also_refused q e d) (also_read n h t) = also_read n h (as_rows d (subst (λ k. IsTrue (is_outside k)) e s) t)
 rows_there s (also_refused q e d) (also_refused r f t) = also_refused r f (as_rows d (subst (λ k. IsTrue (is_outside k)) e s) t)
 
 carried_formula : {style : Style} {l m : Units} {o : Outcome Row} → Alike l m → ReadsFormula style l o → Carried InFormula (ReadsFormula style m) o
 carried_formula h (as_atoms d s) = atoms_there s (carried h d)
-carried_formula h (as_rows d s t) = rows_there s (carried h d) (carry_rule t (rows_too (λ lines at other. gives_too)) in_formula h)
+carried_formula {style = style} {m = m} h (as_rows {p = p} d s t) =
+    rows_there s (carried h d)
+    (subst (λ b. Carried InFormula (ReadsRule (rows_of_text (columns_by b) (formula_context style)) m) p) (same_separators 0 h)
+    (carry_rule t (rows_too (λ lines at other. gives_too)) in_formula h))
 
 reading_there : {macros : Table} {text : List ℕ} {style : Style} {row : Row} {end : ℕ} {m : Units} → IsExpansion macros text m → Carried InFormula (ReadsFormula style m) (Read row (End end)) → IsReading macros text style row
 unfolding IsReading

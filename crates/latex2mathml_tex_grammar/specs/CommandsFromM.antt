@@ -150,7 +150,7 @@ commands_from_m =
     (codes "overleftarrow", Accent Above 0x2190 Stretching) ∷  -- ←
     (codes "overleftharpoon", Accent Above 0x21BC Stretching) ∷  -- ↼
     (codes "overleftrightarrow", Accent Above 0x2194 Stretching) ∷  -- ↔
-    (codes "overline", Accent Above 0x203E Stretching) ∷  -- ‾
+    (codes "overline", Accent Above 0x0332 Stretching) ∷
     (codes "overparen", Brace Above 0x23DC) ∷  -- ⏜
     (codes "overrightarrow", Accent Above 0x2192 Stretching) ∷  -- →
     (codes "overrightharpoon", Accent Above 0x21C0 Stretching) ∷  -- ⇀

@@ -19,6 +19,7 @@ commands_up_to_l =
     (codes ";", Spacing (pos 5)) ∷
     (codes ">", Spacing (pos 4)) ∷
     (codes "A", Shows (UprightLetter 0xC5)) ∷  -- Å
+    (codes "AA", Shows (UprightLetter 0xC5)) ∷  -- Å
     (codes "AE", Shows (UprightLetter 0xC6)) ∷  -- Æ
     (codes "Alpha", Shows (UprightLetter 0x0391)) ∷  -- Α
     (codes "And", Shows (Sign Binary 0x26)) ∷  -- &
@@ -122,6 +123,7 @@ commands_up_to_l =
     (codes "\\", LineBreak) ∷
     (codes "_", Shows (Sign Ordinary 0x5F)) ∷  -- _
     (codes "a", Shows (UprightLetter 0xE5)) ∷  -- å
+    (codes "aa", Shows (UprightLetter 0xE5)) ∷  -- å
     (codes "acute", Accent Above 0xB4 Rigid) ∷  -- ´
     (codes "adots", Shows (Sign Inner 0x22F0)) ∷  -- ⋰
     (codes "ae", Shows (UprightLetter 0xE6)) ∷  -- æ
@@ -275,8 +277,7 @@ commands_up_to_l =
     (codes "dblcolon", Shows (Sign Relation 0x2237)) ∷  -- ∷
     (codes "ddag", Shows (Sign Ordinary 0x2021)) ∷  -- ‡
     (codes "ddagger", Shows (Sign Binary 0x2021)) ∷  -- ‡
-    (codes "ddddot", Accent Above 0x20DC Rigid) ∷
-    (codes "dddot", Accent Above 0x20DB Rigid) ∷
+    (codes "dddot", Accent Above 0x2026 Rigid) ∷  -- …
     (codes "ddot", Accent Above 0xA8 Rigid) ∷  -- ¨
     (codes "ddots", Shows (Sign Inner 0x22F1)) ∷  -- ⋱
     (codes "deg", FunctionName Beside (codes "deg")) ∷

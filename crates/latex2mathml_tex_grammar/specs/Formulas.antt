@@ -5,6 +5,7 @@ use Rattle.std.specs.Str.{encode_utf8_all}
 use Rattle.latex2mathml_elements.specs.{Annotated.annotated_print, Element.Element, Element.children, Print.formula_print}
 use Rattle.latex2mathml_tex_grammar.specs.{Expansion.Expands, Expansion.most_units, Expansion.most_uses, Macros.Table}
 use Rattle.latex2mathml_tex_grammar.specs.{Makes.Core, Makes.is_display, Reading.Outcome, Reading.Read, Reading.Refused, Reading.ReadsAtoms, Reading.ReadsRule, Refusal.Kind, Refusal.OutsideTable, Refusal.Refusal, Rests.finished, Rows.Row, Rows.lone, Rows.row_element, Rows.with_atom, Rules.Context, Rules.in_context, Rules.begun, Rules.rows_of_text, Rules.WholeText, Symbols.Style}
+use Rattle.latex2mathml_tex_grammar.specs.Separators.{text_columns}
 use Rattle.latex2mathml_tex_grammar.specs.Units.{Units, End, HasUnits, is_forbidden}
 
 -- a formula has no alphabet of its own
@@ -33,7 +34,8 @@ alone style (Read x l) = Read (finished style (with_atom style (begun WholeText)
 alone style (Refused r) = Refused r
 
 -- The outcome of the units of a formula. They are read as atoms, unless `&` or `\\` occurs outside of all tables. Then they
--- are read as if they were in `aligned`, and the outcome is that of its rows, whatever it is.
+-- are read as if they were in `aligned`, or in `gathered` if no `&` occurs there, and the outcome is that of these rows, whatever it
+-- is.
 pub data ReadsFormula (style : Style) (l : Units) : Outcome Row → Type 0 where
   as_atoms : {o : Outcome Row}
       → ReadsAtoms WholeText (formula_context style) (begun WholeText) l o
@@ -42,7 +44,7 @@ pub data ReadsFormula (style : Style) (l : Units) : Outcome Row → Type 0 where
   as_rows : {o : Outcome Row} {p : Outcome Core}
       → ReadsAtoms WholeText (formula_context style) (begun WholeText) l o
       → IsTrue (asks_for_rows o)
-      → ReadsRule (rows_of_text (formula_context style)) l p
+      → ReadsRule (rows_of_text (text_columns l) (formula_context style)) l p
       → ReadsFormula style l (alone style p)
 
 -- the row is a reading of the text in this style, where these macros hold

@@ -34,6 +34,7 @@ pub mod RowLines
 pub mod Rows
 pub mod Rules
 pub mod Scanning
+pub mod Separators
 pub mod SignAttributes
 pub mod Signs
 pub mod Sorted

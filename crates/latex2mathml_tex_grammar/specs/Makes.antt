@@ -1,8 +1,8 @@
 -- The atoms of each construct.
 use Rattle.std.specs.Prelude.{ℕ, zero, suc, ◌==◌, ◌||◌, ℤ, pos, Bool, true, false, List, [], ◌∷◌, ◌++◌, map, Option, Some, None, codes, if◌then◌else◌}
 use Rattle.std.specs.{Char.encode_utf8, Option.is_some, Str.encode_utf8_all}
-use Rattle.latex2mathml_elements.specs.Attributes.{Attributes, Side, Above, Below, Stretch, Stretching, Rigid, Space, NoSpace, Narrow, Medium, Thick, ThinAfter, Size, Bigger, Boxing, NoWidth, Flat, NoHeight, NoDepth, ByItsWidth, ByHalfItsWidth, Framed, StruckUp, StruckDown, StruckTwice, NullDelimiters, boxed, MathStyle, DisplayStyle, TextStyle, ScriptStyle, plain}
-use Rattle.latex2mathml_elements.specs.Element.{Mi, Mn, Mo, Msqrt, Mstyle, Mpadded, Mphantom, Mfrac, Mroot, Msub, Msup, Munder, Mover, Msubsup, Munderover, Element, token, space, rectangle, container, pair, triple, children}
+use Rattle.latex2mathml_elements.specs.Attributes.{Attributes, Side, Above, Below, Stretch, Stretching, Rigid, Space, NoSpace, Narrow, Medium, Thick, ThinAfter, Size, Bigger, Boxing, NoWidth, Flat, NoHeight, NoDepth, ByItsWidth, ByHalfItsWidth, Framed, StruckUp, StruckDown, StruckTwice, NullDelimiters, ArrowLabel, boxed, MathStyle, DisplayStyle, TextStyle, ScriptStyle, plain}
+use Rattle.latex2mathml_elements.specs.Element.{Mi, Mn, Mo, Mrow, Msqrt, Mstyle, Mpadded, Mphantom, Mfrac, Mroot, Msub, Msup, Munder, Mover, Msubsup, Munderover, Element, token, space, rectangle, container, pair, triple, children}
 use Rattle.latex2mathml_tex_grammar.specs.{Alphabets.in_alphabet, Rows.Row, Rows.Operand, Rows.lone, Rows.row_element}
 use Rattle.latex2mathml_elements.specs.{Extents.wide, Groups.grouped}
 use Rattle.latex2mathml_tex_grammar.specs.Atoms.{Atom, Kind, SignOf, PlusOrMinus, Plain, UprightLetters, Unspaced, Blank, Divider, After, Before, Nothing, atom, element_there}
@@ -240,14 +240,19 @@ stacked_relation own = Plain Relation
 abbrev pub stack : Side → Kind → Element → Element → Core
 stack side kind mark base = core (atom kind true (on_side side plain base mark))
 
--- an arrow as long as the longer of what is above it and below it; a relation
+-- an arrow as long as the longer of its labels
 abbrev pub arrow_sign : ℕ → Element
 arrow_sign sign_character = token Mo (record plain { stretch = Some Stretching }) (text sign_character)
 
+-- the label of an arrow, with the space by which the arrow is longer at both sides
+abbrev pub arrow_label : Element → Element
+arrow_label x = container Mrow (boxed ArrowLabel) (children (x ∷ []))
+
 -- an arrow with a label above, and perhaps one below
 abbrev pub arrow_element : ℕ → Option Element → Element → Element
-arrow_element sign_character None above = pair Mover plain (arrow_sign sign_character) above
-arrow_element sign_character (Some below) above = triple Munderover plain (arrow_sign sign_character) below above
+arrow_element sign_character None above = pair Mover plain (arrow_sign sign_character) (arrow_label above)
+arrow_element sign_character (Some below) above =
+    triple Munderover plain (arrow_sign sign_character) (arrow_label below) (arrow_label above)
 
 -- an arrow with its labels is a relation
 abbrev pub arrow : ℕ → Option Element → Element → Core
@@ -275,10 +280,14 @@ abbrev pub in_style : Option Style → Element → Element
 in_style None x = x
 in_style (Some style) x = container Mstyle (style_attributes style) (children (x ∷ []))
 
--- Null delimiters are around a fraction that has no others. In a box of its own it is ordinary in Firefox too, which leaves more
--- space next to a fraction.
+-- an operator that is empty and has no space
+abbrev pub empty_operator : Element
+empty_operator = token Mo (record plain { space = Some NoSpace }) []
+
+-- Null delimiters are around a fraction that has no others. With an empty operator in its row it is ordinary in Firefox too, which
+-- leaves more space next to a fraction.
 abbrev pub unfenced : Element → Element
-unfenced = around NullDelimiters
+unfenced x = container Mrow (boxed NullDelimiters) (children (x ∷ empty_operator ∷ []))
 
 -- a fraction without its line
 abbrev pub without_bar : Element → Element → Element

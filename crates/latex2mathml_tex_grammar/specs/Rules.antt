@@ -4,7 +4,7 @@ use Rattle.std.specs.Prelude.{ℕ, zero, ℤ, pos, ◌==◌, ◌||◌, Bool, nat
 use Rattle.std.specs.{Char.is_ascii_alphabetic, Char.is_ascii_digit, Str.byte, Str.bytes_eq}
 use Rattle.latex2mathml_elements.specs.{Attributes.Above, Columns.Columns, Columns.Centered, Columns.LeftAligned, Columns.RightAligned, Columns.Dense, Columns.Usual, Columns.Alike, Columns.density_in, Element.Element}
 use Rattle.latex2mathml_tex_grammar.specs.{Atoms.After, Atoms.Before, Atoms.Nothing, Atoms.Plain, Atoms.atom, Commands.meaning_of, Commands.symbol_of, Delimiters.delimiter_of, Delimiters.negated_of, Dots.centered_dots, Dots.centers_dots, Dots.low_dots, Rows.Row, Rows.Operand, Rows.as_base, Rows.empty_row, Rows.row_element}
-use Rattle.latex2mathml_tex_grammar.specs.Environments.{Environment, Bracket, NoBracket, Position, Alignment, columns_of, fitted, listed, written_out, environment_of, pairs}
+use Rattle.latex2mathml_tex_grammar.specs.Environments.{Environment, Bracket, NoBracket, Position, Alignment, columns_of, fitted, listed, written_out, environment_of}
 use Rattle.latex2mathml_tex_grammar.specs.Makes.{Core, core, letter, upright_letter, number, relation, symbol, function_name, spacing, braced, group, classed, no_letters, operator_name, accent, brace, stack, stacked_relation, fraction, square_root, root, between_delimiters, sized, struck, blank, boxed_atom, bar, arrow, Outline, outlined_fraction, choice}
 use Rattle.latex2mathml_tex_grammar.specs.Meaning.{Meaning, Shows, FunctionName, Dots, Spacing, Styled, Words as TakesWordsIn, Fraction, Root, Accent, Brace, Stack, StackedRelation, OperatorName, Negation, Slash, Sized, Left, Middle, Right, Limits, NoLimits, Classed, Changes, Beside, ByStyle, FractionRule, BeginTable, EndTable, LineBreak, Substack, Skip, SkipInBraces, Box, Smashed, WithoutHeight, WithoutDepth, Boxed, Smash, Raise, InColor, Highlight, Rectangle, Arrow, Raised, Colored, OnColor, ContinuedFraction, GeneralFraction, Bar, Choice}
 use Rattle.latex2mathml_tex_grammar.specs.Refusal.{UnknownCommand, MissingArgument, MissingDelimiter, ChangeAsArgument, UnopenedBrace, RightWithoutLeft, MiddleWithoutLeft, LimitsWithoutOperator, NothingToNegate, OutsideTable, MisplacedCharacter, Refusal, refusal_at, UnknownEnvironment, EndWithoutBegin, OtherName, TooManyColumns, LengthTooLarge, UnknownColor}
@@ -250,9 +250,9 @@ abbrev pub a_substack : ℕ → Context → Rule
 a_substack place c =
     takes_found BeforeBrace place (λ brace. reads_rows ByBrace place (Alike Dense Centered) (styled c InScript) (λ lines end. gives (a_table None (Alike Dense Centered) InScript c.style lines)))
 
--- the rows of a whole text, as those of `aligned`
-abbrev pub rows_of_text : Context → Rule
-rows_of_text c = reads_rows ByText 0 pairs.columns (styled c pairs.style) (λ lines end. gives (a_table pairs.delimiters pairs.columns pairs.style c.style lines))
+-- the rows of a whole text in these columns, in the style of a block
+abbrev pub rows_of_text : Columns → Context → Rule
+rows_of_text columns c = reads_rows ByText 0 columns (styled c InDisplay) (λ lines end. gives (a_table None columns InDisplay c.style lines))
 
 -- what follows a value, where there is one
 abbrev pub with_value : {A : Type 0} → Refusal → (A → Rule) → Option A → Rule

@@ -19,9 +19,13 @@ usual_entries =
     (codes "Coloneq", 0, codes "\\mathrel{::=}") ∷
     (codes "Coloneqq", 0, codes "\\mathrel{::=}") ∷
     (codes "Colonsim", 0, codes "\\mathrel{::\\sim}") ∷
+    (codes "DOTSB", 0, codes "") ∷
+    (codes "DOTSI", 0, codes "") ∷
+    (codes "DOTSX", 0, codes "") ∷
     (codes "Eqcolon", 0, codes "\\mathrel{=::}") ∷
     (codes "Eqqcolon", 0, codes "\\mathrel{=::}") ∷
     (codes "Huge", 0, codes "") ∷
+    (codes "KaTeX", 0, codes "\\text{KaTeX}") ∷
     (codes "Ket", 1, codes "\\left|#1\\right\\rangle") ∷
     (codes "LARGE", 0, codes "") ∷
     (codes "LaTeX", 0, codes "\\text{LaTeX}") ∷
@@ -54,6 +58,7 @@ usual_entries =
     (codes "colonminus", 0, codes "\\mathrel{:\\relbar}") ∷
     (codes "colonsim", 0, codes "\\mathrel{:\\sim}") ∷
     (codes "colorbox", 2, codes "\\mathcolorbox{#1}{\\text{#2}}") ∷
+    (codes "ddddot", 1, codes "\\overset{....}{#1}") ∷
     (codes "displaylines", 1, codes "\\begin{gathered}#1\\end{gathered}") ∷
     (codes "dotsb", 0, codes "\\cdots") ∷
     (codes "dotsc", 0, codes "\\ldots") ∷
@@ -74,6 +79,11 @@ usual_entries =
     (codes "hdots", 0, codes "\\ldots") ∷
     (codes "hfil", 0, codes "") ∷
     (codes "hfill", 0, codes "") ∷
+    (codes "href", 2, codes "#2") ∷
+    (codes "htmlClass", 2, codes "#2") ∷
+    (codes "htmlData", 2, codes "#2") ∷
+    (codes "htmlId", 2, codes "#2") ∷
+    (codes "htmlStyle", 2, codes "#2") ∷
     (codes "huge", 0, codes "") ∷
     (codes "idotsint", 0, codes "\\int\\cdots\\int") ∷
     (codes "iff", 0, codes "\\;\\Longleftrightarrow\\;") ∷
@@ -130,6 +140,7 @@ usual_entries =
     (codes "sideset", 3, codes "\\mathop{\\vphantom{#3}#1\\!#3\\nolimits#2}") ∷
     (codes "simcolon", 0, codes "\\mathrel{\\sim:}") ∷
     (codes "simcoloncolon", 0, codes "\\mathrel{\\sim::}") ∷
+    (codes "sixptsize", 0, codes "") ∷
     (codes "slash", 0, codes "/") ∷
     (codes "slshape", 0, codes "\\it") ∷
     (codes "small", 0, codes "") ∷

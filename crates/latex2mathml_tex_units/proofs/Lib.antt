@@ -19,6 +19,7 @@ pub mod PuttingBodies
 pub mod Runs
 pub mod Scanned
 pub mod Standing
+pub mod Separators
 pub mod Spaces
 pub mod Starts
 pub mod Steps

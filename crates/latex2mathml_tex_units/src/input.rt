@@ -1,14 +1,15 @@
 //! The units that are left.
-ghost use Rattle.std.specs.Prelude.{◌≡◌, ◌∷◌, [], false, IfSome, IsTrue, MatchBool, MatchOption, None, OnOk, Some};
+ghost use Rattle.std.specs.Prelude.{◌≡◌, ◌+◌, ◌<◌, ◌∷◌, ◌^◌, [], false, IfSome, IsTrue, MatchBool, MatchOption, None, OnOk, Some};
 ghost use Rattle.std.specs.Char.{is_ascii_alphanumeric};
 ghost use Rattle.std.specs.Str.{chars};
 ghost use Rattle.latex2mathml_tex_grammar.specs.Delimiters.{delimiter_of, negated_of};
-ghost use Rattle.latex2mathml_tex_grammar.specs.{Dots.centers_dots, Next.follows, Next.past_space};
+ghost use Rattle.latex2mathml_tex_grammar.specs.{Dots.centers_dots, Next.follows, Next.past_space, Separators.depth_behind, Separators.has_separator};
 ghost use Rattle.latex2mathml_tex_grammar.specs.Rules.{a_character, a_digit, in_brackets};
 ghost use Rattle.latex2mathml_tex_units.specs.Left.{EndsNumber, SameUnits, TakesLone, TakesNext, TakesNone, put_back, units_at, units_behind, units_end};
 ghost use Rattle.latex2mathml_tex_units.specs.Expanded.{expanded_text};
 ghost use Rattle.latex2mathml_tex_grammar.specs.Units as units;
 ghost use Rattle.latex2mathml_tex_commands.specs.Delimiters.{delimiter_text};
+ghost use Rattle.latex2mathml_tex_units.specs.Taking.{piece_of};
 
 use crate::delimiters::{delimiter_of, negated_of};
 use crate::dots::centers_dots;
@@ -117,6 +118,35 @@ impl<'a> Input<'a> {
         };
         self.taken = start;
         centered
+    }
+
+    /// Whether `&` is among the units that are left, in no group and no table. Takes nothing.
+    pub fn has_separator(&mut self) -> bool
+        ensures answer { result ≡ has_separator 0 (units_at self.old) }
+        ensures unchanged { self.new ≡ self.old }
+    {
+        let start = self.taken;
+        let found = self.find_separator();
+        self.taken = start;
+        found
+    }
+
+    /// Skips the units up to an `&` that is in no group and no table, or all if there is none. Returns whether there is one.
+    fn find_separator(&mut self) -> bool
+        ensures answer { result ≡ has_separator 0 (units_at self.old) }
+        ensures same { SameUnits self.old self.new }
+    {
+        // no more groups and tables are open than there are units, whose number fits in a `usize`
+        let _ = self.units.as_slice().len();
+        let mut depth: usize = 0;
+        'units: while let Next::Unit(unit) = self.peek() {
+            match unit.piece {
+                Piece::Character('&') if depth == 0 => return true,
+                piece => depth = depth_behind(piece, depth),
+            }
+            self.advance();
+        }
+        false
     }
 
     /// Takes a delimiter, if one comes next. Otherwise skips nothing.
@@ -315,5 +345,17 @@ impl<'a> Input<'a> {
         }
         self.taken = start;
         None
+    }
+}
+
+/// Returns how many groups and tables a unit is in that follows this one, which is in `depth` groups and tables.
+fn depth_behind(piece: Piece, depth: usize) -> usize
+    requires { depth + 1 < 2 ^ 64 }
+    ensures { result ≡ depth_behind (piece_of piece.entry) depth }
+{
+    match piece {
+        Piece::Open | Piece::Command("begin") => depth + 1,
+        Piece::Close | Piece::Command("end") => depth.saturating_sub(1),
+        _ => depth,
     }
 }

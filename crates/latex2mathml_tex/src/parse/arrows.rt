@@ -1,12 +1,12 @@
-//! Arrows that are as long as what is above and below them.
+//! Arrows that are as long as their labels.
 ghost use Rattle.latex2mathml_tex_grammar.specs.Rules.{an_arrow};
 ghost use Rattle.latex2mathml_tex_atoms.specs.Models.{context_of};
 ghost use Rattle.latex2mathml_tex.specs.Steps.{BeginsIn, CanBegin, Advances, LeadsOn};
 
 use crate::parse::frames::{Ending, Frame, Last};
 use crate::parse::{Parser, State};
+use latex2mathml_tex_atoms::arrows::put_arrow;
 use latex2mathml_tex_atoms::atoms::{Context, Row};
-use latex2mathml_tex_atoms::shapes::put_arrow;
 use latex2mathml_tex_commands::meaning::Style;
 use std::alloc::AllocError;
 

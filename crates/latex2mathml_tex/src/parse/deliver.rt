@@ -13,7 +13,8 @@ ghost use Rattle.latex2mathml_tex.specs.Steps.{Begins, CanMake, FirstRead, Holds
 use crate::parse::frames::{First, Frame, Last};
 use crate::parse::{Parser, State};
 use latex2mathml_attributes::attributes::{Attributes, Side};
-use latex2mathml_attributes::tag::{Container, Pair, Triple};
+use latex2mathml_attributes::tag::{Container, Pair};
+use latex2mathml_tex_atoms::arrows::{put_over_and_under_arrow, put_over_arrow};
 use latex2mathml_tex_atoms::atoms::{Context, Core, Kind, Operand, Row, Scripts};
 use latex2mathml_tex_atoms::boxes::put_in_box;
 use latex2mathml_tex_atoms::fractions::put_fraction;
@@ -227,13 +228,12 @@ impl<'a> Parser<'a> {
                 Ok(())
             }
             Last::OverArrow => {
-                self.builder.pair(Pair::Mover, Attributes::plain(), false)?;
+                put_over_arrow(&mut self.builder)?;
                 *next = State::Core(Core::new(Kind::Plain(Class::Relation), true));
                 Ok(())
             }
             Last::OverAndUnderArrow => {
-                self.builder
-                    .triple(Triple::Munderover, Attributes::plain(), false)?;
+                put_over_and_under_arrow(&mut self.builder)?;
                 *next = State::Core(Core::new(Kind::Plain(Class::Relation), true));
                 Ok(())
             }

@@ -15,6 +15,7 @@ use crate::parse::symbols::{put_letter, put_symbol};
 use crate::parse::{Parser, State};
 use latex2mathml_attributes::attributes::Attributes;
 use latex2mathml_attributes::tag::Container;
+use latex2mathml_tex_atoms::arrows::put_label_row;
 use latex2mathml_tex_atoms::atoms::{Context, Core, Kind, Operand, Row, Scripts, Words};
 use latex2mathml_tex_atoms::delimiters::{Height, enclose, lower_dividers, put_divider};
 use latex2mathml_tex_atoms::rests::{divide, finish, recolor, restyle};
@@ -329,7 +330,7 @@ impl<'a> Parser<'a> {
                 self.open(Frame::Last(Last::Root, place, context), next)
             }
             Ending::BelowArrow => {
-                put_row(&mut self.builder, row.count)?;
+                put_label_row(&mut self.builder, row.count)?;
                 let context = self.frames.innermost(self.style).context();
                 let small = context.styled(Style::InScript);
                 self.open(Frame::Last(Last::OverAndUnderArrow, place, small), next)

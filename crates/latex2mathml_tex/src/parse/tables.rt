@@ -7,13 +7,14 @@ ghost use Rattle.latex2mathml_attributes.specs.Names.{math_style_of};
 ghost use Rattle.latex2mathml_tex_grammar.specs.Tables;
 ghost use Rattle.latex2mathml_tex_grammar.specs.{Meaning.Substack, RowLines.lined, Starts.cell_end, Tables.row_of, Rows.lone, Rows.row_element};
 ghost use Rattle.latex2mathml_tex_grammar.specs.Rules.{meaning_rule, rows_of_text};
+ghost use Rattle.latex2mathml_tex_grammar.specs.Separators.{columns_by, text_columns};
 ghost use Rattle.latex2mathml_tex_commands.specs.Meanings.{class_of, style_of};
 ghost use Rattle.latex2mathml_tex_units.specs.{Scans.spot_of, Taking.piece_of};
 ghost use Rattle.latex2mathml_tex.specs.Frames.{context_at};
 ghost use Rattle.latex2mathml_tex_atoms.specs.{Models.context_of, Models.kind_of, Shapes.height_of};
 ghost use Rattle.latex2mathml_tex_units.specs.Environments.{delimiter_texts};
 ghost use Rattle.latex2mathml_tex.specs.Tables.{cell_end_of, line_count};
-ghost use Rattle.latex2mathml_tex.specs.Steps.{BeginsIn, BeginsTable, CanBegin, CanMake, Begins, ClosesCell, EndsCells, EndsRows, GoesOnTable, Advances, LeadsOn, MakesTable, TookText, core_made, level};
+ghost use Rattle.latex2mathml_tex.specs.Steps.{BeginsIn, BeginsTable, CanBegin, CanMake, Begins, ClosesCell, EndsCells, EndsRows, GoesOnTable, Advances, LeadsOn, left_of, MakesTable, TookText, core_made, level};
 
 use crate::parse::frames::{Ending, Frame, Table, TableKind};
 use crate::parse::{Parser, State};
@@ -86,11 +87,13 @@ impl<'a> Parser<'a> {
     pub(crate) fn begin_text(&mut self, next: &mut State) -> Result<(), AllocError>
         requires begin { CanBegin 0 self.old }
         ensures holds { LeadsOn
-            (λ s. Begins (rows_of_text (context_at (level 0 s self.old))) 0 s)
+            (λ s. Begins (rows_of_text (text_columns (left_of self.old))
+            (context_at (level 0 s self.old))) 0 s)
             self.old self.new next.new result }
         ensures step { Advances 13 self.old self.new next.new result }
     {
-        self.begin_first_cell(TableKind::Text, Columns::in_pairs(), 0, next)
+        let columns = columns_by(self.input.has_separator());
+        self.begin_first_cell(TableKind::Text, columns, 0, next)
     }
 
     /// Begins the first cell of a table, and the line before its row, if there is one.
@@ -283,6 +286,17 @@ impl<'a> Parser<'a> {
         let class = table_class(delimiters);
         *next = State::Core(Core::new(Kind::Plain(class), true));
         Ok(())
+    }
+}
+
+/// Returns the columns of rows whose cells are separated, or of rows of one cell each.
+fn columns_by(are_separated: bool) -> Columns
+    ensures { columns_of result ≡ columns_by are_separated }
+{
+    if are_separated {
+        Columns::in_pairs()
+    } else {
+        Columns::alike(Density::Opened, Alignment::Centered)
     }
 }
 

@@ -18,8 +18,9 @@ pub(crate) fn letter_a() -> &'static [Entry]
 }
 
 #[rattlefmt::skip]
-static LETTER_A: [Entry; 25] = [
+static LETTER_A: [Entry; 26] = [
     Entry { name: "a", key: 0x6100000000000000, meaning: Meaning::Shows(Symbol::UprightLetter('å')) },
+    Entry { name: "aa", key: 0x6161000000000000, meaning: Meaning::Shows(Symbol::UprightLetter('å')) },
     Entry { name: "acute", key: 0x6163757465000000, meaning: Meaning::Accent(Side::Above, '´', Stretch::Rigid) },
     Entry { name: "adots", key: 0x61646f7473000000, meaning: Meaning::Shows(Symbol::Sign(Class::Inner, '⋰')) },
     Entry { name: "ae", key: 0x6165000000000000, meaning: Meaning::Shows(Symbol::UprightLetter('æ')) },

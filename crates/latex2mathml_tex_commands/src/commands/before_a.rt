@@ -16,7 +16,7 @@ pub(crate) fn entries() -> &'static [Entry]
 }
 
 #[rattlefmt::skip]
-static BEFORE_A: [Entry; 113] = [
+static BEFORE_A: [Entry; 114] = [
     Entry { name: " ", key: 0x2000000000000000, meaning: Meaning::Spacing(6) },
     Entry { name: "!", key: 0x2100000000000000, meaning: Meaning::Spacing(-3) },
     Entry { name: "#", key: 0x2300000000000000, meaning: Meaning::Shows(Symbol::Sign(Class::Ordinary, '#')) },
@@ -28,6 +28,7 @@ static BEFORE_A: [Entry; 113] = [
     Entry { name: ";", key: 0x3b00000000000000, meaning: Meaning::Spacing(5) },
     Entry { name: ">", key: 0x3e00000000000000, meaning: Meaning::Spacing(4) },
     Entry { name: "A", key: 0x4100000000000000, meaning: Meaning::Shows(Symbol::UprightLetter('Å')) },
+    Entry { name: "AA", key: 0x4141000000000000, meaning: Meaning::Shows(Symbol::UprightLetter('Å')) },
     Entry { name: "AE", key: 0x4145000000000000, meaning: Meaning::Shows(Symbol::UprightLetter('Æ')) },
     Entry { name: "Alpha", key: 0x416c706861000000, meaning: Meaning::Shows(Symbol::UprightLetter('Α')) },
     Entry { name: "And", key: 0x416e640000000000, meaning: Meaning::Shows(Symbol::Sign(Class::Binary, '&')) },

@@ -82,7 +82,7 @@ pub(crate) fn letter_d() -> &'static [Entry]
 }
 
 #[rattlefmt::skip]
-static LETTER_D: [Entry; 48] = [
+static LETTER_D: [Entry; 47] = [
     Entry { name: "dArr", key: 0x6441727200000000, meaning: Meaning::Shows(Symbol::Sign(Class::Relation, '⇓')) },
     Entry { name: "dag", key: 0x6461670000000000, meaning: Meaning::Shows(Symbol::Sign(Class::Ordinary, '†')) },
     Entry { name: "dagger", key: 0x6461676765720000, meaning: Meaning::Shows(Symbol::Sign(Class::Binary, '†')) },
@@ -96,8 +96,7 @@ static LETTER_D: [Entry; 48] = [
     Entry { name: "dblcolon", key: 0x64626c636f6c6f6e, meaning: Meaning::Shows(Symbol::Sign(Class::Relation, '∷')) },
     Entry { name: "ddag", key: 0x6464616700000000, meaning: Meaning::Shows(Symbol::Sign(Class::Ordinary, '‡')) },
     Entry { name: "ddagger", key: 0x6464616767657200, meaning: Meaning::Shows(Symbol::Sign(Class::Binary, '‡')) },
-    Entry { name: "ddddot", key: 0x646464646f740000, meaning: Meaning::Accent(Side::Above, '\u{20DC}', Stretch::Rigid) },
-    Entry { name: "dddot", key: 0x6464646f74000000, meaning: Meaning::Accent(Side::Above, '\u{20DB}', Stretch::Rigid) },
+    Entry { name: "dddot", key: 0x6464646f74000000, meaning: Meaning::Accent(Side::Above, '…', Stretch::Rigid) },
     Entry { name: "ddot", key: 0x64646f7400000000, meaning: Meaning::Accent(Side::Above, '¨', Stretch::Rigid) },
     Entry { name: "ddots", key: 0x64646f7473000000, meaning: Meaning::Shows(Symbol::Sign(Class::Inner, '⋱')) },
     Entry { name: "deg", key: 0x6465670000000000, meaning: Meaning::FunctionName(LimitPlace::Beside, "deg") },

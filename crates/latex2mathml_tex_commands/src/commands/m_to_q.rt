@@ -186,7 +186,7 @@ static LETTER_O: [Entry; 30] = [
     Entry { name: "overleftarrow", key: 0x6f7665726c656674, meaning: Meaning::Accent(Side::Above, '←', Stretch::Stretching) },
     Entry { name: "overleftharpoon", key: 0x6f7665726c656674, meaning: Meaning::Accent(Side::Above, '↼', Stretch::Stretching) },
     Entry { name: "overleftrightarrow", key: 0x6f7665726c656674, meaning: Meaning::Accent(Side::Above, '↔', Stretch::Stretching) },
-    Entry { name: "overline", key: 0x6f7665726c696e65, meaning: Meaning::Accent(Side::Above, '‾', Stretch::Stretching) },
+    Entry { name: "overline", key: 0x6f7665726c696e65, meaning: Meaning::Accent(Side::Above, '\u{0332}', Stretch::Stretching) },
     Entry { name: "overparen", key: 0x6f76657270617265, meaning: Meaning::Brace(Side::Above, '⏜') },
     Entry { name: "overrightarrow", key: 0x6f76657272696768, meaning: Meaning::Accent(Side::Above, '→', Stretch::Stretching) },
     Entry { name: "overrightharpoon", key: 0x6f76657272696768, meaning: Meaning::Accent(Side::Above, '⇀', Stretch::Stretching) },

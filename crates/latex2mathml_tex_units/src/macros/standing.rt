@@ -183,11 +183,20 @@ fn turns_up_to_l(first: u8, second: u8, len: usize) -> bool
             _ => false,
         },
         b'C' => second == b'o' && matches!(len, 7 | 8 | 11),
-        b'D' => second == b'e' && matches!(len, 19 | 20 | 22),
+        b'D' => match second {
+            b'O' => len == 5,
+            b'e' => matches!(len, 19 | 20 | 22),
+            _ => false,
+        },
         b'E' => second == b'q' && matches!(len, 7 | 8),
         b'H' => second == b'u' && len == 4,
-        b'K' | b'T' => second == b'e' && len == 3,
+        b'K' => match second {
+            b'a' => len == 5,
+            b'e' => len == 3,
+            _ => false,
+        },
         b'L' => matches!(second, b'A' | b'a') && len == 5,
+        b'T' => second == b'e' && len == 3,
         b'a' => match second {
             b'd' => len == 12,
             b'l' => matches!(len, 10 | 18),
@@ -210,6 +219,7 @@ fn turns_up_to_l(first: u8, second: u8, len: usize) -> bool
             _ => false,
         },
         b'd' => match second {
+            b'd' => len == 6,
             b'e' => len == 3,
             b'i' => len == 12,
             b'o' => len == 5,
@@ -235,6 +245,8 @@ fn turns_up_to_l(first: u8, second: u8, len: usize) -> bool
         b'h' => match second {
             b'd' => len == 5,
             b'f' => matches!(len, 4 | 5),
+            b'r' => len == 4,
+            b't' => matches!(len, 6 | 8 | 9),
             b'u' => len == 4,
             _ => false,
         },
@@ -302,7 +314,7 @@ fn turns_from_m(first: u8, second: u8, len: usize) -> bool
             b'e' => len == 9,
             b'f' => matches!(len, 5 | 8),
             b'h' => matches!(len, 9 | 10),
-            b'i' => matches!(len, 7 | 8 | 13),
+            b'i' => matches!(len, 7 | 8 | 9 | 13),
             b'l' => matches!(len, 5 | 7),
             b'm' | b't' => len == 5,
             b'p' => matches!(len, 9 | 10),

@@ -30,7 +30,7 @@ fn entries() -> &'static [Usual]
 
 /// An entry for each macro, in the order of their names' bytes.
 #[rattlefmt::skip]
-static ENTRIES: [Usual; 154] = [
+static ENTRIES: [Usual; 165] = [
     Usual { name: "(", arity: 0, body: "$" },
     Usual { name: ")", arity: 0, body: "$" },
     Usual { name: "*", arity: 0, body: "" },
@@ -42,9 +42,13 @@ static ENTRIES: [Usual; 154] = [
     Usual { name: "Coloneq", arity: 0, body: "\\mathrel{::=}" },
     Usual { name: "Coloneqq", arity: 0, body: "\\mathrel{::=}" },
     Usual { name: "Colonsim", arity: 0, body: "\\mathrel{::\\sim}" },
+    Usual { name: "DOTSB", arity: 0, body: "" },
+    Usual { name: "DOTSI", arity: 0, body: "" },
+    Usual { name: "DOTSX", arity: 0, body: "" },
     Usual { name: "Eqcolon", arity: 0, body: "\\mathrel{=::}" },
     Usual { name: "Eqqcolon", arity: 0, body: "\\mathrel{=::}" },
     Usual { name: "Huge", arity: 0, body: "" },
+    Usual { name: "KaTeX", arity: 0, body: "\\text{KaTeX}" },
     Usual { name: "Ket", arity: 1, body: "\\left|#1\\right\\rangle" },
     Usual { name: "LARGE", arity: 0, body: "" },
     Usual { name: "LaTeX", arity: 0, body: "\\text{LaTeX}" },
@@ -77,6 +81,7 @@ static ENTRIES: [Usual; 154] = [
     Usual { name: "colonminus", arity: 0, body: "\\mathrel{:\\relbar}" },
     Usual { name: "colonsim", arity: 0, body: "\\mathrel{:\\sim}" },
     Usual { name: "colorbox", arity: 2, body: "\\mathcolorbox{#1}{\\text{#2}}" },
+    Usual { name: "ddddot", arity: 1, body: "\\overset{....}{#1}" },
     Usual { name: "displaylines", arity: 1, body: "\\begin{gathered}#1\\end{gathered}" },
     Usual { name: "dotsb", arity: 0, body: "\\cdots" },
     Usual { name: "dotsc", arity: 0, body: "\\ldots" },
@@ -97,6 +102,11 @@ static ENTRIES: [Usual; 154] = [
     Usual { name: "hdots", arity: 0, body: "\\ldots" },
     Usual { name: "hfil", arity: 0, body: "" },
     Usual { name: "hfill", arity: 0, body: "" },
+    Usual { name: "href", arity: 2, body: "#2" },
+    Usual { name: "htmlClass", arity: 2, body: "#2" },
+    Usual { name: "htmlData", arity: 2, body: "#2" },
+    Usual { name: "htmlId", arity: 2, body: "#2" },
+    Usual { name: "htmlStyle", arity: 2, body: "#2" },
     Usual { name: "huge", arity: 0, body: "" },
     Usual { name: "idotsint", arity: 0, body: "\\int\\cdots\\int" },
     Usual { name: "iff", arity: 0, body: "\\;\\Longleftrightarrow\\;" },
@@ -153,6 +163,7 @@ static ENTRIES: [Usual; 154] = [
     Usual { name: "sideset", arity: 3, body: "\\mathop{\\vphantom{#3}#1\\!#3\\nolimits#2}" },
     Usual { name: "simcolon", arity: 0, body: "\\mathrel{\\sim:}" },
     Usual { name: "simcoloncolon", arity: 0, body: "\\mathrel{\\sim::}" },
+    Usual { name: "sixptsize", arity: 0, body: "" },
     Usual { name: "slash", arity: 0, body: "/" },
     Usual { name: "slshape", arity: 0, body: "\\it" },
     Usual { name: "small", arity: 0, body: "" },

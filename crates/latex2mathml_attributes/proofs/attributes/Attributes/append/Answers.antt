@@ -23,4 +23,4 @@ returns c =
     (then (string_bytes c.append_some-9.new.out) _ _ _ _ _ c.accent_text.ensures c.in_ok-append_some-10.ensures
     (then (string_bytes c.append_some-10.new.out) _ _ _ _ _ c.text_if-6.ensures c.in_ok-append_some-11.ensures
     (then (string_bytes c.append_some-11.new.out) _ _ _ _ _ c.style_text.ensures c.in_ok-append_some-12.ensures
-    (c.in_ok-append_room.ensures ∙ ap (λ l. string_bytes c.append_some-12.new.out ++ l) (sym (append-nil _))))))))))))))
+    (c.in_ok-append_boxing.ensures ∙ ap (λ l. string_bytes c.append_some-12.new.out ++ l) (sym (append-nil _))))))))))))))

@@ -1,5 +1,5 @@
 use Rattle.std.proofs.Common.{[], ◌∷◌, None, Some, arith, subst}
-use Rattle.latex2mathml_tex_grammar.specs.{Makes.arrow, Makes.arrow_sign, Rows.row_element, Symbols.InScript}
+use Rattle.latex2mathml_tex_grammar.specs.{Makes.arrow, Makes.arrow_label, Makes.arrow_sign, Rows.row_element, Symbols.InScript}
 use Rattle.latex2mathml_tex_grammar.specs.Rules.{Context, InBrackets, a_character, gives, of_one, reads_atoms, styled}
 use Rattle.latex2mathml_tex_units.specs.Left.{units_at}
 use Rattle.latex2mathml_tex.specs.Frames.{context_at, labeled_arrow}
@@ -25,8 +25,8 @@ returns-then-take_character-clause-holds c = λ s g.
     let sign = c.args.sign in
     let small = styled (context_of c.args.context) InScript in
     let below = past_units s p i (λ bracket. reads_atoms (InBrackets place) small (λ row. of_one place small (λ x. arrow sign (Some (row_element row.elements)) x.element))) (91 ∷ []) c.if-take_character.ensures.next (begun g) in
-    let due = subst (λ (d : Context). Begins (reads_atoms (InBrackets place) small (λ row. of_one place (styled d InScript) (λ x. labeled_arrow (arrow_sign sign) (row_element row.elements) x.element))) 0 s (record p { input = i })) g.context below in
-    c.open.ensures.holds s g.style (rw (c.in_ok-put_arrow.ensures, c.empty.ensures, c.styled-small.ensures) (row_due (λ row. of_one place (styled (context_at (level 0 s p)) InScript) (λ x. labeled_arrow (arrow_sign sign) (row_element row.elements) x.element)) due.leads))
+    let due = subst (λ (d : Context). Begins (reads_atoms (InBrackets place) small (λ row. of_one place (styled d InScript) (λ x. labeled_arrow (arrow_sign sign) (arrow_label (row_element row.elements)) x.element))) 0 s (record p { input = i })) g.context below in
+    c.open.ensures.holds s g.style (rw (c.in_ok-put_arrow.ensures, c.empty.ensures, c.styled-small.ensures) (row_due (λ row. of_one place (styled (context_at (level 0 s p)) InScript) (λ x. labeled_arrow (arrow_sign sign) (arrow_label (row_element row.elements)) x.element)) due.leads))
 
 pub returns-then-take_character-clause-step : goal.returns-then-take_character-clause-step
 returns-then-take_character-clause-step c =

@@ -17,10 +17,10 @@ returns-in_ok-put_row-in-Degree-clause-holds c = λ s g.
     let due = degree_closed s c.args.self.now c.put_row.new.builder c.args.place c.args.row c.in_ok-put_row-in-Degree.ensures c.innermost.result c.context-context.result c.innermost.ensures c.context-context.ensures h in
     c.open.ensures.holds s h.style due
 
-pub returns-in_ok-put_row-in-BelowArrow-clause-holds : goal.returns-in_ok-put_row-in-BelowArrow-clause-holds
-returns-in_ok-put_row-in-BelowArrow-clause-holds c = λ s g.
+pub returns-in_ok-put_label_row-in-BelowArrow-clause-holds : goal.returns-in_ok-put_label_row-in-BelowArrow-clause-holds
+returns-in_ok-put_label_row-in-BelowArrow-clause-holds c = λ s g.
     let h : ClosesRow ending.BelowArrow c.args.place c.args.row s c.args.self.now = rw c.in-BelowArrow.is at g in
-    let due = arrow_closed s c.args.self.now c.put_row-in-BelowArrow.new.builder c.args.place c.args.row c.in_ok-put_row-in-BelowArrow.ensures c.innermost-in-BelowArrow.result c.context-context-in-BelowArrow.result c.styled-small.result c.innermost-in-BelowArrow.ensures c.context-context-in-BelowArrow.ensures c.styled-small.ensures h in
+    let due = arrow_closed s c.args.self.now c.put_label_row.new.builder c.args.place c.args.row c.in_ok-put_label_row-in-BelowArrow.ensures c.innermost-in-BelowArrow.result c.context-context-in-BelowArrow.result c.styled-small.result c.innermost-in-BelowArrow.ensures c.context-context-in-BelowArrow.ensures c.styled-small.ensures h in
     c.open-in-BelowArrow.ensures.holds s h.style due
 
 pub returns-in_ok-put_braced-in-Formula-clause-holds : goal.returns-in_ok-put_braced-in-Formula-clause-holds
@@ -35,14 +35,14 @@ pub open-requires-clause-can : goal.open-requires-clause-can
 open-requires-clause-can c = closed_can c.args.self.now c.put_row.new.builder c.args.row c.in_ok-put_row-in-Degree.ensures core_made 0 (rw c.in-Degree.is at c.requires.can)
 
 pub open-requires-in-BelowArrow-clause-can : goal.open-requires-in-BelowArrow-clause-can
-open-requires-in-BelowArrow-clause-can c = closed_can c.args.self.now c.put_row-in-BelowArrow.new.builder c.args.row c.in_ok-put_row-in-BelowArrow.ensures core_made 1 (rw c.in-BelowArrow.is at c.requires.can)
+open-requires-in-BelowArrow-clause-can c = closed_can c.args.self.now c.put_label_row.new.builder c.args.row c.in_ok-put_label_row-in-BelowArrow.ensures core_made 1 (rw c.in-BelowArrow.is at c.requires.can)
 
 pub returns-in_ok-put_row-in-Degree-clause-step : goal.returns-in_ok-put_row-in-Degree-clause-step
 returns-in_ok-put_row-in-Degree-clause-step c =
     let p = c.args.self.now in
     step_within p (record p { builder = c.put_row.new.builder }) c.open.new.self c.open.new.next c.open.result 6 13 (omega arith) c.open.ensures.step
 
-pub returns-in_ok-put_row-in-BelowArrow-clause-step : goal.returns-in_ok-put_row-in-BelowArrow-clause-step
-returns-in_ok-put_row-in-BelowArrow-clause-step c =
+pub returns-in_ok-put_label_row-in-BelowArrow-clause-step : goal.returns-in_ok-put_label_row-in-BelowArrow-clause-step
+returns-in_ok-put_label_row-in-BelowArrow-clause-step c =
     let p = c.args.self.now in
-    step_within p (record p { builder = c.put_row-in-BelowArrow.new.builder }) c.open-in-BelowArrow.new.self c.open-in-BelowArrow.new.next c.open-in-BelowArrow.result 6 13 (omega arith) c.open-in-BelowArrow.ensures.step
+    step_within p (record p { builder = c.put_label_row.new.builder }) c.open-in-BelowArrow.new.self c.open-in-BelowArrow.new.next c.open-in-BelowArrow.result 6 13 (omega arith) c.open-in-BelowArrow.ensures.step

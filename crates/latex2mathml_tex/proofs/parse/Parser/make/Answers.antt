@@ -143,28 +143,20 @@ returns-in_ok-put_stack-in-StackedRelation c =
       step = rw c.new-in-StackedRelation.ensures (made_step p c.args.last c.args.operand c.put_stack-in-StackedRelation.new.builder _ (made p c.args.last c.args.operand).atom.element (rw c.in-StackedRelation.is (rw (is, top_changed f xs some, behind_changed f xs, behind_two_changed f xs) at c.in_ok-put_stack-in-StackedRelation.ensures)) c.requires);
     }
 
-pub returns-in_ok-pair-in-OverArrow : goal.returns-in_ok-pair-in-OverArrow
-returns-in_ok-pair-in-OverArrow c =
+pub returns-in_ok-put_over_arrow-in-OverArrow : goal.returns-in_ok-put_over_arrow-in-OverArrow
+returns-in_ok-put_over_arrow-in-OverArrow c =
     let p = c.args.self.now in
-    let xs = elements_of p in
-    let two : 2 ≤ length xs = enough 2 p (rw c.in-OverArrow.is at c.requires.elements) in
-    let x = pair Mover plain (top (drop 1 xs)) (top xs) in
-    let put : elements_in c.pair-in-OverArrow.new.self ≡ x ∷ drop 2 xs = c.in_ok-pair-in-OverArrow.ensures.elements ∙ rw (c.plain-in-OverArrow.ensures, two_ordered xs two) refl in
     record {
-      holds = λ s g. rw c.new-in-OverArrow.ensures (made_put p c.args.last c.args.operand s c.pair-in-OverArrow.new.self _ x (rw c.in-OverArrow.is put) (rw c.in-OverArrow.is refl) g);
-      step = rw c.new-in-OverArrow.ensures (made_step p c.args.last c.args.operand c.pair-in-OverArrow.new.self _ x (rw c.in-OverArrow.is put) c.requires);
+      holds = λ s g. rw c.new-in-OverArrow.ensures (made_held p c.args.last c.args.operand s c.put_over_arrow.new.builder _ (record { element = rw c.in-OverArrow.is c.in_ok-put_over_arrow-in-OverArrow.ensures; is = rw c.in-OverArrow.is refl }) g);
+      step = rw c.new-in-OverArrow.ensures (made_step p c.args.last c.args.operand c.put_over_arrow.new.builder _ (made p c.args.last c.args.operand).atom.element (rw c.in-OverArrow.is c.in_ok-put_over_arrow-in-OverArrow.ensures) c.requires);
     }
 
-pub returns-in_ok-triple-in-OverAndUnderArrow : goal.returns-in_ok-triple-in-OverAndUnderArrow
-returns-in_ok-triple-in-OverAndUnderArrow c =
+pub returns-in_ok-put_over_and_under_arrow-in-OverAndUnderArrow : goal.returns-in_ok-put_over_and_under_arrow-in-OverAndUnderArrow
+returns-in_ok-put_over_and_under_arrow-in-OverAndUnderArrow c =
     let p = c.args.self.now in
-    let xs = elements_of p in
-    let three : 3 ≤ length xs = enough 3 p (rw c.in-OverAndUnderArrow.is at c.requires.elements) in
-    let x = triple Munderover plain (top (drop 1 (drop 1 xs))) (top (drop 1 xs)) (top xs) in
-    let put : elements_in c.triple.new.self ≡ x ∷ drop 3 xs = c.in_ok-triple-in-OverAndUnderArrow.ensures.elements ∙ rw (three_reversed xs three, c.plain-in-OverAndUnderArrow.ensures) refl in
     record {
-      holds = λ s g. rw c.new-in-OverAndUnderArrow.ensures (made_put p c.args.last c.args.operand s c.triple.new.self _ x (rw c.in-OverAndUnderArrow.is put) (rw c.in-OverAndUnderArrow.is refl) g);
-      step = rw c.new-in-OverAndUnderArrow.ensures (made_step p c.args.last c.args.operand c.triple.new.self _ x (rw c.in-OverAndUnderArrow.is put) c.requires);
+      holds = λ s g. rw c.new-in-OverAndUnderArrow.ensures (made_held p c.args.last c.args.operand s c.put_over_and_under_arrow.new.builder _ (record { element = rw c.in-OverAndUnderArrow.is c.in_ok-put_over_and_under_arrow-in-OverAndUnderArrow.ensures; is = rw c.in-OverAndUnderArrow.is refl }) g);
+      step = rw c.new-in-OverAndUnderArrow.ensures (made_step p c.args.last c.args.operand c.put_over_and_under_arrow.new.builder _ (made p c.args.last c.args.operand).atom.element (rw c.in-OverAndUnderArrow.is c.in_ok-put_over_and_under_arrow-in-OverAndUnderArrow.ensures) c.requires);
     }
 
 pub returns-in_ok-keep-in-Choice : goal.returns-in_ok-keep-in-Choice
