@@ -160,7 +160,7 @@ OF_LINES = """async formula => {
     const [red, blue] = [0, 2].map(color => {
         const dots = context.getImageData(0, 0, width, height).data.filter((_, place) => place % 4 == color);
         const columns = [...dots.keys()].filter(place => dots[place] > 127).map(place => place % width);
-        return {left: Math.min(...columns), right: Math.max(...columns)};
+        return {left: Math.min(width, ...columns), right: Math.max(0, ...columns)};
     });
     return [(red.left - blue.left) / 100, (blue.right - red.right) / 100];
 }"""
