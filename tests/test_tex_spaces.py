@@ -143,7 +143,8 @@ OF_HEIGHTS = """formula => {
     return fractions.length && apart.length > 1 ? [Math.max(...apart)] : [];
 }"""
 # How many ems the first sign that stretches begins before the letters around it, and ends behind them. The box of a sign is not as
-# long as what is drawn of it, so the formula is drawn: the sign is blue, and the letters are on a red ground.
+# long as what is drawn of it, so the formula is drawn: the sign is blue, and the letters are on a red ground. It is drawn in the middle
+# of a line: Chromium takes the box of a combining character for empty, and leaves the sign out at some places, such as this.
 OF_LINES = """async formula => {
     const drawn = formula.cloneNode(true), width = 900, height = 400;
     drawn.setAttribute("style", "font-size: 100px; color: transparent");
@@ -151,7 +152,7 @@ OF_LINES = """async formula => {
     sign.style.color = "#00f";
     sign.parentElement.querySelectorAll("mi, mn").forEach(letter => letter.style.background = "#f00");
     const picture = new Image(), canvas = Object.assign(document.createElement("canvas"), {width, height});
-    const page = `<body xmlns="http://www.w3.org/1999/xhtml"><p style="margin: 100px">${new XMLSerializer().serializeToString(drawn)}</p></body>`;
+    const page = `<body xmlns="http://www.w3.org/1999/xhtml"><p style="margin: 100px; text-align: center">${new XMLSerializer().serializeToString(drawn)}</p></body>`;
     picture.src = "data:image/svg+xml," + encodeURIComponent(`<svg xmlns="http://www.w3.org/2000/svg" width="${width}" height="${height}">
         <foreignObject width="${width}" height="${height}">${page}</foreignObject></svg>`);
     await picture.decode();

@@ -3,12 +3,12 @@ use Rattle.std.specs.Prelude.{ℕ, List, Option, None, Some, option_map, pos}
 use Rattle.latex2mathml_elements.specs.Attributes as attributes
 use Rattle.latex2mathml_elements.specs.Element as element
 use Rattle.latex2mathml_attributes.specs.declared.attributes.Attributes.{Attributes}
+use Rattle.latex2mathml_attributes.specs.declared.attributes.BoxStyle.{BoxStyle}
+use Rattle.latex2mathml_attributes.specs.declared.attributes.BoxStyle.TheVariants as box_style
 use Rattle.latex2mathml_attributes.specs.declared.attributes.Form.{Form}
 use Rattle.latex2mathml_attributes.specs.declared.attributes.Form.TheVariants as form
 use Rattle.latex2mathml_attributes.specs.declared.attributes.MathStyle.{MathStyle}
 use Rattle.latex2mathml_attributes.specs.declared.attributes.MathStyle.TheVariants as math_style
-use Rattle.latex2mathml_attributes.specs.declared.attributes.Padding.{Padding}
-use Rattle.latex2mathml_attributes.specs.declared.attributes.Padding.TheVariants as padding
 use Rattle.latex2mathml_attributes.specs.declared.attributes.Side.{Side}
 use Rattle.latex2mathml_attributes.specs.declared.attributes.Side.TheVariants as side
 use Rattle.latex2mathml_attributes.specs.declared.attributes.Size.{Size}
@@ -59,14 +59,15 @@ abbrev pub stretch_of : Stretch → attributes.Stretch
 stretch_of stretch.Stretching = attributes.Stretching
 stretch_of stretch.Rigid = attributes.Rigid
 
-abbrev pub padding_of : Padding → attributes.Boxing
-padding_of padding.NullDelimiters = attributes.NullDelimiters
-padding_of padding.ArrowLabel = attributes.ArrowLabel
+abbrev pub box_style_of : BoxStyle → attributes.Boxing
+box_style_of box_style.NullDelimiters = attributes.NullDelimiters
+box_style_of box_style.ArrowLabel = attributes.ArrowLabel
+box_style_of box_style.Unclipped = attributes.Unclipped
 
--- the change to the box of an element that has space at its sides, or a greatest width in thousandths of an em
-abbrev pub boxing_in : Option Padding → Option ℕ → Option attributes.Boxing
+-- the change to the box of an element whose box has a style, or a greatest width in thousandths of an em
+abbrev pub boxing_in : Option BoxStyle → Option ℕ → Option attributes.Boxing
 boxing_in None room = option_map attributes.AtMost room
-boxing_in (Some p) room = Some (padding_of p)
+boxing_in (Some p) room = Some (box_style_of p)
 
 abbrev pub attributes_of : Attributes → attributes.Attributes
 attributes_of a = record {
@@ -82,7 +83,7 @@ attributes_of a = record {
   accent = option_map side_of a.accent;
   no_line = a.no_line;
   style = option_map math_style_of a.style;
-  boxing = boxing_in a.padding a.room;
+  boxing = boxing_in a.box_style a.room;
   raised = pos 0;
   color = None;
   background = None;

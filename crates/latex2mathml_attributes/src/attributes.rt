@@ -2,7 +2,7 @@
 ghost use Rattle.std.specs.Prelude.{◌≡◌, ◌++◌, true, IfSome, OnOk, Some, codes, option_map, string_bytes};
 ghost use Rattle.latex2mathml_elements.specs.Attributes.{AtMost, plain, styled};
 ghost use Rattle.latex2mathml_elements.specs.Print.{accent_text, attributes_text, boxing_text, form_text, if_so, size_text, space_text, start_tag, stretch_text, style_text};
-ghost use Rattle.latex2mathml_attributes.specs.Names.{attributes_if_any, attributes_of, boxing_in, form_of, math_style_of, padding_of, side_of, size_of, space_of, stretch_of};
+ghost use Rattle.latex2mathml_attributes.specs.Names.{attributes_if_any, attributes_of, boxing_in, form_of, math_style_of, box_style_of, side_of, size_of, space_of, stretch_of};
 
 use crate::extent::append_length;
 use std::alloc::AllocError;
@@ -67,13 +67,15 @@ pub enum MathStyle {
     Script,
 }
 
-/// Space at both sides of what is in an element.
+/// A change to the box of an element that MathML has no attribute for.
 #[derive(Debug, Clone, Copy)]
-pub enum Padding {
-    /// That of TeX's null delimiters, which are at the sides of a fraction.
+pub enum BoxStyle {
+    /// The space of TeX's null delimiters is at the sides of a fraction.
     NullDelimiters,
-    /// That by which an arrow is longer than its label.
+    /// The space by which an arrow is longer than its label is at the sides of the label.
     ArrowLabel,
+    /// A sign that stretches is drawn where it goes beyond its box, too.
+    Unclipped,
 }
 
 /// The attributes of an element. Where one is missing, the browser decides.
@@ -98,8 +100,8 @@ pub struct Attributes {
     pub no_line: bool,
     /// The style of what is in it, whatever the style around it is.
     pub style: Option<MathStyle>,
-    pub padding: Option<Padding>,
-    /// How wide it is at most, in thousandths of an em, if it has no padding.
+    pub box_style: Option<BoxStyle>,
+    /// How wide it is at most, in thousandths of an em, if its box has no other style.
     pub room: Option<u16>,
 }
 
@@ -121,7 +123,7 @@ impl Attributes {
             accent: None,
             no_line: false,
             style: None,
-            padding: None,
+            box_style: None,
             room: None,
         }
     }
@@ -165,7 +167,7 @@ impl Attributes {
                 accent: None,
                 no_line: false,
                 style: None,
-                padding: None,
+                box_style: None,
                 room: None,
             } => None,
             attributes => Some(attributes),
@@ -192,7 +194,7 @@ impl Attributes {
                 accent: None,
                 no_line: false,
                 style: None,
-                padding: None,
+                box_style: None,
                 room: None,
             } => usual_tag(form, stretch, space),
             _ => None,
@@ -216,7 +218,7 @@ impl Attributes {
         append_some(accent_text(self.accent), out)?;
         append_some(text_if(self.no_line, " linethickness=\"0\""), out)?;
         append_some(style_text(self.style), out)?;
-        append_boxing(self.padding, self.room, out)?;
+        append_boxing(self.box_style, self.room, out)?;
         Ok(())
     }
 }
@@ -268,17 +270,18 @@ fn append_some(text: &'static str, out: &mut String) -> Result<(), AllocError>
     out.push_str(text)
 }
 
-/// Appends the attribute for an element with padding, or that is at most this many thousandths of an em wide, if it is one.
+/// Appends the attribute for an element whose box has this style, or that is at most this many thousandths of an em wide, if it is
+/// one.
 fn append_boxing(
-    padding: Option<Padding>,
+    box_style: Option<BoxStyle>,
     room: Option<u16>,
     out: &mut String,
 ) -> Result<(), AllocError>
     ensures { OnOk result (string_bytes out.new
-        ≡ string_bytes out.old ++ boxing_text (boxing_in padding room)) }
+        ≡ string_bytes out.old ++ boxing_text (boxing_in box_style room)) }
 {
-    match padding {
-        Some(padding) => out.push_str(padding_text(padding)),
+    match box_style {
+        Some(box_style) => out.push_str(box_style_text(box_style)),
         None => append_room(room, out),
     }
 }
@@ -294,12 +297,13 @@ fn append_room(room: Option<u16>, out: &mut String) -> Result<(), AllocError>
     Ok(())
 }
 
-fn padding_text(padding: Padding) -> &'static str
-    ensures { result.now ≡ boxing_text (Some (padding_of padding)) }
+fn box_style_text(box_style: BoxStyle) -> &'static str
+    ensures { result.now ≡ boxing_text (Some (box_style_of box_style)) }
 {
-    match padding {
-        Padding::NullDelimiters => " style=\"padding: 0 calc(0.12em - 1px)\"",
-        Padding::ArrowLabel => " style=\"padding: 0 0.389em\"",
+    match box_style {
+        BoxStyle::NullDelimiters => " style=\"padding: 0 calc(0.12em - 1px)\"",
+        BoxStyle::ArrowLabel => " style=\"padding: 0 0.389em\"",
+        BoxStyle::Unclipped => " style=\"box-shadow: 0 0 0 50em transparent\"",
     }
 }
 

@@ -67,6 +67,8 @@ pub data Boxing : Type 0 where
   NullDelimiters : Boxing
   -- it is the label of an arrow, with the space by which the arrow is longer at both sides
   ArrowLabel : Boxing
+  -- a sign that stretches is drawn where it goes beyond its box, too
+  Unclipped : Boxing
   -- a table in which the lines of all cells of a row are one line
   JoinedLines : Boxing
   -- it is at most this wide, in thousandths of an em

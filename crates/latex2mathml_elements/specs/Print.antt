@@ -1,6 +1,6 @@
 -- How elements are written.
 use Rattle.std.specs.Prelude.{ℕ, Bool, true, false, ◌||◌, List, [], ◌++◌, Option, Some, None, codes}
-use Rattle.latex2mathml_elements.specs.Attributes.{Attributes, Side, Above, Below, Form, Prefix, Infix, Postfix, Stretch, Stretching, Rigid, Space, NoSpace, Narrow, Medium, Thick, NoSpaceBefore, ThinAfter, ThickAfter, Size, Big, Bigger, VeryBig, Biggest, MathStyle, DisplayStyle, TextStyle, ScriptStyle, Boxing, NoWidth, Flat, NoHeight, NoDepth, ByItsWidth, ByHalfItsWidth, Framed, StruckUp, StruckDown, StruckTwice, NullDelimiters, ArrowLabel, JoinedLines, AtMost}
+use Rattle.latex2mathml_elements.specs.Attributes.{Attributes, Side, Above, Below, Form, Prefix, Infix, Postfix, Stretch, Stretching, Rigid, Space, NoSpace, Narrow, Medium, Thick, NoSpaceBefore, ThinAfter, ThickAfter, Size, Big, Bigger, VeryBig, Biggest, MathStyle, DisplayStyle, TextStyle, ScriptStyle, Boxing, NoWidth, Flat, NoHeight, NoDepth, ByItsWidth, ByHalfItsWidth, Framed, StruckUp, StruckDown, StruckTwice, NullDelimiters, ArrowLabel, Unclipped, JoinedLines, AtMost}
 use Rattle.latex2mathml_elements.specs.Columns.{Alignment, LeftAligned, RightAligned, Continued, Density, Dense, Opened, Spacing, Unspaced, SpaceBefore, SpaceAround, Column}
 use Rattle.latex2mathml_elements.specs.Element.{Token, Mi, Mn, Mo, Mtext, Container, Mrow, Msqrt, Mstyle, Mpadded, Mphantom, Pair, Mfrac, Mroot, Msub, Msup, Munder, Mover, Triple, Msubsup, Munderover, Element, Elements, Rows, Cells, token, space, rectangle, container, pair, triple, table, none, more, one_row, more_rows, one_cell, more_cells}
 use Rattle.latex2mathml_elements.specs.Lines.{Line, NoLine, OneLine, TwoLines, Dashes, RowLines, is_lined}
@@ -100,8 +100,8 @@ abbrev pub line_down : List ℕ
 line_down = codes "linear-gradient(to top right, transparent calc(50% - 0.04em), currentcolor, transparent calc(50% + 0.04em))"
 
 -- What MathML Core has no attribute for is written in the language of style sheets. A null delimiter is 0.12 em wide, and browsers
--- leave a pixel of that at the sides of a fraction themselves. An arrow is longer than its label by 7mu at both sides. What is wider
--- than its box is in the middle of it.
+-- leave a pixel of that at the sides of a fraction themselves. An arrow is longer than its label by 7mu at both sides. Some browsers
+-- draw what goes beyond a box only as far as the shadow of the box. What is wider than its box is in the middle of it.
 abbrev pub boxing_text : Option Boxing → List ℕ
 boxing_text None = []
 boxing_text (Some NoWidth) = codes " width=\"0\""
@@ -116,6 +116,7 @@ boxing_text (Some StruckDown) = codes " style=\"background: " ++ (line_down ++ c
 boxing_text (Some StruckTwice) = codes " style=\"background: " ++ (line_up ++ (codes ", " ++ (line_down ++ codes "\"")))
 boxing_text (Some NullDelimiters) = codes " style=\"padding: 0 calc(0.12em - 1px)\""
 boxing_text (Some ArrowLabel) = codes " style=\"padding: 0 0.389em\""
+boxing_text (Some Unclipped) = codes " style=\"box-shadow: 0 0 0 50em transparent\""
 boxing_text (Some JoinedLines) = codes " style=\"border-collapse: collapse\""
 boxing_text (Some (AtMost width)) = codes " style=\"max-width: " ++ (thousandths_text width ++ codes "em\"")
 

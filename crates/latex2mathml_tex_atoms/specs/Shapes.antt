@@ -29,7 +29,7 @@ widths_with w = record { big = w.big; bigger = w.bigger; very_big = w.very_big; 
 
 -- a mark that stretches or does not
 abbrev pub mark_element : ℕ → Stretch → Element
-mark_element mark stretch = token Mo (record plain { stretch = Some stretch }) (encode_utf8_all (mark ∷ []))
+mark_element mark stretch = token Mo (Makes.mark_attributes stretch) (encode_utf8_all (mark ∷ []))
 
 -- an element within another, if there is one
 abbrev pub within_any : Option Around → Element → Element

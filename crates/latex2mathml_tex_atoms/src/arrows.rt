@@ -6,8 +6,8 @@ ghost use Rattle.latex2mathml_tex_grammar.specs.Makes;
 ghost use Rattle.latex2mathml_tex_grammar.specs.Rows;
 ghost use Rattle.latex2mathml_tex_atoms.specs.{Models.top, Shapes.ReplacesTop};
 
-use crate::shapes::put_row;
-use latex2mathml_attributes::attributes::{Attributes, Padding, Stretch};
+use crate::shapes::{mark_attributes, put_row};
+use latex2mathml_attributes::attributes::{Attributes, BoxStyle, Stretch};
 use latex2mathml_attributes::tag::{Container, Pair, Token, Triple};
 use latex2mathml_builder::builder::Builder;
 use std::alloc::AllocError;
@@ -16,11 +16,7 @@ use std::alloc::AllocError;
 pub fn put_arrow(builder: &mut Builder, sign: char) -> Result<(), AllocError>
     ensures { OnOk result (Puts (Makes.arrow_sign sign) builder.old builder.new) }
 {
-    let attributes = Attributes {
-        stretch: Some(Stretch::Stretching),
-        ..Attributes::plain()
-    };
-    builder.character(Token::Mo, attributes, sign)
+    builder.character(Token::Mo, mark_attributes(Stretch::Stretching), sign)
 }
 
 /// Makes the top element the label of an arrow.
@@ -29,7 +25,7 @@ fn put_label(builder: &mut Builder) -> Result<(), AllocError>
     ensures { OnOk result (ReplacesTop Makes.arrow_label builder.old builder.new) }
 {
     let attributes = Attributes {
-        padding: Some(Padding::ArrowLabel),
+        box_style: Some(BoxStyle::ArrowLabel),
         ..Attributes::plain()
     };
     builder.container(Container::Mrow, attributes, 1)

@@ -213,7 +213,7 @@ fn lower_divider(builder: &mut Builder, depth: usize)
             depth,
             Attributes {
                 stretch: Some(Stretch::Rigid),
-                padding: None,
+                box_style: None,
                 room: None,
                 ..attributes
             },

@@ -8,7 +8,7 @@ ghost use Rattle.latex2mathml_tex_commands.specs.{Delimiters.delimiter_text, Mea
 ghost use Rattle.latex2mathml_tex_atoms.specs.{Models.top, Shapes.ReplacesTop};
 
 use crate::delimiters::{Height, enclose};
-use latex2mathml_attributes::attributes::{Attributes, Padding, Space};
+use latex2mathml_attributes::attributes::{Attributes, BoxStyle, Space};
 use latex2mathml_attributes::tag::{Container, Pair, Token};
 use latex2mathml_builder::builder::Builder;
 use latex2mathml_tex_commands::meaning::{FractionRule, Style};
@@ -98,7 +98,7 @@ pub(crate) fn put_null_delimiters(builder: &mut Builder) -> Result<(), AllocErro
     };
     builder.token(Token::Mo, empty)?;
     let attributes = Attributes {
-        padding: Some(Padding::NullDelimiters),
+        box_style: Some(BoxStyle::NullDelimiters),
         ..Attributes::plain()
     };
     builder.container(Container::Mrow, attributes, 2)

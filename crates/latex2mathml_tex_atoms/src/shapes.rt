@@ -14,7 +14,7 @@ ghost use Rattle.latex2mathml_tex_atoms.specs.Shapes.{ChangesAt, ReplacesTop, ma
 
 use crate::atoms::{Before, Core, Joining, Kind, Row, class_after};
 use crate::signs::{adapt, remove_space};
-use latex2mathml_attributes::attributes::{Attributes, Form, Side, Space, Stretch};
+use latex2mathml_attributes::attributes::{Attributes, BoxStyle, Form, Side, Space, Stretch};
 use latex2mathml_attributes::tag::{Container, Pair, Token};
 use latex2mathml_builder::builder::Builder;
 use latex2mathml_tex_commands::meaning::{Class, Style};
@@ -376,15 +376,23 @@ fn put_mark(
         (λ x. Makes.on_side (side_of side) (attributes_of attributes) x
         (mark_element mark (stretch_of stretch))) builder.old builder.new) }
 {
-    builder.character(
-        Token::Mo,
-        Attributes {
-            stretch: Some(stretch),
-            ..Attributes::plain()
-        },
-        mark,
-    )?;
+    builder.character(Token::Mo, mark_attributes(stretch), mark)?;
     builder.pair(pair_on(side), attributes, false)
+}
+
+/// Returns the attributes of a mark.
+pub(crate) fn mark_attributes(stretch: Stretch) -> Attributes
+    ensures { attributes_of result ≡ Makes.mark_attributes (stretch_of stretch) }
+{
+    let box_style = match stretch {
+        Stretch::Stretching => Some(BoxStyle::Unclipped),
+        Stretch::Rigid => None,
+    };
+    Attributes {
+        stretch: Some(stretch),
+        box_style,
+        ..Attributes::plain()
+    }
 }
 
 /// Makes the element below the top one a mark on the top one.

@@ -1,7 +1,7 @@
 -- The atoms of each construct.
 use Rattle.std.specs.Prelude.{ℕ, zero, suc, ◌==◌, ◌||◌, ℤ, pos, Bool, true, false, List, [], ◌∷◌, ◌++◌, map, Option, Some, None, codes, if◌then◌else◌}
 use Rattle.std.specs.{Char.encode_utf8, Option.is_some, Str.encode_utf8_all}
-use Rattle.latex2mathml_elements.specs.Attributes.{Attributes, Side, Above, Below, Stretch, Stretching, Rigid, Space, NoSpace, Narrow, Medium, Thick, ThinAfter, Size, Bigger, Boxing, NoWidth, Flat, NoHeight, NoDepth, ByItsWidth, ByHalfItsWidth, Framed, StruckUp, StruckDown, StruckTwice, NullDelimiters, ArrowLabel, boxed, MathStyle, DisplayStyle, TextStyle, ScriptStyle, plain}
+use Rattle.latex2mathml_elements.specs.Attributes.{Attributes, Side, Above, Below, Stretch, Stretching, Rigid, Space, NoSpace, Narrow, Medium, Thick, ThinAfter, Size, Bigger, Boxing, NoWidth, Flat, NoHeight, NoDepth, ByItsWidth, ByHalfItsWidth, Framed, StruckUp, StruckDown, StruckTwice, NullDelimiters, ArrowLabel, Unclipped, boxed, MathStyle, DisplayStyle, TextStyle, ScriptStyle, plain}
 use Rattle.latex2mathml_elements.specs.Element.{Mi, Mn, Mo, Mrow, Msqrt, Mstyle, Mpadded, Mphantom, Mfrac, Mroot, Msub, Msup, Munder, Mover, Msubsup, Munderover, Element, token, space, rectangle, container, pair, triple, children}
 use Rattle.latex2mathml_tex_grammar.specs.{Alphabets.in_alphabet, Rows.Row, Rows.Operand, Rows.lone, Rows.row_element}
 use Rattle.latex2mathml_elements.specs.{Extents.wide, Groups.grouped}
@@ -220,15 +220,21 @@ abbrev pub on_side : Side → Attributes → Element → Element → Element
 on_side Above a base mark = pair Mover a base mark
 on_side Below a base mark = pair Munder a base mark
 
+-- the attributes of a mark. Chromium takes one that stretches for as narrow as its character, and draws no more of it without a
+-- shadow.
+abbrev pub mark_attributes : Stretch → Attributes
+mark_attributes Stretching = record plain { stretch = Some Stretching; boxing = Some Unclipped }
+mark_attributes Rigid = record plain { stretch = Some Rigid }
+
 -- an element with an accent above or below it
 abbrev pub accent : Side → ℕ → Stretch → Element → Core
 accent side mark width x =
-    core (atom (Plain Ordinary) true (on_side side (record plain { accent = Some side }) x (token Mo (record plain { stretch = Some width }) (text mark))))
+    core (atom (Plain Ordinary) true (on_side side (record plain { accent = Some side }) x (token Mo (mark_attributes width) (text mark))))
 
 -- an element with a brace above or below it is an operator; its scripts are the labels of the brace
 abbrev pub brace : Side → ℕ → Element → Core
 brace side mark x =
-    operator Stacked (atom (Unspaced Operator) true (on_side side plain x (token Mo (record plain { stretch = Some Stretching }) (text mark))))
+    operator Stacked (atom (Unspaced Operator) true (on_side side plain x (token Mo (mark_attributes Stretching) (text mark))))
 
 -- What a relation with something above it is to its neighbours, whose base is of this class. It has the space of its base, and what
 -- is ordinary has none.
@@ -242,7 +248,7 @@ stack side kind mark base = core (atom kind true (on_side side plain base mark))
 
 -- an arrow as long as the longer of its labels
 abbrev pub arrow_sign : ℕ → Element
-arrow_sign sign_character = token Mo (record plain { stretch = Some Stretching }) (text sign_character)
+arrow_sign sign_character = token Mo (mark_attributes Stretching) (text sign_character)
 
 -- the label of an arrow, with the space by which the arrow is longer at both sides
 abbrev pub arrow_label : Element → Element
