@@ -34,8 +34,10 @@ CONVERTED = {
     "a converter that is to refuse": ("x", r"\frac{x_i}{y \foo}", b"answer: " + X, b"refusal: unknown command \\foo at 13"),
 }
 
-# How often a converter that has done the same before asks for memory: only for its answer, whose room grows.
-FOR_THE_ANSWER = 4
+# How often a converter that has done the same before asks for memory: only for its answer, whose room begins with the first tag, and
+# doubles.
+ANSWER = OF_TEX.removeprefix(b"answer: ")
+FOR_THE_ANSWER = 1 + ((len(ANSWER) - 1) // (ANSWER.index(b">") + 1)).bit_length()
 
 # an argument of the program, its input, and its status and streams
 RUNS = {**cases.runs(), "each rule": ("block", RULES.encode(), 0, math(OF_RULES, "block") + b"\n", b""),

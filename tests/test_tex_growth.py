@@ -82,13 +82,13 @@ class Instructions(Growth):
 
     def test_rows_of_a_whole_text(self):
         """What is outside of tables is read as atoms up to its first `&` or `\\\\`, and then as rows: all of it at most twice."""
-        for text in ("x+" * 8_000 + "&", "x&" + "x&x\\\\" * 4_000, "\\frac12" * 4_000 + "\\\\x"):
-            given = [text.encode(), b"\\begin{aligned}" + text.encode() + b"\\end{aligned}"]
+        for name, text in (("aligned", "x+" * 8_000 + "&"), ("aligned", "x&" + "x&x\\\\" * 4_000), ("gathered", "\\frac12" * 4_000 + "\\\\x")):
+            given = [text.encode(), f"\\begin{{{name}}}{text}\\end{{{name}}}".encode()]
             answers = [support.run([support.tex_program()], stdin=it) for it in given]
             self.is_answered(answers[0])
             self.expect(answers[1], stdout=answers[0].stdout)
-            alone, in_aligned = (instructions([support.tex_program()], stdin=it) for it in given)
-            self.assertLessEqual(alone, 2 * in_aligned)
+            alone, in_table = (instructions([support.tex_program()], stdin=it) for it in given)
+            self.assertLessEqual(alone, 2 * in_table)
 
     def test_many_formulas(self):
         """So do four times the formulas."""
