@@ -3,7 +3,7 @@ use Rattle.std.proofs.Common.{◌≡◌, ◌∙◌, ℕ, ◌+◌, false, ◌∷�
 use Rattle.std.proofs.lemmas.List.{drop-drop, length-drop}
 use Rattle.latex2mathml_elements.specs.Element.{Element}
 use Rattle.latex2mathml_builder.specs.Built.{Built, elements_in}
-use Rattle.latex2mathml_tex_grammar.specs.{Atoms.Plain, Atoms.atom, Makes.arrow_label, Makes.core, Makes.root, Rows.lone, Rows.row_element, Symbols.Ordinary}
+use Rattle.latex2mathml_tex_grammar.specs.{Makes.arrow_label, Makes.core, Makes.ordinary, Makes.root, Rows.lone, Rows.row_element}
 use Rattle.latex2mathml_tex_grammar.specs.{Rules.gives, Symbols.InScript}
 use Rattle.latex2mathml_tex_grammar.specs.Rules as rules
 use Rattle.latex2mathml_tex.specs.{Frames.Start, Frames.context_at, Frames.labeled_arrow, Innermost.frame_context, Levels.Leads}
@@ -50,8 +50,8 @@ module _ (s : Start) (p : Parser) (b : Built) (place : ℕ) (row : CodeRow) wher
   abbrev pub group : Element
   group = row_element (lone (kind_of row.last) (take row.count (elements_of p)))
 
-  pub group_closed : elements_in b ≡ group ∷ drop row.count (elements_of p) → (c : CodeCore) → ((x : Element) → core_with c x ≡ core (atom (Plain Ordinary) row.high x)) → ClosesRow ending.Group place row s p → Holds s (record p { builder = b }) (state.Core c)
-  group_closed one c is g = record { style = g.style; claims = rw (one, is group) (rw none_beside at (given g.leads)) }
+  pub group_closed : elements_in b ≡ group ∷ drop row.count (elements_of p) → (c : CodeCore) → core_with c group ≡ core (ordinary row.high group) → ClosesRow ending.Group place row s p → Holds s (record p { builder = b }) (state.Core c)
+  group_closed one c is g = record { style = g.style; claims = rw (one, is) (rw none_beside at (given g.leads)) }
 
   pub formula_closed : elements_in b ≡ group ∷ drop row.count (elements_of p) → (n : ℕ) → ClosesRow (ending.Formula n) place row s p → Holds s (record p { builder = b }) (state.Words (record { count = n + 1; ends_in_text = false; accent = None }))
   formula_closed one n g =

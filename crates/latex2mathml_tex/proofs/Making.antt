@@ -59,17 +59,6 @@ two_exchanged [] h = absurd (omega (arith, h))
 two_exchanged (x ∷ []) h = absurd (omega (arith, h))
 two_exchanged (x ∷ y ∷ xs) h = refl
 
-pub two_ordered : (xs : List Element) → 2 ≤ length xs → ordered false (reverse (take 2 xs)) ≡ top (drop 1 xs) ∷ top xs ∷ []
-two_ordered [] h = absurd (omega (arith, h))
-two_ordered (x ∷ []) h = absurd (omega (arith, h))
-two_ordered (x ∷ y ∷ xs) h = refl
-
-pub three_reversed : (xs : List Element) → 3 ≤ length xs → reverse (take 3 xs) ≡ top (drop 1 (drop 1 xs)) ∷ top (drop 1 xs) ∷ top xs ∷ []
-three_reversed [] h = absurd (omega (arith, h))
-three_reversed (x ∷ []) h = absurd (omega (arith, h))
-three_reversed (x ∷ y ∷ []) h = absurd (omega (arith, h))
-three_reversed (x ∷ y ∷ z ∷ xs) h = refl
-
 -- An atom in place of the uppermost elements
 
 module _ (p : Parser) (last : Last) (operand : CodeOperand) where

@@ -31,7 +31,7 @@ use std::alloc::{AllocError, Global};
 ///
 /// White space between the parts of a formula has no effect, except in words such as those of `\text`.
 ///
-/// A formula with `&` or `\\` outside of all tables is read as if it were in `aligned`.
+/// A formula with `&` or `\\` outside of all tables is read as if it were in `aligned`, or in `gathered` if it has no such `&`.
 ///
 /// An answer is one `math` element with the children that MathML allows. It contains no character that XML forbids and no
 /// dollar sign.

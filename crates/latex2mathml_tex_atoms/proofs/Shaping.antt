@@ -15,7 +15,7 @@ use Rattle.latex2mathml_tex_grammar.specs.Meaning
 use Rattle.latex2mathml_tex_grammar.specs.Rows
 use Rattle.latex2mathml_tex_grammar.specs.Symbols.{Class, Ordinary, Style}
 use Rattle.latex2mathml_tex_commands.specs.Meanings.{class_of}
-use Rattle.latex2mathml_tex_atoms.specs.Models.{is_relation, kind_of, top}
+use Rattle.latex2mathml_tex_atoms.specs.Models.{is_relation, is_upright, kind_of, top}
 use Rattle.latex2mathml_tex_atoms.specs.Shapes.{changed_at, mapped_first}
 use Rattle.latex2mathml_tex_atoms.specs.declared.atoms.Kind.{Kind as CodeKind}
 use Rattle.latex2mathml_tex_atoms.specs.declared.atoms.Kind.TheVariants as code_kind
@@ -178,11 +178,16 @@ pub gap_there : (style : Style) (before : Before) (kind : CodeKind) → (kind �
 gap_there style before code_kind.Blank h = absurd (h refl)
 gap_there style before kind h = refl
 
--- an atom that joins nothing: no letter of a word, and no relation behind another
-pub apart_there : (last kind : CodeKind) → (kind ≡ code_kind.UprightLetters → ⊥) → (is_relation kind ≡ true → is_relation last ≡ true → ⊥) → Rows.joining (kind_of last) (kind_of kind) ≡ Rows.Apart
-apart_there code_kind.UprightLetters code_kind.UprightLetters word two = absurd (word refl)
-apart_there (code_kind.SignOf code_class.Relation) (code_kind.SignOf code_class.Relation) word two = absurd (two refl refl)
-apart_there last kind word two = refl
+-- an atom that is no upright letter, no relation behind another, and nothing ordinary behind an upright letter
+pub apart_there : (last kind : CodeKind) → (kind ≡ code_kind.UprightLetters → ⊥) → (kind ≡ code_kind.UprightIdentifier → ⊥) → (kind ≡ code_kind.SignOf code_class.Relation → is_relation last ≡ true → ⊥) → (kind ≡ code_kind.Plain code_class.Ordinary → is_upright last ≡ true → ⊥) → Rows.joining (kind_of last) (kind_of kind) ≡ Rows.Apart
+apart_there last code_kind.UprightLetters word letter two near = absurd (word refl)
+apart_there last code_kind.UprightIdentifier word letter two near = absurd (letter refl)
+apart_there (code_kind.SignOf code_class.Relation) (code_kind.SignOf code_class.Relation) word letter two near = absurd (two refl refl)
+apart_there code_kind.UprightLetters (code_kind.Plain code_class.Ordinary) word letter two near = absurd (near refl refl)
+apart_there code_kind.UprightIdentifier (code_kind.Plain code_class.Ordinary) word letter two near = absurd (near refl refl)
+apart_there (code_kind.Plain code_class.Ordinary) kind word letter two near = refl
+apart_there (code_kind.SignOf code_class.Relation) kind word letter two near = refl
+apart_there last kind word letter two near = refl
 
 -- The first elements changed, one after the other
 
@@ -245,6 +250,7 @@ length_parted x (y ∷ xs) = refl
 pub put_high : (joining : Rows.Joining) (style : Style) (before : Before) (kind : Kind) (high : Bool) (x : Element) (xs : List Element) → Rows.put joining style before (Atoms.atom kind false x) xs ≡ Rows.put joining style before (Atoms.atom kind high x) xs
 put_high Rows.ToWord style before kind high x xs = refl
 put_high Rows.ToRelations style before kind high x xs = refl
+put_high Rows.Separated style before kind high x xs = refl
 put_high Rows.Apart style before kind high x xs = refl
 
 -- an atom is the first of a row that has none
@@ -253,6 +259,11 @@ begins_row n [] enough = absurd (omega arith)
 begins_row zero (x ∷ xs) enough = refl
 begins_row (suc n) (x ∷ []) enough = absurd (omega arith)
 begins_row (suc n) (x ∷ y ∷ xs) enough = sym (eqb-suc-zero n)
+
+-- an atom that an empty space separates from the row
+pub put_separated : (n : ℕ) (xs : List Element) → suc n ≤ length xs → take (suc (suc n)) (take 1 xs ++ (space (pos 0) ∷ drop 1 xs)) ≡ top xs ∷ space (pos 0) ∷ take n (drop 1 xs)
+put_separated n [] enough = absurd (omega arith)
+put_separated n (x ∷ xs) enough = refl
 
 -- an atom that no space separates from the row
 pub put_adapted : (n : ℕ) (style : Style) (before : Before) (kind : Kind) (xs : List Element) → suc n ≤ length xs → Atoms.gap style before kind ≡ pos 0 → take (suc n) (changed_at (Atoms.element_there style (n == 0) before kind) 0 xs) ≡ Rows.put Rows.Apart style before (Atoms.atom kind false (top xs)) (take n (drop 1 xs))

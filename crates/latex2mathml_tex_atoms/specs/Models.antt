@@ -27,6 +27,7 @@ kind_of (kind.SignOf class) = atoms.SignOf (class_of class)
 kind_of kind.PlusOrMinus = atoms.PlusOrMinus
 kind_of (kind.Plain class) = atoms.Plain (class_of class)
 kind_of kind.UprightLetters = atoms.UprightLetters
+kind_of kind.UprightIdentifier = atoms.UprightIdentifier
 kind_of (kind.Unspaced class) = atoms.Unspaced (class_of class)
 kind_of kind.Divider = atoms.Divider
 kind_of kind.Blank = atoms.Blank
@@ -36,9 +37,16 @@ abbrev pub is_relation : Kind → Bool
 is_relation (kind.SignOf class.Relation) = true
 is_relation k = false
 
+-- whether an atom is an upright letter
+abbrev pub is_upright : Kind → Bool
+is_upright kind.UprightLetters = true
+is_upright kind.UprightIdentifier = true
+is_upright k = false
+
 abbrev pub joining_of : Joining → rows.Joining
 joining_of joining.ToWord = rows.ToWord
 joining_of joining.ToRelations = rows.ToRelations
+joining_of joining.Separated = rows.Separated
 joining_of joining.Apart = rows.Apart
 
 abbrev pub before_of : Before → atoms.Before

@@ -1,11 +1,11 @@
 //! Atoms and rows, and what an atom is to its neighbours.
-ghost use Rattle.std.specs.Prelude.{◌≡◌, ◌+◌, ◌≤◌, false, IsTrue, List, drop, length, take};
+ghost use Rattle.std.specs.Prelude.{◌≡◌, ◌≢◌, ◌+◌, ◌≤◌, false, IsTrue, List, drop, length, take};
 ghost use Rattle.latex2mathml_elements.specs.Element.{Element};
 ghost use Rattle.latex2mathml_tex_grammar.specs.Atoms;
 ghost use Rattle.latex2mathml_tex_grammar.specs.Makes;
 ghost use Rattle.latex2mathml_tex_grammar.specs.Rows;
 ghost use Rattle.latex2mathml_tex_commands.specs.Meanings.{class_of, limit_place_of, style_of};
-ghost use Rattle.latex2mathml_tex_atoms.specs.Models.{IsFinished, begun, has_script, empty_row, before_of, is_relation, joining_of, kind_of, script_count};
+ghost use Rattle.latex2mathml_tex_atoms.specs.Models.{IsFinished, begun, has_script, empty_row, before_of, is_relation, is_upright, joining_of, kind_of, script_count};
 ghost use Rattle.latex2mathml_tex_atoms.specs.Adding.{IsAdded};
 
 use crate::signs::is_put_as_it_is;
@@ -40,6 +40,8 @@ pub enum Kind {
     Plain(Class),
     /// An upright letter, which forms one word with those next to it.
     UprightLetters,
+    /// Any other upright letter: one that is upright by itself, in braces, or with scripts.
+    UprightIdentifier,
     /// An element of this class that has no space of its own, such as the name of a function.
     Unspaced(Class),
     /// A delimiter within others.
@@ -55,6 +57,8 @@ pub enum Joining {
     ToWord,
     /// A relation joins relations: TeX leaves no space between them.
     ToRelations,
+    /// An empty space is between an upright letter and what else is ordinary.
+    Separated,
     Apart,
 }
 
@@ -66,6 +70,10 @@ impl Kind {
         match (last, self) {
             (Kind::UprightLetters, Kind::UprightLetters) => Joining::ToWord,
             (Kind::SignOf(Class::Relation), Kind::SignOf(Class::Relation)) => Joining::ToRelations,
+            (Kind::UprightLetters | Kind::UprightIdentifier, Kind::Plain(Class::Ordinary))
+            | (Kind::Plain(Class::Ordinary), Kind::UprightLetters | Kind::UprightIdentifier) => {
+                Joining::Separated
+            }
             _ => Joining::Apart,
         }
     }
@@ -76,6 +84,27 @@ impl Kind {
         ensures { result ≡ is_relation self }
     {
         matches!(self, Kind::SignOf(Class::Relation))
+    }
+
+    /// Whether the atom is an upright letter.
+    #[inline(always)]
+    fn is_upright(self) -> bool
+        ensures { result ≡ is_upright self }
+    {
+        matches!(self, Kind::UprightLetters | Kind::UprightIdentifier)
+    }
+
+    /// Whether the atom, which is no upright letter, is apart from an atom of the kind `last` directly before it.
+    #[inline(always)]
+    fn is_apart(self, last: Kind) -> bool
+        ensures { IsTrue result → self ≢ Kind.UprightLetters → self ≢ Kind.UprightIdentifier
+            → Rows.joining (kind_of last) (kind_of self) ≡ Rows.Apart }
+    {
+        match self {
+            Kind::SignOf(Class::Relation) => !last.is_relation(),
+            Kind::Plain(Class::Ordinary) => !last.is_upright(),
+            _ => true,
+        }
     }
 
     /// Whether the element of the atom loses its space where nothing is next to it.
@@ -120,7 +149,7 @@ impl Kind {
         ensures { kind_of result ≡ Makes.no_letters (kind_of self) }
     {
         match self {
-            Kind::UprightLetters => Kind::Plain(Class::Ordinary),
+            Kind::UprightLetters => Kind::UprightIdentifier,
             kind => kind,
         }
     }
@@ -202,7 +231,7 @@ impl Before {
             Kind::SignOf(class) => Before::After(self.class_there(class)),
             Kind::PlusOrMinus => Before::After(self.class_there(Class::Binary)),
             Kind::Plain(class) => Before::After(self.class_there(class)),
-            Kind::UprightLetters => Before::After(Class::Ordinary),
+            Kind::UprightLetters | Kind::UprightIdentifier => Before::After(Class::Ordinary),
             Kind::Unspaced(class) => Before::AfterUnspaced(self.class_there(class)),
             Kind::Divider => Before::After(Class::Opening),
             Kind::Blank => self,
@@ -330,8 +359,7 @@ impl Row {
         ensures added { IsTrue result → IsAdded style core self.old self.new }
         ensures unchanged { result ≡ false → self.new ≡ self.old }
     {
-        // Only here is the last atom read, so that other atoms need no register for it.
-        if core.kind.is_relation() && self.last.is_relation() {
+        if !core.kind.is_apart(self.last) {
             return false;
         }
         if !is_put_as_it_is(style, self.count == 0, self.before, core.kind) {

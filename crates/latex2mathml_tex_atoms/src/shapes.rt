@@ -1,6 +1,6 @@
 //! The elements of atoms, rows and constructs, as the top elements of the builder.
-ghost use Rattle.std.specs.Prelude.{◌≡◌, ◌+◌, ◌≤◌, ◌&&◌, ◌∷◌, List, [], false, true, IfOk, OnOk, drop, length, option_map, take};
-ghost use Rattle.latex2mathml_elements.specs.{Attributes.plain, Element.Element, Element.pair};
+ghost use Rattle.std.specs.Prelude.{◌≡◌, ◌+◌, ◌≤◌, ◌&&◌, ◌∷◌, List, [], false, true, zero, pos, IfOk, OnOk, drop, length, option_map, take};
+ghost use Rattle.latex2mathml_elements.specs.{Attributes.plain, Element.Element, Element.pair, Element.space};
 ghost use Rattle.latex2mathml_elements.specs.Attributes as attributes;
 ghost use Rattle.latex2mathml_builder.specs.Built.{Puts, elements_in};
 ghost use Rattle.latex2mathml_attributes.specs.Names.{attributes_of, form_of, pair_of, side_of, size_of, space_of, stretch_of};
@@ -55,6 +55,16 @@ pub fn put_braced(builder: &mut Builder, count: usize, last: Kind) -> Result<(),
 {
     isolate(builder, count, last);
     put_row(builder, count)
+}
+
+/// Returns what the top element is to its neighbours as an ordinary atom.
+pub fn ordinary_kind(builder: &Builder) -> Kind
+    ensures { kind_of result ≡ Makes.ordinary_kind (top (elements_in builder.now)) }
+{
+    match builder.token_at(0) {
+        Some((Token::Mi, attributes)) if attributes.upright => Kind::UprightIdentifier,
+        _ => Kind::Plain(Class::Ordinary),
+    }
 }
 
 /// Keeps the browser from moving the limits of the operator below the top `depth` elements.
@@ -250,7 +260,7 @@ fn class_with(joining: Joining, class: Class, count: usize, kind: Kind) -> Class
 {
     match joining {
         Joining::ToWord | Joining::ToRelations => class,
-        Joining::Apart => class_after(count, kind),
+        Joining::Separated | Joining::Apart => class_after(count, kind),
     }
 }
 
@@ -277,6 +287,7 @@ fn put_adapted(
     match joining {
         Joining::ToWord => return Ok(join_word(builder, count)),
         Joining::ToRelations => return Ok(join_relations(builder, count)),
+        Joining::Separated => return separate(builder, count),
         Joining::Apart => {}
     }
     adapt(builder, 0, style, count == 0, before, kind);
@@ -289,6 +300,21 @@ fn put_adapted(
     }
     let _ = builder.len();
     Ok(count + 1)
+}
+
+/// Puts an empty space between the top element and the `count` elements below it. Returns how many elements there are then.
+fn separate(builder: &mut Builder, count: usize) -> Result<usize, AllocError>
+    requires { count + 1 ≤ length (elements_in builder.old) }
+    ensures elements { IfOk result (λ longer. take longer (elements_in builder.new)
+        ≡ top (elements_in builder.old) ∷ space (pos zero)
+        ∷ take count (drop 1 (elements_in builder.old))) }
+    ensures below { IfOk result (λ longer. drop longer (elements_in builder.new)
+        ≡ drop (count + 1) (elements_in builder.old)) }
+    ensures count { IfOk result (λ longer. longer ≤ length (elements_in builder.new)) }
+{
+    builder.space_below(0)?;
+    let _ = builder.len();
+    Ok(count + 2)
 }
 
 /// Joins the top element to the last of the `count` elements below it, if there is one and both hold a text. Returns how many

@@ -19,6 +19,7 @@ use latex2mathml_tex_commands::meaning::{Class, Style};
 #[inline(always)]
 pub(crate) fn is_put_as_it_is(style: Style, first: bool, before: Before, kind: Kind) -> bool
     ensures word { IsTrue result → kind ≢ Kind.UprightLetters }
+    ensures letter { IsTrue result → kind ≢ Kind.UprightIdentifier }
     ensures gap { IsTrue result
         → Atoms.gap (style_of style) (before_of before) (kind_of kind) ≡ pos 0 }
     ensures element { (x : Element) → IsTrue result
@@ -40,7 +41,11 @@ pub(crate) fn is_put_as_it_is(style: Style, first: bool, before: Before, kind: K
         Kind::SignOf(Class::Binary) => keeps_space(style) && !is_ordinary(first, before),
         Kind::SignOf(_) => keeps_space(style) && !before.begins_operand(),
         Kind::PlusOrMinus => keeps_space(style) && !first && !before.begins_operand(),
-        Kind::UprightLetters | Kind::Unspaced(_) | Kind::Divider | Kind::Blank => false,
+        Kind::UprightLetters
+        | Kind::UprightIdentifier
+        | Kind::Unspaced(_)
+        | Kind::Divider
+        | Kind::Blank => false,
     }
 }
 

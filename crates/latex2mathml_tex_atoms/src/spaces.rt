@@ -162,7 +162,11 @@ impl Before {
         match kind {
             Kind::SignOf(class) | Kind::Plain(class) => self.class_own_before(style, class),
             Kind::PlusOrMinus => self.class_own_before(style, Class::Binary),
-            Kind::UprightLetters | Kind::Unspaced(_) | Kind::Divider | Kind::Blank => 0,
+            Kind::UprightLetters
+            | Kind::UprightIdentifier
+            | Kind::Unspaced(_)
+            | Kind::Divider
+            | Kind::Blank => 0,
         }
     }
 

@@ -7,11 +7,11 @@ use Rattle.latex2mathml_elements.specs.Characters.{is_forbidden, IsAllowed, HasA
 use Rattle.latex2mathml_elements.specs.Element.{Mi, Mn, Mo, Mtext, Element, token, space, rectangle, container, pair, triple, table, children}
 use Rattle.latex2mathml_elements.proofs.{Characters.allowed_both, Characters.allowed_char, Characters.allowed_plain, Characters.plain_is_allowed, Plain.IsPlain, Plain.is_plain}
 use Rattle.latex2mathml_tex_grammar.specs.Alphabets.{in_alphabet}
-use Rattle.latex2mathml_tex_grammar.specs.Atoms.{Atom, Kind, SignOf, PlusOrMinus, Plain, UprightLetters, Unspaced, Blank, Divider, Before, begins_operand, is_ordinary, as_prefix, as_infix, without_space, without_space_before, led, leads_operator, leads_relation, tight, element_there, gap, lone_sign, element_as}
+use Rattle.latex2mathml_tex_grammar.specs.Atoms.{Atom, Kind, SignOf, PlusOrMinus, Plain, UprightLetters, UprightIdentifier, Unspaced, Blank, Divider, Before, begins_operand, is_ordinary, as_prefix, as_infix, without_space, without_space_before, led, leads_operator, leads_relation, tight, element_there, gap, lone_sign, element_as}
 use Rattle.latex2mathml_tex_grammar.specs.Fences.{Height, fenced, height_if}
 use Rattle.latex2mathml_tex_grammar.specs.Makes.{text, letter, upright_letter, number, symbol, struck, classed, on_side, accent, brace, stack, in_style, unfenced, quotient, fraction_element, fraction, lowered_divider, lowered, between_delimiters, spaced_as, Scripts, primes_text, prime_mark, behind_primes, superscript, are_stacked, fixed_base, with_scripts, before_base, base_there, scripted_atom, scripted}
 use Rattle.latex2mathml_tex_grammar.specs.Meaning.{FractionRule, Bar, NoBar, Braced, Bracketed, Bare, LimitPlace, Beside, ByStyle, Movable, Stacked}
-use Rattle.latex2mathml_tex_grammar.specs.Rows.{Row, Operand, Joining, ToWord, ToRelations, Apart, as_base, is_spaced, isolated, lone, is_empty, join, parted, put, row_element, single, with_atom, empty_row}
+use Rattle.latex2mathml_tex_grammar.specs.Rows.{Row, Operand, Joining, ToWord, ToRelations, Separated, Apart, as_base, is_spaced, isolated, lone, is_empty, join, parted, put, row_element, single, with_atom, empty_row}
 use Rattle.latex2mathml_tex_grammar.specs.Symbols.{Class, Ordinary, Operator, Binary, Relation, Opening, Closing, Punctuation, Inner, Style, InDisplay, InText, InScript, Alphabet, Upright, Italic, Bold, BoldItalic, DoubleStruck, Fraktur, Calligraphic, SansSerif, Monospace, Symbol, Letter, UprightLetter, Sign, BigOperator, Integral}
 use Rattle.latex2mathml_tex_grammar.proofs.Allowed.{AreAllowedElements, IsAllowedElement, IsAllowedCore, IsAllowedAtom, IsAllowedOperand, IsAllowedRow, AreAllowedScripts}
 use Rattle.latex2mathml_tex_grammar.proofs.AllowedTables.{in_alphabet_allowed, is_allowed_symbol, not_forbidden}
@@ -138,6 +138,7 @@ element_there_allowed style first before PlusOrMinus x h =
 element_there_allowed style first before (Plain Operator) x h = led_allowed (leads_operator before) x h
 element_there_allowed style first before (Plain class) x h = h
 element_there_allowed style first before UprightLetters x h = h
+element_there_allowed style first before UprightIdentifier x h = h
 element_there_allowed style first before (Unspaced class) x h = h
 element_there_allowed style first before Divider x h = h
 element_there_allowed style first before Blank x h = h
@@ -166,6 +167,7 @@ join_allowed change (table a rows) xs h k = (h, k)
 put_allowed : (joining : Joining) (style : Style) (before : Before) (x : Atom) (xs : List Element) → IsAllowedAtom x → AreAllowedElements xs → AreAllowedElements (put joining style before x xs)
 put_allowed ToWord style before x xs h k = join_allowed _ x.element xs h k
 put_allowed ToRelations style before x xs h k = join_allowed _ x.element xs h k
+put_allowed Separated style before x xs h k = (h, (tt, k))
 put_allowed Apart style before x xs h k =
     (element_there_allowed style (is_empty xs) before x.kind x.element h, parted_allowed (gap style before x.kind) xs k)
 

@@ -14,6 +14,8 @@ pub data Kind : Type 0 where
   Plain : Class → Kind
   -- an upright letter, which forms one word with those next to it
   UprightLetters : Kind
+  -- any other upright letter: one that is upright by itself, in braces, or with scripts
+  UprightIdentifier : Kind
   -- an element of this class that has no space of its own, such as the name of a function
   Unspaced : Class → Kind
   -- a delimiter within others. Like an opening one, it begins what follows it.
@@ -66,6 +68,7 @@ past before (SignOf class) = After (class_there before class)
 past before PlusOrMinus = After (class_there before Binary)
 past before (Plain class) = After (class_there before class)
 past before UprightLetters = After Ordinary
+past before UprightIdentifier = After Ordinary
 past before (Unspaced class) = AfterUnspaced (class_there before class)
 past before Divider = After Opening
 past before Blank = before

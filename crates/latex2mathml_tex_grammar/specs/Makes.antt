@@ -5,7 +5,7 @@ use Rattle.latex2mathml_elements.specs.Attributes.{Attributes, Side, Above, Belo
 use Rattle.latex2mathml_elements.specs.Element.{Mi, Mn, Mo, Mrow, Msqrt, Mstyle, Mpadded, Mphantom, Mfrac, Mroot, Msub, Msup, Munder, Mover, Msubsup, Munderover, Element, token, space, rectangle, container, pair, triple, children}
 use Rattle.latex2mathml_tex_grammar.specs.{Alphabets.in_alphabet, Rows.Row, Rows.Operand, Rows.lone, Rows.row_element}
 use Rattle.latex2mathml_elements.specs.{Extents.wide, Groups.grouped}
-use Rattle.latex2mathml_tex_grammar.specs.Atoms.{Atom, Kind, SignOf, PlusOrMinus, Plain, UprightLetters, Unspaced, Blank, Divider, After, Before, Nothing, atom, element_there}
+use Rattle.latex2mathml_tex_grammar.specs.Atoms.{Atom, Kind, SignOf, PlusOrMinus, Plain, UprightLetters, UprightIdentifier, Unspaced, Blank, Divider, After, Before, Nothing, atom, element_there}
 use Rattle.latex2mathml_tex_grammar.specs.Meaning.{FractionRule, Bar, NoBar, Braced, Bracketed, Bare, LimitPlace, Beside, ByStyle, Movable, Stacked, Box, Phantom, PhantomWidth, PhantomHeight, Smashed, WithoutHeight, WithoutDepth, OverRight, OverLeft, OverBoth, Frame, StrikeUp, StrikeDown, StrikeTwice, Raised, Colored, OnColor}
 use Rattle.latex2mathml_tex_grammar.specs.Fences.{Tall, fenced, height_if, sized_delimiter}
 use Rattle.latex2mathml_tex_grammar.specs.SignAttributes.{sign_attributes}
@@ -44,7 +44,7 @@ letter None c = atom (Plain Ordinary) false (token Mi plain (text c))
 -- a letter that is upright by itself
 abbrev pub upright_letter : Option Alphabet → ℕ → Atom
 upright_letter (Some alphabet) c = letter (Some alphabet) c
-upright_letter None c = atom (Plain Ordinary) false (token Mi upright (text c))
+upright_letter None c = atom UprightIdentifier false (token Mi upright (text c))
 
 -- the digits of a number in an alphabet
 abbrev pub digits_in : Option Alphabet → List ℕ → List ℕ
@@ -99,13 +99,22 @@ struck x = None
 
 -- Groups and classes
 
+-- what an element is to its neighbours, as an ordinary atom
+abbrev pub ordinary_kind : Element → Kind
+ordinary_kind (token Mi a letter_text) = if a.upright then UprightIdentifier else Plain Ordinary
+ordinary_kind x = Plain Ordinary
+
+-- an element as an ordinary atom
+abbrev pub ordinary : Bool → Element → Atom
+ordinary high x = atom (ordinary_kind x) high x
+
 -- a row in braces as an ordinary atom
 abbrev pub braced : Row → Atom
-braced row = atom (Plain Ordinary) row.high (row_element (lone row.last row.elements))
+braced row = ordinary row.high (row_element (lone row.last row.elements))
 
 -- an operand as an ordinary atom
 abbrev pub group : Operand → Atom
-group x = atom (Plain Ordinary) x.high x.element
+group x = ordinary x.high x.element
 
 -- the space of a sign that is an atom of this class, and was of the class `own`
 abbrev pub class_space : Class → Class → Option Space → Option Space
@@ -436,7 +445,7 @@ with_scripts false base (Some below) (Some above) = triple Msubsup plain base be
 
 -- what a changed atom is to its neighbours: letters are not part of a word
 abbrev pub no_letters : Kind → Kind
-no_letters UprightLetters = Plain Ordinary
+no_letters UprightLetters = UprightIdentifier
 no_letters kind = kind
 
 -- what an atom with scripts is to its neighbours: a sign is not an `mo` of its own either

@@ -1,7 +1,7 @@
 -- Rows: the elements of atoms that are next to each other. Here the last element comes first.
 use Rattle.std.specs.Prelude.{zero, ℤ, pos, Bool, true, false, ◌||◌, List, [], ◌∷◌, ◌++◌, reverse, Option, None}
 use Rattle.latex2mathml_elements.specs.{Attributes.Attributes, Attributes.plain, Colors.Color, Element.Element, Element.Mrow, Element.token, Element.space, Element.container, Element.children}
-use Rattle.latex2mathml_tex_grammar.specs.Atoms.{Atom, Kind, SignOf, PlusOrMinus, Plain, UprightLetters, Blank, Before, Nothing, gap, past, element_there, element_as, without_space}
+use Rattle.latex2mathml_tex_grammar.specs.Atoms.{Atom, Kind, SignOf, PlusOrMinus, Plain, UprightLetters, UprightIdentifier, Blank, Before, Nothing, gap, past, element_there, element_as, without_space}
 use Rattle.latex2mathml_tex_grammar.specs.{Meaning.FractionRule}
 use Rattle.latex2mathml_tex_grammar.specs.Symbols.{Class, Ordinary, Operator, Binary, Relation, Punctuation, Style}
 
@@ -51,12 +51,19 @@ pub data Joining : Type 0 where
   -- an upright letter joins a word, and a relation joins relations: TeX leaves no space between them
   ToWord : Joining
   ToRelations : Joining
+  -- an empty space is between an upright letter and what else is ordinary: Firefox leaves a thin space between two such letters, but
+  -- none at the sides of a space
+  Separated : Joining
   Apart : Joining
 
 -- what an atom of the second kind does directly after one of the first
 abbrev pub joining : Kind → Kind → Joining
 joining UprightLetters UprightLetters = ToWord
 joining (SignOf Relation) (SignOf Relation) = ToRelations
+joining UprightLetters (Plain Ordinary) = Separated
+joining UprightIdentifier (Plain Ordinary) = Separated
+joining (Plain Ordinary) UprightLetters = Separated
+joining (Plain Ordinary) UprightIdentifier = Separated
 joining last kind = Apart
 
 -- a text joins the text before it, whose attributes change in this way
@@ -73,6 +80,7 @@ is_empty (x ∷ xs) = false
 abbrev pub put : Joining → Style → Before → Atom → List Element → List Element
 put ToWord style before x xs = join (λ a. plain) x.element xs
 put ToRelations style before x xs = join (λ a. a) x.element xs
+put Separated style before x xs = x.element ∷ space (pos zero) ∷ xs
 put Apart style before x xs = element_there style (is_empty xs) before x.kind x.element ∷ parted (gap style before x.kind) xs
 
 -- the class of one atom as a base: a binary operator and a relation stay what they are
@@ -91,8 +99,9 @@ class_after xs kind = Ordinary
 
 -- the class of a row of this class and these elements with one more atom; one that joins the last atom changes nothing
 abbrev pub class_with : Joining → Class → List Element → Kind → Class
-class_with Apart class xs kind = class_after xs kind
-class_with joining class xs kind = class
+class_with ToWord class xs kind = class
+class_with ToRelations class xs kind = class
+class_with joining class xs kind = class_after xs kind
 
 -- the row with an atom after it, in this style
 abbrev pub with_atom : Style → Row → Atom → Row

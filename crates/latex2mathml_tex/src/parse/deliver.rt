@@ -20,7 +20,7 @@ use latex2mathml_tex_atoms::boxes::put_in_box;
 use latex2mathml_tex_atoms::fractions::put_fraction;
 use latex2mathml_tex_atoms::outlines::put_outlined;
 use latex2mathml_tex_atoms::shapes::{
-    classed_kind, make_base, put_accent, put_brace, put_stack, space_sign, with_atom,
+    classed_kind, make_base, ordinary_kind, put_accent, put_brace, put_stack, space_sign, with_atom,
 };
 use latex2mathml_tex_commands::meaning::{Class, LimitPlace, Style};
 use latex2mathml_tex_units::error::TexErrorKind;
@@ -151,7 +151,7 @@ impl<'a> Parser<'a> {
     {
         match last {
             Last::Group => {
-                *next = State::Core(ordinary(operand.high));
+                *next = State::Core(Core::new(ordinary_kind(&self.builder), operand.high));
                 Ok(())
             }
             Last::SquareRoot => {

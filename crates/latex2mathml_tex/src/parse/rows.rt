@@ -19,7 +19,7 @@ use latex2mathml_tex_atoms::arrows::put_label_row;
 use latex2mathml_tex_atoms::atoms::{Context, Core, Kind, Operand, Row, Scripts, Words};
 use latex2mathml_tex_atoms::delimiters::{Height, enclose, lower_dividers, put_divider};
 use latex2mathml_tex_atoms::rests::{divide, finish, recolor, restyle};
-use latex2mathml_tex_atoms::shapes::{isolate, put_braced, put_row, with_atom};
+use latex2mathml_tex_atoms::shapes::{isolate, ordinary_kind, put_braced, put_row, with_atom};
 use latex2mathml_tex_commands::commands;
 use latex2mathml_tex_commands::meaning::{Change, Class, LimitPlace, Meaning, Style};
 use latex2mathml_tex_commands::signs::symbol_of;
@@ -367,7 +367,7 @@ impl<'a> Parser<'a> {
         match braced {
             Braced::Group => {
                 put_braced(&mut self.builder, row.count, row.last)?;
-                *next = State::Core(Core::new(Kind::Plain(Class::Ordinary), row.high));
+                *next = State::Core(Core::new(ordinary_kind(&self.builder), row.high));
                 Ok(())
             }
             Braced::Operand => {

@@ -89,8 +89,8 @@ pub(crate) fn put_upright_letter(
     match alphabet {
         Some(_) => put_letter(builder, alphabet, c),
         None => {
-            let ordinary = Core::new(Kind::Plain(Class::Ordinary), false);
-            put_character(builder, Token::Mi, Attributes::upright(), c, ordinary)
+            let letter = Core::new(Kind::UprightIdentifier, false);
+            put_character(builder, Token::Mi, Attributes::upright(), c, letter)
         }
     }
 }

@@ -1,11 +1,11 @@
 use Rattle.std.proofs.Common.{◌≡◌, ◌≤◌, ◌&&◌, ap, arith, ◌∷◌, [], drop, length, not, refl, sym, ◌∙◌}
 use Rattle.latex2mathml_elements.specs.Attributes.{plain}
-use Rattle.latex2mathml_elements.specs.Element.{Mover, Mroot, Msqrt, Munderover, children, container, pair, triple}
+use Rattle.latex2mathml_elements.specs.Element.{Mroot, Msqrt, children, container, pair}
 use Rattle.latex2mathml_builder.specs.{Built.elements_in, Stacks.group_at, Stacks.is_token, Stacks.pair_with}
 use Rattle.latex2mathml_tex_commands.specs.declared.meaning.Class.TheVariants as class
 use Rattle.latex2mathml_tex_atoms.specs.Models.{top}
 use Rattle.latex2mathml_tex.specs.Steps.{elements_of}
-use Rattle.latex2mathml_tex.proofs.Making.{base, behind_changed, behind_two_changed, choice_put, classed_put, enough, made, made_held, made_put, made_step, one_taken, ordinary, shown_core, slash_put, three_reversed, top_changed, top_first, two_exchanged, two_ordered}
+use Rattle.latex2mathml_tex.proofs.Making.{base, behind_changed, behind_two_changed, choice_put, classed_put, enough, made, made_held, made_put, made_step, one_taken, ordinary, shown_core, slash_put, top_changed, top_first, two_exchanged}
 use Rattle.latex2mathml_tex.proofs.parse.Parser.make.Goals as goal
 use Rattle.latex2mathml_tex.proofs.parse.Parser.make.Goals.{then-not-is_token, else-not-is_token}
 
@@ -15,8 +15,8 @@ returns-in-Group c =
     let xs = elements_of p in
     let some : 1 ≤ length xs = enough 1 p (rw c.in-Group.is at c.requires.elements) in
     record {
-      holds = λ s g. rw c.ordinary.ensures (made_put p c.args.last c.args.operand s p.builder _ (top xs) (rw c.in-Group.is (top_first xs some)) (rw c.in-Group.is refl) g);
-      step = rw c.ordinary.ensures (made_step p c.args.last c.args.operand p.builder _ (top xs) (rw c.in-Group.is (top_first xs some)) c.requires);
+      holds = λ s g. rw c.new.ensures (made_put p c.args.last c.args.operand s p.builder _ (top xs) (rw c.in-Group.is (top_first xs some)) (rw (c.in-Group.is, c.ordinary_kind.ensures) refl) g);
+      step = rw c.new.ensures (made_step p c.args.last c.args.operand p.builder _ (top xs) (rw c.in-Group.is (top_first xs some)) c.requires);
     }
 
 pub returns-in_ok-container-in-SquareRoot : goal.returns-in_ok-container-in-SquareRoot
