@@ -63,6 +63,7 @@ abbrev pub box_style_of : BoxStyle → attributes.Boxing
 box_style_of box_style.NullDelimiters = attributes.NullDelimiters
 box_style_of box_style.ArrowLabel = attributes.ArrowLabel
 box_style_of box_style.Unclipped = attributes.Unclipped
+box_style_of box_style.Monospaced = attributes.Monospaced
 
 -- the change to the box of an element whose box has a style, or a greatest width in thousandths of an em
 abbrev pub boxing_in : Option BoxStyle → Option ℕ → Option attributes.Boxing

@@ -67,7 +67,7 @@ pub enum MathStyle {
     Script,
 }
 
-/// A change to the box of an element that MathML has no attribute for.
+/// A change to the box of an element, or to what is in it, that MathML has no attribute for.
 #[derive(Debug, Clone, Copy)]
 pub enum BoxStyle {
     /// The space of TeX's null delimiters is at the sides of a fraction.
@@ -76,6 +76,8 @@ pub enum BoxStyle {
     ArrowLabel,
     /// A sign that stretches is drawn where it goes beyond its box, too.
     Unclipped,
+    /// A text is in a font whose characters are all of one width.
+    Monospaced,
 }
 
 /// The attributes of an element. Where one is missing, the browser decides.
@@ -304,6 +306,7 @@ fn box_style_text(box_style: BoxStyle) -> &'static str
         BoxStyle::NullDelimiters => " style=\"padding: 0 calc(0.12em - 1px)\"",
         BoxStyle::ArrowLabel => " style=\"padding: 0 0.389em\"",
         BoxStyle::Unclipped => " style=\"box-shadow: 0 0 0 50em transparent\"",
+        BoxStyle::Monospaced => " style=\"font-family: monospace\"",
     }
 }
 

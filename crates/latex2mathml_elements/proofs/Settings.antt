@@ -119,6 +119,7 @@ boxing (Some boxes.StruckTwice) = words _ refl
 boxing (Some boxes.NullDelimiters) = words _ refl
 boxing (Some boxes.ArrowLabel) = words _ refl
 boxing (Some boxes.Unclipped) = words _ refl
+boxing (Some boxes.Monospaced) = words _ refl
 boxing (Some boxes.JoinedLines) = words _ refl
 boxing (Some (boxes.AtMost width)) =
     quoted (codes "style") (codes "max-width: " ++ ems (pos width)) (codes "em") refl refl (ems_quotable (pos width))

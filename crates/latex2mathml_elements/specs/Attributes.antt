@@ -47,7 +47,7 @@ pub data MathStyle : Type 0 where
   TextStyle : MathStyle
   ScriptStyle : MathStyle
 
--- a change to the box around elements
+-- a change to the box around elements, or to what is in it
 pub data Boxing : Type 0 where
   -- it has no width; no height above the line and no depth below it; no height; no depth
   NoWidth : Boxing
@@ -69,6 +69,8 @@ pub data Boxing : Type 0 where
   ArrowLabel : Boxing
   -- a sign that stretches is drawn where it goes beyond its box, too
   Unclipped : Boxing
+  -- a text is in a font whose characters are all of one width
+  Monospaced : Boxing
   -- a table in which the lines of all cells of a row are one line
   JoinedLines : Boxing
   -- it is at most this wide, in thousandths of an em

@@ -1,6 +1,6 @@
 -- How elements are written.
 use Rattle.std.specs.Prelude.{ℕ, Bool, true, false, ◌||◌, List, [], ◌++◌, Option, Some, None, codes}
-use Rattle.latex2mathml_elements.specs.Attributes.{Attributes, Side, Above, Below, Form, Prefix, Infix, Postfix, Stretch, Stretching, Rigid, Space, NoSpace, Narrow, Medium, Thick, NoSpaceBefore, ThinAfter, ThickAfter, Size, Big, Bigger, VeryBig, Biggest, MathStyle, DisplayStyle, TextStyle, ScriptStyle, Boxing, NoWidth, Flat, NoHeight, NoDepth, ByItsWidth, ByHalfItsWidth, Framed, StruckUp, StruckDown, StruckTwice, NullDelimiters, ArrowLabel, Unclipped, JoinedLines, AtMost}
+use Rattle.latex2mathml_elements.specs.Attributes.{Attributes, Side, Above, Below, Form, Prefix, Infix, Postfix, Stretch, Stretching, Rigid, Space, NoSpace, Narrow, Medium, Thick, NoSpaceBefore, ThinAfter, ThickAfter, Size, Big, Bigger, VeryBig, Biggest, MathStyle, DisplayStyle, TextStyle, ScriptStyle, Boxing, NoWidth, Flat, NoHeight, NoDepth, ByItsWidth, ByHalfItsWidth, Framed, StruckUp, StruckDown, StruckTwice, NullDelimiters, ArrowLabel, Unclipped, Monospaced, JoinedLines, AtMost}
 use Rattle.latex2mathml_elements.specs.Columns.{Alignment, LeftAligned, RightAligned, Continued, Density, Dense, Opened, Spacing, Unspaced, SpaceBefore, SpaceAround, Column}
 use Rattle.latex2mathml_elements.specs.Element.{Token, Mi, Mn, Mo, Mtext, Container, Mrow, Msqrt, Mstyle, Mpadded, Mphantom, Pair, Mfrac, Mroot, Msub, Msup, Munder, Mover, Triple, Msubsup, Munderover, Element, Elements, Rows, Cells, token, space, rectangle, container, pair, triple, table, none, more, one_row, more_rows, one_cell, more_cells}
 use Rattle.latex2mathml_elements.specs.Lines.{Line, NoLine, OneLine, TwoLines, Dashes, RowLines, is_lined}
@@ -117,6 +117,7 @@ boxing_text (Some StruckTwice) = codes " style=\"background: " ++ (line_up ++ (c
 boxing_text (Some NullDelimiters) = codes " style=\"padding: 0 calc(0.12em - 1px)\""
 boxing_text (Some ArrowLabel) = codes " style=\"padding: 0 0.389em\""
 boxing_text (Some Unclipped) = codes " style=\"box-shadow: 0 0 0 50em transparent\""
+boxing_text (Some Monospaced) = codes " style=\"font-family: monospace\""
 boxing_text (Some JoinedLines) = codes " style=\"border-collapse: collapse\""
 boxing_text (Some (AtMost width)) = codes " style=\"max-width: " ++ (thousandths_text width ++ codes "em\"")
 

@@ -75,13 +75,13 @@ refused_next p q i error st same is less enough =
 -- Words
 
 module _ (p : Parser) (i : Input) (fr : Frames) (place : ℕ) (a : Option CodeAlphabet) (opened : fr.stack.items ≡ p.frames.stack.items ++ frame.Text ∷ []) (past : units_at i ≡ past_space (left_of p)) where
-  pub words_begin : (s : Start) → Begins (reads_words place (option_map alphabet_of a) (λ ws. gives (core (words_atom ws)))) 0 s p → Holds s (record p { input = i; frames = fr }) (state.Word (record { count = 0; ends_in_text = false; accent = None }) place a)
+  pub words_begin : (s : Start) → Begins (reads_words place (option_map alphabet_of a) (λ ws. gives (core (words_atom ws)))) 0 s p → Holds s (record p { input = i; frames = fr }) (state.Word (record { count = 0; last = None; accent = None }) place a)
   words_begin s g = record {
     style = g.style;
     claims = rw (opened, past, pushed s p.frames.stack.items frame.Text (elements_of p)) (words_due (λ ws. gives (core (words_atom ws))) g.leads);
   }
 
-  pub words_begin_step : CanBegin 0 p → Follows (to_do p + 13) (record p { input = i; frames = fr }) (state.Word (record { count = 0; ends_in_text = false; accent = None }) place a)
+  pub words_begin_step : CanBegin 0 p → Follows (to_do p + 13) (record p { input = i; frames = fr }) (state.Word (record { count = 0; last = None; accent = None }) place a)
   words_begin_step can =
       let fs = p.frames.stack.items in
       let turned : reverse fr.stack.items ≡ frame.Text ∷ reverse fs = ap reverse opened ∙ reverse-append fs (frame.Text ∷ []) in

@@ -39,7 +39,7 @@ module _ (p : Parser) (b : Built) (row : CodeRow) {x : Element} (one : elements_
   pub operand_closed_step : (o : CodeOperand) → CanMake operand_made (row.count + 0) p → Follows (to_do p + 13) (record p { builder = b }) (state.Operand o)
   operand_closed_step o can = let made = closed_can operand_made 0 can in record { ready = record { elements = made.elements; may_come = made.awaits }; falls = omega arith }
 
-  pub words_closed_step : (n : ℕ) → CanMake words_made (row.count + n) p → Follows (to_do p + 13) (record p { builder = b }) (state.Words (record { count = n + 1; ends_in_text = false; accent = None }))
+  pub words_closed_step : (n : ℕ) → CanMake words_made (row.count + n) p → Follows (to_do p + 13) (record p { builder = b }) (state.Words (record { count = n + 1; last = None; accent = None }))
   words_closed_step n can = let made = closed_can words_made n can in record { ready = record { elements = made.elements; may_come = made.awaits }; falls = omega arith }
 
 module _ (s : Start) (p : Parser) (b : Built) (place : ℕ) (row : CodeRow) where
@@ -53,7 +53,7 @@ module _ (s : Start) (p : Parser) (b : Built) (place : ℕ) (row : CodeRow) wher
   pub group_closed : elements_in b ≡ group ∷ drop row.count (elements_of p) → (c : CodeCore) → core_with c group ≡ core (ordinary row.high group) → ClosesRow ending.Group place row s p → Holds s (record p { builder = b }) (state.Core c)
   group_closed one c is g = record { style = g.style; claims = rw (one, is) (rw none_beside at (given g.leads)) }
 
-  pub formula_closed : elements_in b ≡ group ∷ drop row.count (elements_of p) → (n : ℕ) → ClosesRow (ending.Formula n) place row s p → Holds s (record p { builder = b }) (state.Words (record { count = n + 1; ends_in_text = false; accent = None }))
+  pub formula_closed : elements_in b ≡ group ∷ drop row.count (elements_of p) → (n : ℕ) → ClosesRow (ending.Formula n) place row s p → Holds s (record p { builder = b }) (state.Words (record { count = n + 1; last = None; accent = None }))
   formula_closed one n g =
       let behind = drop row.count (elements_of p) in
       let first : take (n + 1) (elements_in b) ≡ group ∷ take n behind = ap (take (n + 1)) one ∙ take_more n group behind in

@@ -11,7 +11,7 @@ use Rattle.latex2mathml_tex_grammar.specs.Units.{Character, Command, Open, Piece
 use Rattle.latex2mathml_builder.specs.Built.{Built, elements_in}
 use Rattle.latex2mathml_tex_atoms.specs.Wording.{Replaced}
 use Rattle.latex2mathml_tex_grammar.specs.Words as words
-use Rattle.latex2mathml_tex_grammar.specs.Words.{with_accent_ended, Accented, BeginsFormula, IsWord, NoWord, Shown, meaning_rule, word_character, word_rule, word_space}
+use Rattle.latex2mathml_tex_grammar.specs.Words.{with_accent_ended, Accented, BeginsFormula, IsWord, NoWord, Shown, font_in, meaning_rule, word_character, word_rule, word_space}
 use Rattle.latex2mathml_tex_units.specs.Errors.{refusal_of}
 use Rattle.latex2mathml_tex_commands.specs.Meanings.{alphabet_of}
 use Rattle.latex2mathml_tex.specs.{Frames.Start, Levels.Leads, Levels.PartMade}
@@ -51,14 +51,14 @@ other_change m change is other = record {
 }
 
 module _ (a : Option Alphabet) (name : List ℕ) where
-  pub character_shown : (c : ℕ) → entry_of_name text_commands name ≡ Some c → word_rule a (Command name) ≡ IsWord (Shown (text c))
+  pub character_shown : (c : ℕ) → entry_of_name text_commands name ≡ Some c → word_rule a (Command name) ≡ IsWord (Shown (font_in a) (text c))
   character_shown c e = rw e refl
 
   pub accent_begins : (accent : ℕ) → entry_of_name text_commands name ≡ None → entry_of_name text_accents name ≡ Some accent → word_rule a (Command name) ≡ IsWord (Accented accent)
   accent_begins accent other e = rw (other, e) refl
 
   module _ (other : entry_of_name text_commands name ≡ None) (plain : entry_of_name text_accents name ≡ None) where
-    pub command_meant : (m : Option Meaning) → meaning_of name ≡ m → word_rule a (Command name) ≡ meaning_rule name m
+    pub command_meant : (m : Option Meaning) → meaning_of name ≡ m → word_rule a (Command name) ≡ meaning_rule (font_in a) name m
     command_meant m e = rw (other, plain, e) refl
 
     pub unknown : meaning_of name ≡ None → word_rule a (Command name) ≡ NoWord (UnknownCommand name)
@@ -66,7 +66,7 @@ module _ (a : Option Alphabet) (name : List ℕ) where
 
     -- most meanings cannot appear in words
 
-    no_word_meant : (m : CodeMeaning) → IsNoWord m → meaning_rule name (Some (Meanings.meaning_of m)) ≡ NoWord (CommandInWords name)
+    no_word_meant : (m : CodeMeaning) → IsNoWord m → meaning_rule (font_in a) name (Some (Meanings.meaning_of m)) ≡ NoWord (CommandInWords name)
     no_word_meant (code_meaning.Shows symbol) none = absurd (none.no_sign symbol refl)
     no_word_meant code_meaning.Dots none = absurd (none.no_dots refl)
     no_word_meant (code_meaning.Spacing width) none = absurd (none.no_space width refl)
@@ -107,14 +107,14 @@ module _ (a : Option Alphabet) (c : ℕ) where
   pub dollar_rule : c ≡ byte "$" → word_rule a (Character c) ≡ BeginsFormula
   dollar_rule e = rw e refl
 
-  pub tilde_rule : c ≡ byte "~" → word_rule a (Character c) ≡ IsWord word_space
+  pub tilde_rule : c ≡ byte "~" → word_rule a (Character c) ≡ IsWord (word_space (font_in a))
   tilde_rule e = rw e refl
 
   module _ (dollar : c ≡ byte "$" → ⊥) (tilde : c ≡ byte "~" → ⊥) where
     pub no_word_rule : no_word c ≡ true → word_rule a (Character c) ≡ NoWord (CharacterInWords c)
     no_word_rule e = rw (unequal c (byte "$") dollar, unequal c (byte "~") tilde, e) refl
 
-    pub character_rule : no_word c ≡ false → word_rule a (Character c) ≡ IsWord (Shown (text (word_character a c)))
+    pub character_rule : no_word c ≡ false → word_rule a (Character c) ≡ IsWord (Shown (font_in a) (text (word_character a c)))
     character_rule e = rw (unequal c (byte "$") dollar, unequal c (byte "~") tilde, e) refl
 
 -- What begins after words

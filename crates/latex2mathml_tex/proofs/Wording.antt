@@ -94,7 +94,7 @@ symbol_row c k old put made whole none one is zero_count empty longer below e =
 
 -- the elements of the words, whose accent has ended, and that of a formula
 pub formula_put : (s : Start) (p : Parser) (b c : Built) (ws after : CodeWords) (x : Element) → Replaced with_accent_ended ws (elements_of p) after (elements_in b) → elements_in c ≡ x ∷ elements_in b → WordGiven ws (Formula x) s p
-    → Holds s (record p { builder = c }) (state.Words (record { count = after.count + 1; ends_in_text = false; accent = None }))
+    → Holds s (record p { builder = c }) (state.Words (record { count = after.count + 1; last = None; accent = None }))
 formula_put s p b c ws after x r e g =
     let elements : take after.count (elements_in b) ≡ (with_accent_ended (words_with ws (elements_of p))).elements = ap (λ (w : Words). w.elements) r.words in
     let first : take (after.count + 1) (elements_in c) ≡ x ∷ (with_accent_ended (words_with ws (elements_of p))).elements = ap (take (after.count + 1)) e ∙ take_more after.count x (elements_in b) ∙ ap (λ xs. x ∷ xs) elements in

@@ -15,8 +15,9 @@ use Rattle.latex2mathml_attributes.specs.declared.attributes.Side.{Side}
 use Rattle.latex2mathml_attributes.specs.declared.attributes.Side.TheVariants as side
 use Rattle.latex2mathml_tex_commands.specs.declared.meaning.Class.TheVariants as class
 use Rattle.latex2mathml_tex_commands.specs.declared.meaning.FractionRule.{FractionRule}
-use Rattle.latex2mathml_tex_atoms.specs.declared.atoms.{Before.Before, Context.Context, Core.Core, Joining.Joining, Kind.Kind, Operand.Operand, Restyled.Restyled, Row.Row, Scripts.Scripts, Words.Words}
+use Rattle.latex2mathml_tex_atoms.specs.declared.atoms.{Before.Before, Context.Context, Core.Core, Font.Font, Joining.Joining, Kind.Kind, Operand.Operand, Restyled.Restyled, Row.Row, Scripts.Scripts, Words.Words}
 use Rattle.latex2mathml_tex_atoms.specs.declared.atoms.Before.TheVariants as before
+use Rattle.latex2mathml_tex_atoms.specs.declared.atoms.Font.TheVariants as font
 use Rattle.latex2mathml_tex_atoms.specs.declared.atoms.Joining.TheVariants as joining
 use Rattle.latex2mathml_tex_atoms.specs.declared.atoms.Kind.TheVariants as kind
 use Rattle.latex2mathml_tex_atoms.specs.declared.spaces.Entry.{Entry}
@@ -132,8 +133,12 @@ row_with row xs = record {
   under = under_with row.under (drop (row.count + settled_count row.restyled row.settled) xs);
 }
 
+abbrev pub font_of : Font → words.Font
+font_of font.Usual = words.Usual
+font_of font.Typewriter = words.Typewriter
+
 abbrev pub words_with : Words → List Element → words.Words
-words_with ws xs = record { elements = take ws.count xs; ends_in_text = ws.ends_in_text; accent = ws.accent }
+words_with ws xs = record { elements = take ws.count xs; last = option_map font_of ws.last; accent = ws.accent }
 
 abbrev pub one_if : Bool → ℕ
 one_if true = 1

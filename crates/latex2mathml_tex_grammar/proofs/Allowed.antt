@@ -77,7 +77,7 @@ abbrev pub AreAllowedScripts : Scripts → Type 0
 AreAllowedScripts scripts = IsAllowedElement scripts.below × IsAllowedElement scripts.above
 
 abbrev pub IsAllowedWord : Word → Type 0
-IsAllowedWord (Shown text) = IsAllowed text
+IsAllowedWord (Shown font text) = IsAllowed text
 IsAllowedWord (Formula x) = HasAllowedTexts x
 IsAllowedWord (Accented accent) = IsAllowed (text accent)
 IsAllowedWord Nothing = ⊤

@@ -1,7 +1,7 @@
 -- The rule of a unit without a character that XML forbids gives none, and the same holds of marks and in words.
 use Rattle.std.proofs.Common.{◌≡◌, ℕ, ℤ, pos, Bool, true, false, ◌==◌, List, [], ◌∷◌, ◌++◌, Option, Some, None, refl, sym, ap, subst, ◌∙◌, append-nil}
 use Rattle.std.specs.{Bool.⊤, Char.is_ascii_digit, Str.byte}
-use Rattle.latex2mathml_elements.specs.{Element.Element, Element.token, Element.space, Element.rectangle, Element.container, Element.pair, Element.triple, Element.table}
+use Rattle.latex2mathml_elements.specs.{Attributes.Attributes, Element.Element, Element.token, Element.space, Element.rectangle, Element.container, Element.pair, Element.triple, Element.table}
 use Rattle.latex2mathml_elements.specs.Characters.{is_forbidden, IsAllowed, HasAllowedTexts}
 use Rattle.latex2mathml_elements.proofs.{Characters.allowed_both, Characters.allowed_char, Characters.allowed_plain, Plain.IsPlain}
 use Rattle.latex2mathml_tex_grammar.specs.{Commands.meaning_of, Commands.symbol_of, Delimiters.entry_of_name, Delimiters.negated_of, Delimiters.delimiter_of, TextCommands.text_accents, TextCommands.text_commands, Dots.centered_dots, Dots.low_dots}
@@ -14,9 +14,9 @@ use Rattle.latex2mathml_tex_grammar.specs.Atoms.{Plain}
 use Rattle.latex2mathml_tex_grammar.specs.Rows.{as_base, lone, Operand, row_element}
 use Rattle.latex2mathml_tex_grammar.specs.Rules.{Context, Rule, gives, refuses, takes_if, a_character, a_digit, decimal, after_digits, a_number, a_symbol, begins_none, character_rule, struck_atom, slashed, a_box, a_fraction, meaning_rule, command_rule, rule, with_value, a_bar, a_left_brace, a_right_brace, empty_braces, an_outer_delimiter, has_width, a_line, numbered_style, a_style, an_outlined_fraction, a_general_fraction, a_choice}
 use Rattle.latex2mathml_tex_grammar.specs.Starts.{OperandStart, NoStart, GroupStart, DigitStart, operand_start, start_of_digit, Mark, Prime, Below, Above as AboveMark, LimitsAt, step_of, step_of_mark}
-use Rattle.latex2mathml_tex_grammar.specs.Symbols.{InDisplay, InText, InScript, Ordinary, Relation, Alphabet, Style, Symbol}
+use Rattle.latex2mathml_tex_grammar.specs.Symbols.{InDisplay, InText, InScript, Ordinary, Relation, Alphabet, Monospace, Style, Symbol}
 use Rattle.latex2mathml_tex_grammar.specs.Units.{Piece, Space, Open, Close, Command, Character}
-use Rattle.latex2mathml_tex_grammar.specs.Words.{Word, Shown, Formula, Accented, Nothing, WordRule, IsWord, BeginsFormula, NoWord, Words, word_space, word_character, with_text, accented, with_character, end_accent, with_accent_ended, with_word, words_element, word_rule, character_rule as word_of_character, meaning_rule as word_of_meaning, accent_rule as word_of_accent, command_rule as word_of_command}
+use Rattle.latex2mathml_tex_grammar.specs.Words.{Font, Word, font_attributes, font_in, is_in, last_font, letter_in, Shown, Formula, Accented, Nothing, WordRule, IsWord, BeginsFormula, NoWord, Words, word_space, word_character, with_text, accented, with_character, end_accent, with_accent_ended, with_word, words_element, word_rule, character_rule as word_of_character, meaning_rule as word_of_meaning, accent_rule as word_of_accent, command_rule as word_of_command}
 use Rattle.latex2mathml_tex_grammar.proofs.Allowed.{IsAllowedPiece, AreAllowedElements, IsAllowedAccent, IsAllowedElement, IsAllowedCore, IsAllowedOperand, AreAllowedScripts, AreAllowedWords, IsAllowedWord, IsAllowedWordRule, IsAllowedStep, IsAllowedRule, AreGiven}
 use Rattle.latex2mathml_tex_grammar.proofs.AllowedMakes.{letter_allowed, upright_letter_allowed, symbol_allowed, number_allowed, lone_allowed, row_element_allowed, single_allowed, struck_allowed, as_base_allowed, classed_allowed, accent_allowed, brace_allowed, stack_allowed, fraction_allowed, fenced_allowed, in_style_allowed, unfenced_allowed, between_allowed, behind_primes_allowed}
 use Rattle.latex2mathml_elements.specs.Columns.{Alike, Centered, Dense}
@@ -121,28 +121,28 @@ slashed_allowed : (x : Operand) (found : Option Element) → IsAllowedOperand x 
 slashed_allowed x None h k = h
 slashed_allowed x (Some element) h k = k
 
-with_text_allowed : (ends_in_text : Bool) (more : List ℕ) (xs : List Element) → IsAllowed more → AreAllowedElements xs → AreAllowedElements (with_text ends_in_text more xs)
-with_text_allowed true more [] h k = (h, k)
-with_text_allowed true more (token t a before ∷ xs) h k = (allowed_both before more k.0 h, k.1)
-with_text_allowed true more (space width ∷ xs) h k = (h, k)
-with_text_allowed true more (rectangle e ∷ xs) h k = (h, k)
-with_text_allowed true more (container c a ys ∷ xs) h k = (h, k)
-with_text_allowed true more (pair p a y z ∷ xs) h k = (h, k)
-with_text_allowed true more (triple t a x y z ∷ xs) h k = (h, k)
-with_text_allowed true more (table a rows ∷ xs) h k = (h, k)
-with_text_allowed false more xs h k = (h, k)
+with_text_allowed : (joins : Bool) (a : Attributes) (more : List ℕ) (xs : List Element) → IsAllowed more → AreAllowedElements xs → AreAllowedElements (with_text joins a more xs)
+with_text_allowed true a more [] h k = (h, k)
+with_text_allowed true a more (token t b before ∷ xs) h k = (allowed_both before more k.0 h, k.1)
+with_text_allowed true a more (space width ∷ xs) h k = (h, k)
+with_text_allowed true a more (rectangle e ∷ xs) h k = (h, k)
+with_text_allowed true a more (container c b ys ∷ xs) h k = (h, k)
+with_text_allowed true a more (pair p b y z ∷ xs) h k = (h, k)
+with_text_allowed true a more (triple t b x y z ∷ xs) h k = (h, k)
+with_text_allowed true a more (table b rows ∷ xs) h k = (h, k)
+with_text_allowed false a more xs h k = (h, k)
 
 accented_allowed : (accent : Option ℕ) (character : List ℕ) → IsAllowedAccent accent → IsAllowed character → IsAllowed (accented accent character)
 accented_allowed None character h k = k
 accented_allowed (Some accent) character h k = allowed_both character (text accent) k h
 
-with_character_allowed : (ws : Words) (character : List ℕ) → AreAllowedWords ws → IsAllowed character → AreAllowedWords (with_character ws character)
-with_character_allowed ws character h k =
-    (with_text_allowed ws.ends_in_text (accented ws.accent character) ws.elements (accented_allowed ws.accent character h.1 k) h.0, tt)
+with_character_allowed : (font : Font) (ws : Words) (character : List ℕ) → AreAllowedWords ws → IsAllowed character → AreAllowedWords (with_character font ws character)
+with_character_allowed font ws character h k =
+    (with_text_allowed (is_in font ws.last) (font_attributes font) (accented ws.accent character) ws.elements (accented_allowed ws.accent character h.1 k) h.0, tt)
 
 end_accent_allowed : (accent : Option ℕ) (ws : Words) → AreAllowedWords ws → AreAllowedWords (end_accent accent ws)
 end_accent_allowed None ws h = h
-end_accent_allowed (Some accent) ws h = with_character_allowed ws (text 0xA0) h (allowed_char 0xA0 refl)
+end_accent_allowed (Some accent) ws h = with_character_allowed (last_font ws.last) ws (text 0xA0) h (allowed_char 0xA0 refl)
 
 pub accent_ended_allowed : (ws : Words) → AreAllowedWords ws → AreAllowedWords (with_accent_ended ws)
 accent_ended_allowed ws h = end_accent_allowed ws.accent ws h
@@ -365,80 +365,84 @@ step_allowed scripts (Some mark) h = step_of_allowed scripts scripts.below scrip
 word_space_allowed : IsAllowed (text 0xA0)
 word_space_allowed = allowed_char 0xA0 refl
 
-word_character_allowed : (alphabet : Option Alphabet) (c : ℕ) → is_forbidden c ≡ false → is_forbidden (word_character alphabet c) ≡ false
-word_character_allowed None c h =
-    of_either (λ k. is_forbidden k ≡ false) (c == byte "`") {x = 0x2018} refl (of_either (λ k. is_forbidden k ≡ false) (c == byte "'") {x = 0x2019} {y = c} refl h)
-word_character_allowed (Some alphabet) c h = in_alphabet_allowed alphabet c h
+letter_in_allowed : (alphabet : Option Alphabet) (c : ℕ) → is_forbidden c ≡ false → is_forbidden (letter_in alphabet c) ≡ false
+letter_in_allowed None c h = h
+letter_in_allowed (Some Monospace) c h = h
+letter_in_allowed (Some alphabet) c h = in_alphabet_allowed alphabet c h
 
-of_word_character : (P : WordRule → Type 0) (alphabet : Option Alphabet) (c : ℕ) → P BeginsFormula → P (IsWord word_space) → P (NoWord (CharacterInWords c)) → P (IsWord (Shown (text (word_character alphabet c)))) → P (word_of_character alphabet c)
+word_character_allowed : (alphabet : Option Alphabet) (c : ℕ) → is_forbidden c ≡ false → is_forbidden (word_character alphabet c) ≡ false
+word_character_allowed alphabet c h =
+    of_either (λ k. is_forbidden k ≡ false) (c == byte "`") {x = 0x2018} refl (of_either (λ k. is_forbidden k ≡ false) (c == byte "'") {x = 0x2019} {y = letter_in alphabet c} refl (letter_in_allowed alphabet c h))
+
+of_word_character : (P : WordRule → Type 0) (alphabet : Option Alphabet) (c : ℕ) → P BeginsFormula → P (IsWord (word_space (font_in alphabet))) → P (NoWord (CharacterInWords c)) → P (IsWord (Shown (font_in alphabet) (text (word_character alphabet c)))) → P (word_of_character alphabet c)
 of_word_character P alphabet c formula a_space no_word other = of_either P _ formula (of_either P _ a_space (of_either P _ no_word other))
 
 word_of_character_allowed : (alphabet : Option Alphabet) (c : ℕ) → is_forbidden c ≡ false → IsAllowedWordRule (word_of_character alphabet c)
 word_of_character_allowed alphabet c h =
     of_word_character IsAllowedWordRule alphabet c tt word_space_allowed tt (allowed_char (word_character alphabet c) (word_character_allowed alphabet c h))
 
-word_of_meaning_allowed : (name : List ℕ) (meaning : Option Meaning) → Passes is_allowed_meaning meaning → IsAllowedWordRule (word_of_meaning name meaning)
-word_of_meaning_allowed name None h = tt
-word_of_meaning_allowed name (Some (Shows s)) h = single_allowed InText (symbol None s).atom (symbol_allowed None s h)
-word_of_meaning_allowed name (Some (FunctionName limits own)) h = tt
-word_of_meaning_allowed name (Some Dots) h = single_allowed InText (symbol None low_dots).atom (symbol_allowed None low_dots refl)
-word_of_meaning_allowed name (Some (Spacing width)) h = word_space_allowed
-word_of_meaning_allowed name (Some (Styled alphabet)) h = tt
-word_of_meaning_allowed name (Some (TakesWordsIn alphabet)) h = tt
-word_of_meaning_allowed name (Some (Fraction rule own)) h = tt
-word_of_meaning_allowed name (Some Root) h = tt
-word_of_meaning_allowed name (Some (Accent side mark width)) h = tt
-word_of_meaning_allowed name (Some (Brace side mark)) h = tt
-word_of_meaning_allowed name (Some (Stack side)) h = tt
-word_of_meaning_allowed name (Some StackedRelation) h = tt
-word_of_meaning_allowed name (Some OperatorName) h = tt
-word_of_meaning_allowed name (Some Negation) h = tt
-word_of_meaning_allowed name (Some Slash) h = tt
-word_of_meaning_allowed name (Some (Sized size class)) h = tt
-word_of_meaning_allowed name (Some Left) h = tt
-word_of_meaning_allowed name (Some Middle) h = tt
-word_of_meaning_allowed name (Some Right) h = tt
-word_of_meaning_allowed name (Some Limits) h = tt
-word_of_meaning_allowed name (Some NoLimits) h = tt
-word_of_meaning_allowed name (Some (Classed class)) h = tt
-word_of_meaning_allowed name (Some (Changes (ToAlphabet alphabet))) h = tt
-word_of_meaning_allowed name (Some (Changes (ToStyle style))) h = tt
-word_of_meaning_allowed name (Some (Changes (Divides rule))) h = tt
-word_of_meaning_allowed name (Some (Changes ToColor)) h = tt
-word_of_meaning_allowed name (Some BeginTable) h = tt
-word_of_meaning_allowed name (Some EndTable) h = tt
-word_of_meaning_allowed name (Some LineBreak) h = tt
-word_of_meaning_allowed name (Some Substack) h = tt
-word_of_meaning_allowed name (Some Skip) h = tt
-word_of_meaning_allowed name (Some SkipInBraces) h = tt
-word_of_meaning_allowed name (Some (Boxed box)) h = tt
-word_of_meaning_allowed name (Some Smash) h = tt
-word_of_meaning_allowed name (Some ContinuedFraction) h = tt
-word_of_meaning_allowed name (Some GeneralFraction) h = tt
-word_of_meaning_allowed name (Some Choice) h = tt
-word_of_meaning_allowed name (Some Raise) h = tt
-word_of_meaning_allowed name (Some InColor) h = tt
-word_of_meaning_allowed name (Some Highlight) h = tt
-word_of_meaning_allowed name (Some Rectangle) h = tt
-word_of_meaning_allowed name (Some (Arrow sign_character)) h = tt
+word_of_meaning_allowed : (font : Font) (name : List ℕ) (meaning : Option Meaning) → Passes is_allowed_meaning meaning → IsAllowedWordRule (word_of_meaning font name meaning)
+word_of_meaning_allowed font name None h = tt
+word_of_meaning_allowed font name (Some (Shows s)) h = single_allowed InText (symbol None s).atom (symbol_allowed None s h)
+word_of_meaning_allowed font name (Some (FunctionName limits own)) h = tt
+word_of_meaning_allowed font name (Some Dots) h = single_allowed InText (symbol None low_dots).atom (symbol_allowed None low_dots refl)
+word_of_meaning_allowed font name (Some (Spacing width)) h = word_space_allowed
+word_of_meaning_allowed font name (Some (Styled alphabet)) h = tt
+word_of_meaning_allowed font name (Some (TakesWordsIn alphabet)) h = tt
+word_of_meaning_allowed font name (Some (Fraction rule own)) h = tt
+word_of_meaning_allowed font name (Some Root) h = tt
+word_of_meaning_allowed font name (Some (Accent side mark width)) h = tt
+word_of_meaning_allowed font name (Some (Brace side mark)) h = tt
+word_of_meaning_allowed font name (Some (Stack side)) h = tt
+word_of_meaning_allowed font name (Some StackedRelation) h = tt
+word_of_meaning_allowed font name (Some OperatorName) h = tt
+word_of_meaning_allowed font name (Some Negation) h = tt
+word_of_meaning_allowed font name (Some Slash) h = tt
+word_of_meaning_allowed font name (Some (Sized size class)) h = tt
+word_of_meaning_allowed font name (Some Left) h = tt
+word_of_meaning_allowed font name (Some Middle) h = tt
+word_of_meaning_allowed font name (Some Right) h = tt
+word_of_meaning_allowed font name (Some Limits) h = tt
+word_of_meaning_allowed font name (Some NoLimits) h = tt
+word_of_meaning_allowed font name (Some (Classed class)) h = tt
+word_of_meaning_allowed font name (Some (Changes (ToAlphabet alphabet))) h = tt
+word_of_meaning_allowed font name (Some (Changes (ToStyle style))) h = tt
+word_of_meaning_allowed font name (Some (Changes (Divides rule))) h = tt
+word_of_meaning_allowed font name (Some (Changes ToColor)) h = tt
+word_of_meaning_allowed font name (Some BeginTable) h = tt
+word_of_meaning_allowed font name (Some EndTable) h = tt
+word_of_meaning_allowed font name (Some LineBreak) h = tt
+word_of_meaning_allowed font name (Some Substack) h = tt
+word_of_meaning_allowed font name (Some Skip) h = tt
+word_of_meaning_allowed font name (Some SkipInBraces) h = tt
+word_of_meaning_allowed font name (Some (Boxed box)) h = tt
+word_of_meaning_allowed font name (Some Smash) h = tt
+word_of_meaning_allowed font name (Some ContinuedFraction) h = tt
+word_of_meaning_allowed font name (Some GeneralFraction) h = tt
+word_of_meaning_allowed font name (Some Choice) h = tt
+word_of_meaning_allowed font name (Some Raise) h = tt
+word_of_meaning_allowed font name (Some InColor) h = tt
+word_of_meaning_allowed font name (Some Highlight) h = tt
+word_of_meaning_allowed font name (Some Rectangle) h = tt
+word_of_meaning_allowed font name (Some (Arrow sign_character)) h = tt
 
-word_of_accent_allowed : (name : List ℕ) (found : Option ℕ) → Passes is_allowed found → IsAllowedWordRule (word_of_accent name found)
-word_of_accent_allowed name (Some c) h = allowed_char c (not_forbidden c h)
-word_of_accent_allowed name None h = word_of_meaning_allowed name (meaning_of name) (meaning_passes name)
+word_of_accent_allowed : (font : Font) (name : List ℕ) (found : Option ℕ) → Passes is_allowed found → IsAllowedWordRule (word_of_accent font name found)
+word_of_accent_allowed font name (Some c) h = allowed_char c (not_forbidden c h)
+word_of_accent_allowed font name None h = word_of_meaning_allowed font name (meaning_of name) (meaning_passes name)
 
-word_of_command_allowed : (name : List ℕ) (found : Option ℕ) → Passes is_allowed found → IsAllowedWordRule (word_of_command name found)
-word_of_command_allowed name (Some c) h = allowed_char c (not_forbidden c h)
-word_of_command_allowed name None h = word_of_accent_allowed name (entry_of_name text_accents name) (text_accent_passes name)
+word_of_command_allowed : (font : Font) (name : List ℕ) (found : Option ℕ) → Passes is_allowed found → IsAllowedWordRule (word_of_command font name found)
+word_of_command_allowed font name (Some c) h = allowed_char c (not_forbidden c h)
+word_of_command_allowed font name None h = word_of_accent_allowed font name (entry_of_name text_accents name) (text_accent_passes name)
 
 pub word_rule_allowed : (alphabet : Option Alphabet) (piece : Piece) → IsAllowedPiece piece → IsAllowedWordRule (word_rule alphabet piece)
 word_rule_allowed alphabet Space h = word_space_allowed
 word_rule_allowed alphabet Open h = tt
 word_rule_allowed alphabet Close h = tt
 word_rule_allowed alphabet (Character c) h = word_of_character_allowed alphabet c h
-word_rule_allowed alphabet (Command name) h = word_of_command_allowed name (entry_of_name text_commands name) (text_command_passes name)
+word_rule_allowed alphabet (Command name) h = word_of_command_allowed (font_in alphabet) name (entry_of_name text_commands name) (text_command_passes name)
 
 pub with_word_allowed : (ws : Words) (w : Word) → AreAllowedWords ws → IsAllowedWord w → AreAllowedWords (with_word ws w)
-with_word_allowed ws (Shown character) h k = with_character_allowed ws character h k
+with_word_allowed ws (Shown font character) h k = with_character_allowed font ws character h k
 with_word_allowed ws (Formula x) h k = ((k, (accent_ended_allowed ws h).0), tt)
 with_word_allowed ws (Accented accent) h k = ((accent_ended_allowed ws h).0, k)
 with_word_allowed ws Nothing h k = h

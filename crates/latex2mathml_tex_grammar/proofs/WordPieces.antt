@@ -6,7 +6,7 @@ use Rattle.latex2mathml_tex_grammar.specs.Meaning.{Meaning, takes_words, Shows, 
 use Rattle.latex2mathml_tex_grammar.specs.{Next.is_space_piece, Refusal.Kind, Symbols.Alphabet}
 use Rattle.latex2mathml_tex_grammar.specs.Spacing.{Standing, BeforeWords, InWords, BetweenDollars, standing_behind, is_in_words}
 use Rattle.latex2mathml_tex_grammar.specs.Units.{Piece, Space, Open, Close, Command, Character}
-use Rattle.latex2mathml_tex_grammar.specs.Words.{Word, WordRule, IsWord, BeginsGroup, EndsGroup, BeginsFormula, TakesWords, NoWord, word_rule, command_rule, accent_rule, meaning_rule}
+use Rattle.latex2mathml_tex_grammar.specs.Words.{Font, Word, font_in, WordRule, IsWord, BeginsGroup, EndsGroup, BeginsFormula, TakesWords, NoWord, word_rule, command_rule, accent_rule, meaning_rule}
 use Rattle.latex2mathml_tex_grammar.proofs.{AlikeRules.WordsStand, AlikeRules.before_words, AlikeRules.within_words, Plain.TakesNone, Plain.text_accent_plain, Plain.text_command_plain}
 
 -- the piece is all of the words where words are due, or one part of words in braces
@@ -39,63 +39,63 @@ data InAWord : Piece → WordRule → Type 0 where
   opens : InAWord Open BeginsGroup
   closes : InAWord Close EndsGroup
 
-by_meaning : (name : List ℕ) (meaning : Option Meaning) → meaning_of name ≡ meaning → InAWord (Command name) (meaning_rule name meaning)
-by_meaning name None e = no_word_here
-by_meaning name (Some (Shows s)) e = a_word (command_ends name (rw e refl))
-by_meaning name (Some (FunctionName limits own)) e = no_word_here
-by_meaning name (Some Dots) e = a_word (command_ends name (rw e refl))
-by_meaning name (Some (Spacing width)) e = a_word (command_ends name (rw e refl))
-by_meaning name (Some (Styled alphabet)) e = no_word_here
-by_meaning name (Some (TakesWordsIn alphabet)) e = more_words (rw e refl)
-by_meaning name (Some (Fraction bar own)) e = no_word_here
-by_meaning name (Some Root) e = no_word_here
-by_meaning name (Some (Accent side mark width)) e = no_word_here
-by_meaning name (Some (Brace side mark)) e = no_word_here
-by_meaning name (Some (Stack side)) e = no_word_here
-by_meaning name (Some StackedRelation) e = no_word_here
-by_meaning name (Some OperatorName) e = no_word_here
-by_meaning name (Some Negation) e = no_word_here
-by_meaning name (Some Slash) e = no_word_here
-by_meaning name (Some (Sized size class)) e = no_word_here
-by_meaning name (Some Left) e = no_word_here
-by_meaning name (Some Middle) e = no_word_here
-by_meaning name (Some Right) e = no_word_here
-by_meaning name (Some Limits) e = no_word_here
-by_meaning name (Some NoLimits) e = no_word_here
-by_meaning name (Some (Classed class)) e = no_word_here
-by_meaning name (Some (Changes (ToAlphabet alphabet))) e = a_word (command_ends name (rw e refl))
-by_meaning name (Some (Changes (ToStyle style))) e = no_word_here
-by_meaning name (Some (Changes (Divides rule))) e = no_word_here
-by_meaning name (Some (Changes ToColor)) e = no_word_here
-by_meaning name (Some BeginTable) e = no_word_here
-by_meaning name (Some EndTable) e = no_word_here
-by_meaning name (Some LineBreak) e = no_word_here
-by_meaning name (Some Substack) e = no_word_here
-by_meaning name (Some Skip) e = no_word_here
-by_meaning name (Some SkipInBraces) e = no_word_here
-by_meaning name (Some (Boxed box)) e = no_word_here
-by_meaning name (Some Smash) e = no_word_here
-by_meaning name (Some ContinuedFraction) e = no_word_here
-by_meaning name (Some GeneralFraction) e = no_word_here
-by_meaning name (Some Choice) e = no_word_here
-by_meaning name (Some Raise) e = no_word_here
-by_meaning name (Some InColor) e = no_word_here
-by_meaning name (Some Highlight) e = no_word_here
-by_meaning name (Some Rectangle) e = no_word_here
-by_meaning name (Some (Arrow sign_character)) e = no_word_here
+by_meaning : (font : Font) (name : List ℕ) (meaning : Option Meaning) → meaning_of name ≡ meaning → InAWord (Command name) (meaning_rule font name meaning)
+by_meaning font name None e = no_word_here
+by_meaning font name (Some (Shows s)) e = a_word (command_ends name (rw e refl))
+by_meaning font name (Some (FunctionName limits own)) e = no_word_here
+by_meaning font name (Some Dots) e = a_word (command_ends name (rw e refl))
+by_meaning font name (Some (Spacing width)) e = a_word (command_ends name (rw e refl))
+by_meaning font name (Some (Styled alphabet)) e = no_word_here
+by_meaning font name (Some (TakesWordsIn alphabet)) e = more_words (rw e refl)
+by_meaning font name (Some (Fraction bar own)) e = no_word_here
+by_meaning font name (Some Root) e = no_word_here
+by_meaning font name (Some (Accent side mark width)) e = no_word_here
+by_meaning font name (Some (Brace side mark)) e = no_word_here
+by_meaning font name (Some (Stack side)) e = no_word_here
+by_meaning font name (Some StackedRelation) e = no_word_here
+by_meaning font name (Some OperatorName) e = no_word_here
+by_meaning font name (Some Negation) e = no_word_here
+by_meaning font name (Some Slash) e = no_word_here
+by_meaning font name (Some (Sized size class)) e = no_word_here
+by_meaning font name (Some Left) e = no_word_here
+by_meaning font name (Some Middle) e = no_word_here
+by_meaning font name (Some Right) e = no_word_here
+by_meaning font name (Some Limits) e = no_word_here
+by_meaning font name (Some NoLimits) e = no_word_here
+by_meaning font name (Some (Classed class)) e = no_word_here
+by_meaning font name (Some (Changes (ToAlphabet alphabet))) e = a_word (command_ends name (rw e refl))
+by_meaning font name (Some (Changes (ToStyle style))) e = no_word_here
+by_meaning font name (Some (Changes (Divides rule))) e = no_word_here
+by_meaning font name (Some (Changes ToColor)) e = no_word_here
+by_meaning font name (Some BeginTable) e = no_word_here
+by_meaning font name (Some EndTable) e = no_word_here
+by_meaning font name (Some LineBreak) e = no_word_here
+by_meaning font name (Some Substack) e = no_word_here
+by_meaning font name (Some Skip) e = no_word_here
+by_meaning font name (Some SkipInBraces) e = no_word_here
+by_meaning font name (Some (Boxed box)) e = no_word_here
+by_meaning font name (Some Smash) e = no_word_here
+by_meaning font name (Some ContinuedFraction) e = no_word_here
+by_meaning font name (Some GeneralFraction) e = no_word_here
+by_meaning font name (Some Choice) e = no_word_here
+by_meaning font name (Some Raise) e = no_word_here
+by_meaning font name (Some InColor) e = no_word_here
+by_meaning font name (Some Highlight) e = no_word_here
+by_meaning font name (Some Rectangle) e = no_word_here
+by_meaning font name (Some (Arrow sign_character)) e = no_word_here
 
 -- one or the other
 either : {piece : Piece} {r s : WordRule} (b : Bool) → (b ≡ true → InAWord piece r) → (b ≡ false → InAWord piece s) → InAWord piece (if b then r else s)
 either true x y = x refl
 either false x y = y refl
 
-by_accent : (name : List ℕ) (found : Option ℕ) → entry_of_name text_accents name ≡ found → InAWord (Command name) (accent_rule name found)
-by_accent name (Some c) e = a_word (command_ends name (text_accent_plain name c e))
-by_accent name None e = by_meaning name (meaning_of name) refl
+by_accent : (font : Font) (name : List ℕ) (found : Option ℕ) → entry_of_name text_accents name ≡ found → InAWord (Command name) (accent_rule font name found)
+by_accent font name (Some c) e = a_word (command_ends name (text_accent_plain name c e))
+by_accent font name None e = by_meaning font name (meaning_of name) refl
 
-by_entry : (name : List ℕ) (found : Option ℕ) → entry_of_name text_commands name ≡ found → InAWord (Command name) (command_rule name found)
-by_entry name (Some c) e = a_word (command_ends name (text_command_plain name c e))
-by_entry name None e = by_accent name (entry_of_name text_accents name) refl
+by_entry : (font : Font) (name : List ℕ) (found : Option ℕ) → entry_of_name text_commands name ≡ found → InAWord (Command name) (command_rule font name found)
+by_entry font name (Some c) e = a_word (command_ends name (text_command_plain name c e))
+by_entry font name None e = by_accent font name (entry_of_name text_accents name) refl
 
 in_a_word : (a : Option Alphabet) (piece : Piece) → InAWord piece (word_rule a piece)
 in_a_word a Space = a_word space_ends
@@ -105,7 +105,7 @@ in_a_word a (Character c) =
     either (c == byte "$") a_formula (λ h.
     either (c == byte "~") (λ e. a_word (character_ends c h)) (λ e.
     either (c == byte "_" || c == byte "^" || c == byte "&" || c == byte "#") (λ e. no_word_here) (λ e. a_word (character_ends c h))))
-in_a_word a (Command name) = by_entry name (entry_of_name text_commands name) refl
+in_a_word a (Command name) = by_entry (font_in a) name (entry_of_name text_commands name) refl
 
 word_is : {piece : Piece} {r : WordRule} {w : Word} → InAWord piece r → r ≡ IsWord w → EndsWord piece
 word_is (a_word ends) e = ends

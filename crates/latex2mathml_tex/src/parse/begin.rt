@@ -376,7 +376,7 @@ impl<'a> Parser<'a> {
         self.input.skip_space();
         let words = Words {
             count: 0,
-            ends_in_text: false,
+            last: None,
             accent: None,
         };
         *next = State::Word(words, place, alphabet);

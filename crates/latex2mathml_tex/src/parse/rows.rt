@@ -342,7 +342,7 @@ impl<'a> Parser<'a> {
                 let _ = self.builder.len();
                 *next = State::Words(Words {
                     count: count + 1,
-                    ends_in_text: false,
+                    last: None,
                     accent: None,
                 });
                 Ok(())

@@ -3,7 +3,7 @@ ghost use Rattle.std.specs.Prelude.{◌≡◌, ◌≢◌, ◌==◌, ◌||◌, fa
 ghost use Rattle.std.specs.Str.{byte};
 ghost use Rattle.latex2mathml_tex_grammar.specs.Makes;
 ghost use Rattle.latex2mathml_tex_grammar.specs.Makes.{core};
-ghost use Rattle.latex2mathml_tex_grammar.specs.Words.{Formula, Shown, text_atom};
+ghost use Rattle.latex2mathml_tex_grammar.specs.Words.{Formula, Shown, font_in, text_atom};
 ghost use Rattle.latex2mathml_tex_grammar.specs.Words as words;
 ghost use Rattle.latex2mathml_tex_grammar.specs.Refusal.{CommandInWords, refusal_at};
 ghost use Rattle.latex2mathml_tex_grammar.specs.{Rows.single, Rules.gives, Symbols.InText, Units.Character, Units.Close, Units.Command};
@@ -16,7 +16,7 @@ use crate::parse::symbols::put_symbol;
 use crate::parse::{Parser, State};
 use latex2mathml_attributes::attributes::Attributes;
 use latex2mathml_attributes::tag::Token;
-use latex2mathml_tex_atoms::atoms::{Context, Core, Kind, Row, Words};
+use latex2mathml_tex_atoms::atoms::{Context, Core, Font, Kind, Row, Words};
 use latex2mathml_tex_atoms::shapes::{put_row, with_atom};
 use latex2mathml_tex_atoms::words::{end_accent, put_character};
 use latex2mathml_tex_commands::alphabets::in_alphabet;
@@ -85,7 +85,7 @@ impl<'a> Parser<'a> {
                 *next = State::Words(words);
                 Ok(())
             }
-            Piece::Space => self.show(words, '\u{a0}', next),
+            Piece::Space => self.show(words, alphabet, '\u{a0}', next),
             Piece::Character(c) => self.character_in_words(words, c, unit.place, alphabet, next),
             Piece::Command(name) => self.word_command(words, name, unit.place, alphabet, next),
             Piece::Close => unreachable!(),
@@ -119,13 +119,13 @@ impl<'a> Parser<'a> {
             );
         }
         if c == '~' {
-            return self.show(words, '\u{a0}', next);
+            return self.show(words, alphabet, '\u{a0}', next);
         }
         if is_no_word(c) {
             *next = self.refuse(TexErrorKind::CharacterInWords(c), place);
             return Ok(());
         }
-        self.show(words, word_character(alphabet, c), next)
+        self.show(words, alphabet, word_character(alphabet, c), next)
     }
 
     /// Begins a part of words with a command.
@@ -144,7 +144,7 @@ impl<'a> Parser<'a> {
         ensures step { Advances 13 self.old self.new next.new result }
     {
         if let Some(c) = text_character(name) {
-            return self.show(words, c, next);
+            return self.show(words, alphabet, c, next);
         }
         if let Some(accent) = text_accent(name) {
             let words = end_accent(&mut self.builder, words)?;
@@ -156,7 +156,7 @@ impl<'a> Parser<'a> {
         }
         match commands::look_up(name) {
             Some(meaning) => match meaning {
-                Meaning::Spacing(_) => self.show(words, '\u{a0}', next),
+                Meaning::Spacing(_) => self.show(words, alphabet, '\u{a0}', next),
                 Meaning::Shows(symbol) => self.show_symbol(words, symbol, next),
                 Meaning::Dots => self.show_symbol(words, LOW_DOTS, next),
                 Meaning::Words(alphabet) => {
@@ -233,14 +233,22 @@ impl<'a> Parser<'a> {
         }
     }
 
-    /// Appends a character to words.
-    fn show(&mut self, words: Words, c: char, next: &mut State) -> Result<(), AllocError>
+    /// Appends a character to words, in the font of this alphabet.
+    fn show(
+        &mut self,
+        words: Words,
+        alphabet: Option<Alphabet>,
+        c: char,
+        next: &mut State,
+    ) -> Result<(), AllocError>
         requires { CanMake words_made words.count self.old }
-        ensures holds { LeadsOn (WordGiven words (Shown (Makes.text c)))
+        ensures holds { LeadsOn
+            (WordGiven words (Shown (font_in (option_map alphabet_of alphabet)) (Makes.text c)))
             self.old self.new next.new result }
         ensures step { Advances 13 self.old self.new next.new result }
     {
-        *next = State::Words(put_character(&mut self.builder, words, c)?);
+        let font = Font::of_words(alphabet);
+        *next = State::Words(put_character(&mut self.builder, words, font, c)?);
         Ok(())
     }
 
@@ -265,7 +273,7 @@ impl<'a> Parser<'a> {
         let _ = self.builder.len();
         *next = State::Words(Words {
             count: words.count + 1,
-            ends_in_text: false,
+            last: None,
             accent: None,
         });
         Ok(())
@@ -306,14 +314,23 @@ fn is_no_word(c: char) -> bool
     matches!(c, '_' | '^' | '&' | '#')
 }
 
-/// Returns a character of words, in an alphabet if there is one, or else with quotation marks as in print.
+/// Returns a character of words in an alphabet, if there is one. Quotation marks are as in print.
 fn word_character(alphabet: Option<Alphabet>, c: char) -> char
     ensures { result ≡ words.word_character (option_map alphabet_of alphabet) c }
 {
-    match (alphabet, c) {
-        (Some(alphabet), c) => in_alphabet(alphabet, c),
-        (None, '`') => '‘',
-        (None, '\'') => '’',
-        (None, c) => c,
+    match c {
+        '`' => '‘',
+        '\'' => '’',
+        c => letter_in(alphabet, c),
+    }
+}
+
+/// Returns a letter or a digit in an alphabet, if there is one. A typewriter has them as they are.
+fn letter_in(alphabet: Option<Alphabet>, c: char) -> char
+    ensures { result ≡ words.letter_in (option_map alphabet_of alphabet) c }
+{
+    match alphabet {
+        None | Some(Alphabet::Monospace) => c,
+        Some(alphabet) => in_alphabet(alphabet, c),
     }
 }

@@ -1,7 +1,7 @@
 use Rattle.std.proofs.Common.{◌≡◌, ◌∙◌, Option, Some, option_map, refl, sym, arith}
 use Rattle.latex2mathml_tex_grammar.specs.Makes
 use Rattle.latex2mathml_tex_grammar.specs.{Refusal.CharacterInWords, Refusal.refusal_at, Symbols.Alphabet, Units.Character}
-use Rattle.latex2mathml_tex_grammar.specs.Words.{Shown, word_character, word_space}
+use Rattle.latex2mathml_tex_grammar.specs.Words.{Shown, font_in, word_character, word_space}
 use Rattle.latex2mathml_tex_units.specs.Errors.{refusal_of}
 use Rattle.latex2mathml_tex_commands.specs.Meanings.{alphabet_of}
 use Rattle.latex2mathml_tex.proofs.WordRules.{character_rule, dollar_rule, formula_begun, no_word_rule, tilde_rule}
@@ -18,7 +18,7 @@ returns-then-c-eq36-clause-holds c = λ s g.
 pub returns-then-c-eq126-clause-holds : goal.returns-then-c-eq126-clause-holds
 returns-then-c-eq126-clause-holds c = λ s g.
     let a : Option Alphabet = option_map alphabet_of c.args.alphabet in
-    c.show.ensures.holds s (stands s c.args.self.now c.args.words (Character c.args.c) c.args.place a word_space (tilde_rule a c.args.c c.if-c-eq126.true) g)
+    c.show.ensures.holds s (stands s c.args.self.now c.args.words (Character c.args.c) c.args.place a (word_space (font_in a)) (tilde_rule a c.args.c c.if-c-eq126.true) g)
 
 pub returns-then-is_no_word-clause-holds : goal.returns-then-is_no_word-clause-holds
 returns-then-is_no_word-clause-holds c = λ s g.
@@ -32,7 +32,7 @@ returns-then-is_no_word-clause-holds c = λ s g.
 pub returns-clause-holds : goal.returns-clause-holds
 returns-clause-holds c = λ s g.
     let a : Option Alphabet = option_map alphabet_of c.args.alphabet in
-    let word = Shown (Makes.text (word_character a c.args.c)) in
+    let word = Shown (font_in a) (Makes.text (word_character a c.args.c)) in
     let rule = character_rule a c.args.c c.if-c-eq36.false c.if-c-eq126.false (sym c.is_no_word.ensures ∙ c.if-is_no_word.false) in
     c.show-2.ensures.holds s (rw c.word_character.ensures (stands s c.args.self.now c.args.words (Character c.args.c) c.args.place a word rule g))
 

@@ -27,8 +27,8 @@ returns-in_ok-container-in-SquareRoot c =
     let x = container Msqrt plain (children (top xs ∷ [])) in
     let put : elements_in c.container.new.self ≡ x ∷ drop 1 xs = c.in_ok-container-in-SquareRoot.ensures.elements ∙ rw (c.plain.ensures, one_taken xs some) refl in
     record {
-      holds = λ s g. rw c.ordinary-in-SquareRoot.ensures (made_put p c.args.last c.args.operand s c.container.new.self _ x (rw c.in-SquareRoot.is put) (rw c.in-SquareRoot.is refl) g);
-      step = rw c.ordinary-in-SquareRoot.ensures (made_step p c.args.last c.args.operand c.container.new.self _ x (rw c.in-SquareRoot.is put) c.requires);
+      holds = λ s g. rw c.ordinary.ensures (made_put p c.args.last c.args.operand s c.container.new.self _ x (rw c.in-SquareRoot.is put) (rw c.in-SquareRoot.is refl) g);
+      step = rw c.ordinary.ensures (made_step p c.args.last c.args.operand c.container.new.self _ x (rw c.in-SquareRoot.is put) c.requires);
     }
 
 pub returns-in_ok-pair-in-Root : goal.returns-in_ok-pair-in-Root
@@ -127,8 +127,8 @@ returns-in_ok-put_stack-in-Stack c =
     let f = base p c.args.last c.args.operand c.in-Stack.style c.args.operand.class in
     let is = c.make_base-in-Stack.ensures.elements in
     record {
-      holds = λ s g. rw c.new.ensures (made_held p c.args.last c.args.operand s c.put_stack.new.builder _ (record { element = rw c.in-Stack.is (rw (is, top_changed f xs some, behind_changed f xs, behind_two_changed f xs) at c.in_ok-put_stack-in-Stack.ensures); is = rw c.in-Stack.is refl }) g);
-      step = rw c.new.ensures (made_step p c.args.last c.args.operand c.put_stack.new.builder _ (made p c.args.last c.args.operand).atom.element (rw c.in-Stack.is (rw (is, top_changed f xs some, behind_changed f xs, behind_two_changed f xs) at c.in_ok-put_stack-in-Stack.ensures)) c.requires);
+      holds = λ s g. rw c.new-in-Stack.ensures (made_held p c.args.last c.args.operand s c.put_stack.new.builder _ (record { element = rw c.in-Stack.is (rw (is, top_changed f xs some, behind_changed f xs, behind_two_changed f xs) at c.in_ok-put_stack-in-Stack.ensures); is = rw c.in-Stack.is refl }) g);
+      step = rw c.new-in-Stack.ensures (made_step p c.args.last c.args.operand c.put_stack.new.builder _ (made p c.args.last c.args.operand).atom.element (rw c.in-Stack.is (rw (is, top_changed f xs some, behind_changed f xs, behind_two_changed f xs) at c.in_ok-put_stack-in-Stack.ensures)) c.requires);
     }
 
 pub returns-in_ok-put_stack-in-StackedRelation : goal.returns-in_ok-put_stack-in-StackedRelation

@@ -2,7 +2,7 @@ use Rattle.std.proofs.Common.{◌≡◌, ◌≤◌, ◌∙◌, None, Option, Som
 use Rattle.latex2mathml_tex_grammar.specs.Makes
 use Rattle.latex2mathml_tex_grammar.specs.Refusal.{UnknownCommand, refusal_at}
 use Rattle.latex2mathml_tex_grammar.specs.{Dots.low_dots, Rows.single, Symbols.Alphabet, Symbols.InText, Units.Command}
-use Rattle.latex2mathml_tex_grammar.specs.Words.{Accented, Formula, Nothing, Shown, with_accent_ended, word_space}
+use Rattle.latex2mathml_tex_grammar.specs.Words.{Accented, Formula, Nothing, Shown, font_in, with_accent_ended, word_space}
 use Rattle.latex2mathml_tex_units.specs.{Errors.refusal_of, Left.unit_count, Left.units_at}
 use Rattle.latex2mathml_tex.specs.Steps.{left_of}
 use Rattle.latex2mathml_tex_commands.specs.Meanings
@@ -20,7 +20,7 @@ returns-in-Some-clause-holds c = λ s g.
     let a : Option Alphabet = option_map alphabet_of c.args.alphabet in
     let name = c.args.name.now in
     let text = Makes.text c.in-Some.c in
-    c.show.ensures.holds s (stands s c.args.self.now c.args.words (Command name) c.args.place a (Shown text) (character_shown a name c.in-Some.c (sym c.in-Some.ensures)) g)
+    c.show.ensures.holds s (stands s c.args.self.now c.args.words (Command name) c.args.place a (Shown (font_in a) text) (character_shown a name c.in-Some.c (sym c.in-Some.ensures)) g)
 
 pub returns-in-Some-text_accent : goal.returns-in-Some-text_accent
 returns-in-Some-text_accent c =
@@ -42,7 +42,7 @@ returns-in-Spacing-clause-holds c = λ s g.
     let a : Option Alphabet = option_map alphabet_of c.args.alphabet in
     let name = c.args.name.now in
     let meant = c.in-Some-look_up.ensures ∙ ap (λ m. Some (Meanings.meaning_of m)) c.in-Spacing.is in
-    c.show-in-Spacing.ensures.holds s (stands s c.args.self.now c.args.words (Command name) c.args.place a word_space (command_meant a name (sym c.in_default.ensures) (sym c.in_default-text_accent.ensures) _ meant) g)
+    c.show-in-Spacing.ensures.holds s (stands s c.args.self.now c.args.words (Command name) c.args.place a (word_space (font_in a)) (command_meant a name (sym c.in_default.ensures) (sym c.in_default-text_accent.ensures) _ meant) g)
 
 pub returns-in-Shows-clause-holds : goal.returns-in-Shows-clause-holds
 returns-in-Shows-clause-holds c = λ s g.

@@ -5,4 +5,4 @@ use Rattle.latex2mathml_tex_commands.specs.Meanings.{alphabet_of}
 use Rattle.latex2mathml_tex.proofs.parse.symbols.put_upright_letter.Goals as goal
 
 pub returns-in-None : goal.returns-in-None
-returns-in-None c = c.put_character.ensures (core (Makes.upright_letter (option_map alphabet_of c.args.alphabet) c.args.c)) (rw (c.upright.ensures, c.new-ordinary.ensures, c.in-None.is) refl)
+returns-in-None c = c.put_character.ensures (core (Makes.upright_letter (option_map alphabet_of c.args.alphabet) c.args.c)) (rw (c.upright.ensures, c.new-letter.ensures, c.in-None.is) refl)
