@@ -1,7 +1,7 @@
 """The space that Chromium leaves between the atoms of a formula of `tex_to_mathml`, against TeX's table of spaces, and the space that
-both browsers leave at the sides of fractions and of columns, between rows, and next to an atom that begins a cell. Also negative
-spaces, the room for delimiters, how large signs are drawn, how high fractions are, and how long lines and arrows. The comparison of
-markup with KaTeX (`test_tex_katex`) sees none of it."""
+both browsers leave at the sides of fractions and of columns, between rows, and next to an atom that begins a cell. Also upright
+letters, negative spaces, the room for delimiters, how large signs are drawn, how high fractions are, how long lines and arrows, and
+how wide the characters of a typewriter. The comparison of markup with KaTeX (`test_tex_katex`) sees none of it."""
 import itertools
 import math
 import unittest
@@ -53,8 +53,16 @@ HEIGHTS = dict.fromkeys([r"\frac{\frac cc}c", r"\frac c{\frac cc}", r"c_{\frac c
 # With an `mpadded` in the place of the `mrow`, Firefox moves a letter of each by 0.08em or more.
 EQUALLY = 0.02
 
+# Upright letters next to others, and the ems that TeX leaves between all of them. Where two are next to each other in the markup, one of
+# them italic, Firefox leaves 3/18, inside of the box of the first.
+LETTERS = dict.fromkeys([r"\Delta c", r"c\Delta", r"c\Delta c", r"2\Delta\Gamma c", r"\mathrm{d}c", r"c\mathrm{d}", r"\mathrm{d}\mathbf{c}",
+                         r"{\rm d}c", r"\rm dc\mit c", r"\Delta_c c", r"c^c\Delta^c", r"\mathrm{d}^c c\,\mathrm{d}c_c"], [0])
+
+# Words of as many characters as one another, and how many ems wider the first are than the second
+WORDS = {r"\texttt{i.,:| ()}\texttt{mmmmmmmm}": [0], r"\texttt{f(x)[0]}\text{\texttt{wwwwwww}}": [0]}
+
 # Lines and arrows, and how many ems they begin before the letters that they cover, or that are their label, and end behind these.
-# TeX's arrows are 7mu longer on each side, in the size of scripts.
+# amsmath's arrows are 14mu longer in all, in the size of scripts.
 BEYOND = 0.7 * 7 / 18
 LINES = {**dict.fromkeys([r"\overline{cc}", r"\overline{ccccccc}", r"\overline{z_1+z_2}", r"c^{\overline{ccc}}", r"\varlimsup c", r"\underline{cc}",
                           r"\underline{ccccccc}", r"\underline{z_1+z_2}", r"\varliminf c"], [0, 0]),
@@ -128,6 +136,18 @@ OF_SIZES = """formula => {
     const [first, second] = boxesOf([...formula.querySelectorAll("mo")]);
     return [(first.width - second.width) / 100];
 }"""
+# how many ems wider a formula is than its parts
+OF_LETTERS = """formula => {
+    const parts = [...formula.children].map(part => {
+        const alone = formula.parentElement.appendChild(formula.cloneNode());
+        alone.append(part.cloneNode(true));
+        return alone;
+    });
+    const [whole, ...widths] = boxesOf([formula, ...parts]).map(box => box.width / 100);
+    return [whole - widths.reduce((sum, width) => sum + width)];
+}"""
+# how many ems wider the first words are than the second
+OF_WORDS = OF_SIZES.replace('"mo"', '"mtext"')
 # how many ems more than an arrow's the height and the width of the sign are
 OF_RIGID = """formula => {
     const sign = formula.querySelector("mo").getBoundingClientRect();
@@ -270,6 +290,26 @@ class Rigid(Gaps):
     @requires("firefox-esr")
     def test_in_firefox(self):
         self.compare(firefox, RIGID, OF_RIGID)
+
+
+class Letters(Gaps):
+    @requires("chromium")
+    def test_in_chromium(self):
+        self.compare(chromium, LETTERS, OF_LETTERS)
+
+    @requires("firefox-esr")
+    def test_in_firefox(self):
+        self.compare(firefox, LETTERS, OF_LETTERS)
+
+
+class Typewriter(Gaps):
+    @requires("chromium")
+    def test_in_chromium(self):
+        self.compare(chromium, WORDS, OF_WORDS)
+
+    @requires("firefox-esr")
+    def test_in_firefox(self):
+        self.compare(firefox, WORDS, OF_WORDS)
 
 
 class NegativeSpaces(Gaps):

@@ -46,12 +46,7 @@ pub fn end_accent(builder: &mut Builder, words: Words) -> Result<Words, AllocErr
 }
 
 /// Appends a character in this font to words. Their accent stays.
-fn put_text(
-    builder: &mut Builder,
-    words: Words,
-    font: Font,
-    c: char,
-) -> Result<Words, AllocError>
+fn put_text(builder: &mut Builder, words: Words, font: Font, c: char) -> Result<Words, AllocError>
     requires { words.count ≤ length (elements_in builder.old) }
     ensures { IfOk result (Replaces (lengthened (font_of font) (text c)) words
         builder.old builder.new) }
