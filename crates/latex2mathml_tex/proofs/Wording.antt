@@ -1,5 +1,5 @@
 -- Words: what is put after them, and where what is in them leads.
-use Rattle.std.proofs.Common.{◌≡◌, ℕ, ◌+◌, ◌<◌, ◌≤◌, false, None, zero, suc, IsTrue, IsFalse, List, [], ◌∷◌, Option, Some, length, take, drop, option_map, reverse, refl, sym, ap, ◌∙◌, arith}
+use Rattle.std.proofs.Common.{◌≡◌, ℕ, ◌+◌, ◌<◌, ◌≤◌, None, zero, suc, IsTrue, IsFalse, List, [], ◌∷◌, Option, Some, length, take, drop, option_map, reverse, refl, sym, ap, ◌∙◌, arith}
 use Rattle.latex2mathml_elements.specs.{Element.Element}
 use Rattle.latex2mathml_builder.specs.Built.{Built, elements_in}
 use Rattle.latex2mathml_tex_grammar.specs.{Makes.Core, Rows.empty_row, Rows.row_element, Rows.single, Rows.with_atom, Symbols.Alphabet, Symbols.InText}

@@ -1,7 +1,7 @@
 -- Changes of the top elements.
 use Rattle.std.specs.Prelude.{◌≡◌, ℕ, zero, suc, List, [], ◌∷◌, Option, None, Some, drop}
 use Rattle.std.specs.Str.{encode_utf8_all}
-use Rattle.latex2mathml_elements.specs.{Attributes.Attributes, Attributes.Stretch, Attributes.plain, Element.Element, Element.Mo, Element.token}
+use Rattle.latex2mathml_elements.specs.{Attributes.Attributes, Attributes.Stretch, Element.Element, Element.Mo, Element.token}
 use Rattle.latex2mathml_attributes.specs.{Arounds.element_around, declared.around.Around.Around}
 use Rattle.latex2mathml_builder.specs.Built.{Built, elements_in}
 use Rattle.latex2mathml_tex_grammar.specs.Fences

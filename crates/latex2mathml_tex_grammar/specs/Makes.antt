@@ -10,7 +10,7 @@ use Rattle.latex2mathml_tex_grammar.specs.Meaning.{FractionRule, Bar, NoBar, Bra
 use Rattle.latex2mathml_tex_grammar.specs.Fences.{Tall, fenced, height_if, sized_delimiter}
 use Rattle.latex2mathml_tex_grammar.specs.SignAttributes.{sign_attributes}
 use Rattle.latex2mathml_tex_grammar.specs.Widths.{room}
-use Rattle.latex2mathml_tex_grammar.specs.Symbols.{Class, Ordinary, Operator, Binary, Relation, Opening, Closing, Punctuation, Inner, Style, InDisplay, InText, InScript, Alphabet, Upright, Symbol, Letter, UprightLetter, Sign, BigOperator, Integral}
+use Rattle.latex2mathml_tex_grammar.specs.Symbols.{Class, Ordinary, Operator, Binary, Relation, Opening, Punctuation, Inner, Style, InDisplay, InText, InScript, Alphabet, Upright, Symbol, Letter, UprightLetter, Sign, BigOperator, Integral}
 
 -- an atom, and where its limits are
 pub record Core : Type 0 where

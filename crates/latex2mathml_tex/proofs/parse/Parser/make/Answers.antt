@@ -1,6 +1,6 @@
 use Rattle.std.proofs.Common.{◌≡◌, ◌≤◌, ◌&&◌, ap, arith, ◌∷◌, [], drop, length, not, refl, sym, ◌∙◌}
 use Rattle.latex2mathml_elements.specs.Attributes.{plain}
-use Rattle.latex2mathml_elements.specs.Element.{Mroot, Msqrt, children, container, pair}
+use Rattle.latex2mathml_elements.specs.Element.{Mroot, Msqrt, children, container}
 use Rattle.latex2mathml_builder.specs.{Built.elements_in, Stacks.group_at, Stacks.is_token, Stacks.pair_with}
 use Rattle.latex2mathml_tex_commands.specs.declared.meaning.Class.TheVariants as class
 use Rattle.latex2mathml_tex_atoms.specs.Models.{top}

@@ -1,4 +1,4 @@
-use Rattle.std.proofs.Common.{◌≡◌, ◌+◌, None, ap, drop, false, refl}
+use Rattle.std.proofs.Common.{◌≡◌, ◌+◌, None, ap, drop, refl}
 use Rattle.latex2mathml_builder.specs.Built.{elements_in}
 use Rattle.latex2mathml_tex_grammar.specs.{Rows.single, Symbols.InText, Words.with_accent_ended}
 use Rattle.latex2mathml_tex_grammar.specs.Makes
