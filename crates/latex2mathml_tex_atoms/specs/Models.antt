@@ -15,11 +15,12 @@ use Rattle.latex2mathml_attributes.specs.declared.attributes.Side.{Side}
 use Rattle.latex2mathml_attributes.specs.declared.attributes.Side.TheVariants as side
 use Rattle.latex2mathml_tex_commands.specs.declared.meaning.Class.TheVariants as class
 use Rattle.latex2mathml_tex_commands.specs.declared.meaning.FractionRule.{FractionRule}
-use Rattle.latex2mathml_tex_atoms.specs.declared.atoms.{Before.Before, Context.Context, Core.Core, Font.Font, Joining.Joining, Kind.Kind, Operand.Operand, Restyled.Restyled, Row.Row, Scripts.Scripts, Words.Words}
+use Rattle.latex2mathml_tex_atoms.specs.declared.atoms.{Before.Before, Context.Context, Core.Core, Joining.Joining, Kind.Kind, Operand.Operand, Restyled.Restyled, Row.Row, Scripts.Scripts, Words.Words}
 use Rattle.latex2mathml_tex_atoms.specs.declared.atoms.Before.TheVariants as before
-use Rattle.latex2mathml_tex_atoms.specs.declared.atoms.Font.TheVariants as font
 use Rattle.latex2mathml_tex_atoms.specs.declared.atoms.Joining.TheVariants as joining
 use Rattle.latex2mathml_tex_atoms.specs.declared.atoms.Kind.TheVariants as kind
+use Rattle.latex2mathml_tex_atoms.specs.declared.fonts.Font.{Font}
+use Rattle.latex2mathml_tex_atoms.specs.declared.fonts.Font.TheVariants as font
 use Rattle.latex2mathml_tex_atoms.specs.declared.spaces.Entry.{Entry}
 use Rattle.latex2mathml_tex_atoms.specs.declared.spaces.Entry.TheVariants as entry
 

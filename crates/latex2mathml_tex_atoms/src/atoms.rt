@@ -1,18 +1,18 @@
 //! Atoms and rows, and what an atom is to its neighbours.
 ghost use Rattle.std.specs.Prelude.{◌≡◌, ◌≢◌, ◌+◌, ◌≤◌, false, IsTrue, List, drop, length, option_map, take};
-ghost use Rattle.latex2mathml_attributes.specs.Names.{attributes_of};
 ghost use Rattle.latex2mathml_elements.specs.Element.{Element};
 ghost use Rattle.latex2mathml_tex_grammar.specs.Atoms;
 ghost use Rattle.latex2mathml_tex_grammar.specs.Makes;
 ghost use Rattle.latex2mathml_tex_grammar.specs.Rows;
 ghost use Rattle.latex2mathml_tex_grammar.specs.Words as words;
-ghost use Rattle.latex2mathml_tex_commands.specs.Meanings.{alphabet_of, class_of, limit_place_of, style_of};
+ghost use Rattle.latex2mathml_tex_commands.specs.Meanings.{class_of, limit_place_of, style_of};
 ghost use Rattle.latex2mathml_tex_atoms.specs.Models.{IsFinished, begun, has_script, empty_row, before_of, font_of, is_relation, is_upright, joining_of, kind_of, script_count};
 ghost use Rattle.latex2mathml_tex_atoms.specs.Adding.{IsAdded};
 
+use crate::fonts::Font;
 use crate::signs::is_put_as_it_is;
 use latex2mathml_attributes::around::Color;
-use latex2mathml_attributes::attributes::{Attributes, BoxStyle, Side};
+use latex2mathml_attributes::attributes::Side;
 use latex2mathml_tex_commands::meaning::{Alphabet, Class, FractionRule, LimitPlace, Style};
 
 /// The context in which a unit is read: the style, and the alphabet of letters and digits, if there is one.
@@ -446,39 +446,6 @@ impl Scripts {
         match side {
             Side::Below => self.below,
             Side::Above => self.above,
-        }
-    }
-}
-
-/// The font of a text.
-#[derive(Clone, Copy)]
-pub enum Font {
-    Usual,
-    /// All characters are of one width.
-    Typewriter,
-}
-
-impl Font {
-    /// Returns the font of words in an alphabet.
-    pub fn of_words(alphabet: Option<Alphabet>) -> Font
-        ensures { font_of result ≡ words.font_in (option_map alphabet_of alphabet) }
-    {
-        match alphabet {
-            Some(Alphabet::Monospace) => Font::Typewriter,
-            _ => Font::Usual,
-        }
-    }
-
-    /// Returns the attributes of a text in this font.
-    pub(crate) fn attributes(self) -> Attributes
-        ensures { attributes_of result ≡ words.font_attributes (font_of self) }
-    {
-        match self {
-            Font::Usual => Attributes::plain(),
-            Font::Typewriter => Attributes {
-                box_style: Some(BoxStyle::Monospaced),
-                ..Attributes::plain()
-            },
         }
     }
 }

@@ -5,7 +5,8 @@ ghost use Rattle.latex2mathml_tex_grammar.specs.{Makes.text, Words.with_accent_e
 ghost use Rattle.latex2mathml_tex_atoms.specs.Models.{font_of};
 ghost use Rattle.latex2mathml_tex_atoms.specs.Wording.{Replaces, lengthened};
 
-use crate::atoms::{Font, Words};
+use crate::atoms::Words;
+use crate::fonts::Font;
 use latex2mathml_attributes::tag::Token;
 use latex2mathml_builder::builder::Builder;
 use std::alloc::AllocError;
