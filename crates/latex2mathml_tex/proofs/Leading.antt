@@ -1,9 +1,9 @@
 -- Where what is due leads, step by step, whatever it is for.
-use Rattle.std.proofs.Common.{Bool, true, false, ◌≡◌, ℕ, IsTrue, IsFalse, List, [], ◌∷◌, Option, Some, None, refl}
+use Rattle.std.proofs.Common.{Bool, true, false, ◌≡◌, ℕ, IsTrue, IsFalse, List, [], ◌∷◌, Option, Some, None, refl, subst, sym}
 use Rattle.latex2mathml_tex_grammar.specs.{Atoms.Atom, Delimiters.delimiter_of}
 use Rattle.latex2mathml_tex_grammar.specs.Makes.{Core, number, Scripts, no_scripts, scripted}
 use Rattle.latex2mathml_tex_grammar.specs.{Meaning.Beside, Meaning.Change, Next.past_space, Next.follows, Next.next_are, Next.digits_next, Next.refusal_here}
-use Rattle.latex2mathml_tex_grammar.specs.Reading.{Outcome, Read, Refused, ReadsRule, rule_gives, rule_refuses, operand_read, operand_refused, core_read, core_refused, core_missing, core_stopped, atoms_read, atoms_refused, words_read, words_refused, units_taken, units_missing, unit_follows, no_unit_follows, digits_taken, delimiter_taken, delimiter_missing, group_operand, group_refused, digit_operand, other_operand, other_refused, no_operand, operand_at_end, operand_stopped, scripts_end, mark_taken, script_read, script_refused, mark_refused, ReadsAtom, on_empty_row, base_read, base_refused, text_ends, never_ended, atoms_stopped, atoms_end, atom_read, atom_refused, rest_read, change_refused, word_stands, group_of_words, formula_read, formula_refused, words_in_alphabet, no_word, word_missing, word_at_end, word_stopped, words_end, words_never_ended, words_stopped, word_read, word_refused, found_taken, found_refused, passed_over, rows_read, rows_refused, ReadsRows, rows_to_end}
+use Rattle.latex2mathml_tex_grammar.specs.Reading.{Outcome, Read, Refused, ReadsRule, ReadsWords, rule_gives, rule_refuses, operand_read, operand_refused, core_read, core_refused, core_missing, core_stopped, atoms_read, atoms_refused, words_read, words_refused, units_taken, units_missing, unit_follows, no_unit_follows, digits_taken, delimiter_taken, delimiter_missing, group_operand, group_refused, digit_operand, other_operand, other_refused, no_operand, operand_at_end, operand_stopped, scripts_end, mark_taken, script_read, script_refused, mark_refused, ReadsAtom, on_empty_row, base_read, base_refused, text_ends, never_ended, atoms_stopped, atoms_end, atom_read, atom_refused, rest_read, change_refused, word_stands, group_of_words, formula_read, formula_refused, words_in_alphabet, no_word, word_missing, word_at_end, word_stopped, words_end, words_never_ended, words_stopped, word_read, word_refused, found_taken, found_refused, passed_over, rows_read, rows_refused, ReadsRows, rows_to_end}
 use Rattle.latex2mathml_tex_grammar.specs.Refusal.{Kind, MissingArgument, UnclosedBrace, MissingDelimiter, Refusal, refusal_at}
 use Rattle.latex2mathml_tex_grammar.specs.Rests.{Rest, GoesOnIn, NoRest, finished, rest_of}
 use Rattle.latex2mathml_tex_grammar.specs.Rows.{Operand, Row, empty_row, single}
@@ -16,7 +16,7 @@ use Rattle.latex2mathml_tex_grammar.specs.Tables.{Lines}
 use Rattle.latex2mathml_tex.specs.Tables.{RowsLead}
 use Rattle.latex2mathml_tex_grammar.specs.Symbols.{InText, InScript, Alphabet}
 use Rattle.latex2mathml_tex_grammar.specs.Units.{Piece, Unit, Units, Next, End, Stop}
-use Rattle.latex2mathml_tex_grammar.specs.Words.{Word, Words, no_words, with_accent_ended, with_word, IsWord, BeginsGroup, EndsGroup, BeginsFormula, TakesWords, NoWord, word_rule}
+use Rattle.latex2mathml_tex_grammar.specs.Words.{Word, Words, no_words, with_accent_ended, with_word, IsWord, BeginsGroup, Changed, EndsGroup, BeginsFormula, TakesWords, NoWord, alphabet_behind, word_rule}
 use Rattle.latex2mathml_tex.specs.Levels.{AtomMade, CoreMade, FollowsChange, Leads, Level, PartMade, RestLeads, RuleLeads, ScriptsLead, Then, WordLeads, as_operand, as_words, row, operand, part, words}
 use Rattle.latex2mathml_tex.specs.Levels.{core as core_level}
 
@@ -227,7 +227,11 @@ module _ {place : ℕ} {a : Option Alphabet} {K : Outcome Words → Type 0} {ws 
   pub words_halted : {r : Refusal} → PartMade (words place a K) (Read ws (Stop r)) → K (Refused r)
   words_halted k = k _ words_stopped
 
-  -- another part of words is due
-  pub word_due : {u : Unit} {l : Units} → IsFalse (is_close u.piece) → PartMade (words place a K) (Read ws (Next u l)) → WordLeads (words place a K) place a ws (Next u l)
-  word_due e k (Read vs m) d = λ o ds. k o (word_read e d ds)
-  word_due e k (Refused r) d = k _ (word_refused e d)
+  -- another part of words is due, in the same alphabet as those after it
+  pub word_due : {u : Unit} {l : Units} → IsFalse (is_close u.piece) → alphabet_behind a u.piece ≡ a → PartMade (words place a K) (Read ws (Next u l)) → WordLeads (words place a K) place a ws (Next u l)
+  word_due e same k (Read vs m) d = λ o ds. k o (word_read e d (subst (λ b. ReadsWords place b vs m o) (sym same) ds))
+  word_due e same k (Refused r) d = k _ (word_refused e d)
+
+  -- the words after a change are in its alphabet
+  pub changed_due : {u : Unit} {l : Units} {b : Alphabet} → IsFalse (is_close u.piece) → word_rule a u.piece ≡ IsWord (Changed b) → alphabet_behind a u.piece ≡ Some b → PartMade (words place a K) (Read ws (Next u l)) → PartMade (words place (Some b) K) (Read ws l)
+  changed_due {l = l} e rule behind k = λ o ds. k o (word_read e (word_stands rule) (subst (λ c. ReadsWords place c ws l o) (sym behind) ds))

@@ -11,13 +11,13 @@ use Rattle.latex2mathml_tex_grammar.specs.Units.{Character, Command, Open, Piece
 use Rattle.latex2mathml_builder.specs.Built.{Built, elements_in}
 use Rattle.latex2mathml_tex_atoms.specs.Wording.{Replaced}
 use Rattle.latex2mathml_tex_grammar.specs.Words as words
-use Rattle.latex2mathml_tex_grammar.specs.Words.{with_accent_ended, Accented, BeginsFormula, IsWord, NoWord, Shown, font_in, meaning_rule, word_character, word_rule, word_space}
+use Rattle.latex2mathml_tex_grammar.specs.Words.{with_accent_ended, Accented, BeginsFormula, IsWord, NoWord, Shown, alphabet_after, alphabet_behind, font_in, meaning_rule, word_character, word_rule, word_space}
 use Rattle.latex2mathml_tex_units.specs.Errors.{refusal_of}
 use Rattle.latex2mathml_tex_commands.specs.Meanings.{alphabet_of}
 use Rattle.latex2mathml_tex.specs.{Frames.Start, Levels.Leads, Levels.PartMade}
 use Rattle.latex2mathml_tex_atoms.specs.Models.{begun, words_with}
 use Rattle.latex2mathml_tex_commands.specs.Meanings
-use Rattle.latex2mathml_tex.specs.Steps.{BeginsWordOf, HasElements, Holds, Advances, elements_of, left_of, level, level_within}
+use Rattle.latex2mathml_tex.specs.Steps.{BeginsWordOf, GoesOnInBraces, IsChange, HasElements, Holds, Advances, elements_of, left_of, level, level_within}
 use Rattle.latex2mathml_tex_atoms.specs.declared.{atoms.Row.Row as CodeRow, atoms.Words.Words as CodeWords}
 use Rattle.latex2mathml_tex.specs.declared.{parse.Parser.Parser, parse.State.State, parse.frames.Frames.Frames}
 use Rattle.latex2mathml_tex_commands.specs.declared.meaning.{Alphabet.Alphabet as CodeAlphabet, Change.Change as CodeChange, Meaning.Meaning as CodeMeaning, Symbol.Symbol as CodeSymbol}
@@ -63,6 +63,17 @@ module _ (a : Option Alphabet) (name : List ℕ) where
 
     pub unknown : meaning_of name ≡ None → word_rule a (Command name) ≡ NoWord (UnknownCommand name)
     unknown e = rw (other, plain, e) refl
+
+    -- most meanings change no alphabet
+    kept_by : (m : CodeMeaning) → ((b : CodeAlphabet) → m ≡ code_meaning.Changes (code_change.ToAlphabet b) → ⊥) → alphabet_after a (meaning_rule (font_in a) name (Some (Meanings.meaning_of m))) ≡ a
+    kept_by (code_meaning.Changes (code_change.ToAlphabet b)) none = absurd (none b refl)
+    kept_by m none = refl
+
+    pub meaning_keeps : (m : CodeMeaning) → meaning_of name ≡ Some (Meanings.meaning_of m) → ((b : CodeAlphabet) → m ≡ code_meaning.Changes (code_change.ToAlphabet b) → ⊥) → alphabet_behind a (Command name) ≡ a
+    meaning_keeps m e none = rw (other, plain, e) (kept_by m none)
+
+    pub changes : (b : CodeAlphabet) → meaning_of name ≡ Some (Meanings.meaning_of (code_meaning.Changes (code_change.ToAlphabet b))) → IsChange a (Command name) (alphabet_of b)
+    changes b e = record { rule = rw (other, plain, e) refl; behind = rw (other, plain, e) refl }
 
     -- most meanings cannot appear in words
 
@@ -121,13 +132,16 @@ module _ (a : Option Alphabet) (c : ℕ) where
 
 module _ (s : Start) (p : Parser) (ws : CodeWords) (place : ℕ) where
   -- words in braces
-  pub group_begun : (a : Option CodeAlphabet) (fr : Frames) → fr.stack.items ≡ p.frames.stack.items ++ frame.Words place a ∷ [] → BeginsWordOf ws Open place (option_map alphabet_of a) s p → Holds s (record p { frames = fr }) (state.Words ws)
-  group_begun a fr e g =
+  pub group_begun : {a : Option Alphabet} → BeginsWordOf ws Open place a s p → GoesOnInBraces ws place a s p
+  group_begun g = record { style = g.style; leads = group_of_words_due (level ws.count s p) {u = grammar.unit Open place} refl g.leads }
+
+  -- their frame
+  pub braces_held : (a : Option CodeAlphabet) (fr : Frames) → fr.stack.items ≡ p.frames.stack.items ++ frame.Words place a ∷ [] → GoesOnInBraces ws place (option_map alphabet_of a) s p → Holds s (record p { frames = fr }) (state.Words ws)
+  braces_held a fr e g =
       let xs = drop ws.count (elements_of p) in
-      let due = group_of_words_due (level ws.count s p) {u = grammar.unit Open place} refl g.leads in
       record {
         style = g.style;
-        claims = rw e (subst (λ l. PartMade l (Read (words_with ws (elements_of p)) (left_of p))) (sym (pushed s p.frames.stack.items (frame.Words place a) xs)) due);
+        claims = rw e (subst (λ l. PartMade l (Read (words_with ws (elements_of p)) (left_of p))) (sym (pushed s p.frames.stack.items (frame.Words place a) xs)) g.leads);
       }
 
   -- a formula, after words whose accent has ended

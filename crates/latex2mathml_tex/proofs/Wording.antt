@@ -9,13 +9,13 @@ use Rattle.latex2mathml_tex_grammar.specs.Rules.{gives}
 use Rattle.latex2mathml_tex_grammar.specs.Next.{past_space}
 use Rattle.latex2mathml_tex_grammar.specs.Units as grammar
 use Rattle.latex2mathml_tex_grammar.specs.Units.{Piece}
-use Rattle.latex2mathml_tex_grammar.specs.Words.{Accented, Word, Words, Formula, Nothing, IsWord, NoWord, TakesWords, with_accent_ended, word_rule, words_element}
+use Rattle.latex2mathml_tex_grammar.specs.Words.{Accented, Word, Words, Changed, Formula, IsWord, NoWord, TakesWords, alphabet_behind, with_accent_ended, word_rule, words_element}
 use Rattle.latex2mathml_tex_units.specs.{Errors.refusal_of, Left.units_at}
 use Rattle.latex2mathml_tex.specs.Frames.{Start, Whole, inside}
 use Rattle.latex2mathml_tex.specs.Levels.{Level, PartMade, WordLeads, words}
 use Rattle.latex2mathml_tex_commands.specs.Meanings.{alphabet_of, style_of}
 use Rattle.latex2mathml_tex_atoms.specs.{Models.core_with, Models.row_with, Models.top, Models.words_with, Shapes.IsPut}
-use Rattle.latex2mathml_tex.specs.Steps.{Begins, BeginsWordOf, CanMake, EndsGroupOf, Follows, Holds, WordGiven, core_made, elements_of, left_of, level, to_do, words_made}
+use Rattle.latex2mathml_tex.specs.Steps.{Begins, BeginsWordOf, CanMake, EndsGroupOf, Follows, GoesOnInBraces, IsChange, Holds, WordGiven, core_made, elements_of, left_of, level, to_do, words_made}
 use Rattle.latex2mathml_tex_units.specs.declared.input.Input.{Input}
 use Rattle.latex2mathml_tex_commands.specs.declared.meaning.Alphabet.{Alphabet as CodeAlphabet}
 use Rattle.latex2mathml_tex_atoms.specs.declared.{atoms.Core.Core as CodeCore, atoms.Row.Row as CodeRow, atoms.Words.Words as CodeWords}
@@ -28,7 +28,7 @@ use Rattle.latex2mathml_tex.specs.Innermost.{IsInnermost, none_begun, on_top}
 use Rattle.latex2mathml_tex_commands.specs.declared.meaning.Style.{Style as CodeStyle}
 use Rattle.latex2mathml_tex.specs.declared.parse.frames.Frames.{Frames}
 use Rattle.latex2mathml_tex_grammar.specs.Starts.{is_close}
-use Rattle.latex2mathml_tex.proofs.Leading.{given, word_given, word_refused_at, words_ended, words_halted, words_in_alphabet_due, words_unended, word_due}
+use Rattle.latex2mathml_tex.proofs.Leading.{changed_due, given, word_given, word_refused_at, words_ended, words_halted, words_in_alphabet_due, words_unended, word_due}
 use Rattle.latex2mathml_tex_atoms.specs.Wording.{Replaced}
 use Rattle.latex2mathml_tex_atoms.proofs.Wording.{drop_more, take_more}
 use Rattle.latex2mathml_tex.proofs.Marks as marks
@@ -111,7 +111,7 @@ pub words_refused : (s : Start) (p q : Parser) (n : ℕ) (r : Refusal) → s.sty
 words_refused s p q n r e f h k = record { style = e ∙ ap style_of (sym f); claims = rw h (part_refuses s p n r k) }
 
 -- nothing is put after words
-pub words_stay : (s : Start) (p : Parser) (ws : CodeWords) → WordGiven ws Nothing s p → Holds s p (state.Words ws)
+pub words_stay : (s : Start) (p : Parser) (ws : CodeWords) {b : Alphabet} → WordGiven ws (Changed b) s p → Holds s p (state.Words ws)
 words_stay s p ws g = record { style = g.style; claims = g.leads }
 
 -- What a unit is in words
@@ -154,10 +154,13 @@ module _ (s : Start) (p : Parser) (ws : CodeWords) (place : ℕ) (a : Option Cod
     claims = rw g (all_refuse (refusal_at UnclosedBrace place) s (reverse others) (drop ws.count (elements_of p)) (marks.part_refuses (refusal_at UnclosedBrace place) around (words_unended {K = PartMade around} (rw e at within_braces))));
   }
 
-  pub word_behind : (u : grammar.Unit) (l : grammar.Units) → left_of p ≡ grammar.Next u l → IsFalse (is_close u.piece) → Holds s p (state.Word ws place a)
-  word_behind u l e other = record {
+  pub alphabet_changed : (i : Input) (fr : Frames) (u : grammar.Unit) (b : Alphabet) → fr.stack.items ≡ others → left_of p ≡ grammar.Next u (units_at i) → IsFalse (is_close u.piece) → IsChange (option_map alphabet_of a) u.piece b → GoesOnInBraces ws place (Some b) s (record p { input = i; frames = fr })
+  alphabet_changed i fr u b same e other change = record { style = h.style; leads = rw same (changed_due {K = PartMade around} other change.rule change.behind (rw e at within_braces)) }
+
+  pub word_behind : (u : grammar.Unit) (l : grammar.Units) → left_of p ≡ grammar.Next u l → IsFalse (is_close u.piece) → alphabet_behind (option_map alphabet_of a) u.piece ≡ option_map alphabet_of a → Holds s p (state.Word ws place a)
+  word_behind u l e other kept = record {
     style = h.style;
-    claims = out_of_frame (λ m. WordLeads m place (option_map alphabet_of a) (words_with ws (elements_of p)) (left_of p)) s p.style h.style p.frames.stack.items others (frame.Words place a) (drop ws.count (elements_of p)) inner (rw e (word_due {K = PartMade around} other (rw e at within_braces)));
+    claims = out_of_frame (λ m. WordLeads m place (option_map alphabet_of a) (words_with ws (elements_of p)) (left_of p)) s p.style h.style p.frames.stack.items others (frame.Words place a) (drop ws.count (elements_of p)) inner (rw e (word_due {K = PartMade around} other kept (rw e at within_braces)));
   }
 
   pub word_stops : (r : Refusal) → left_of p ≡ grammar.Stop r → Holds s p (state.Word ws place a)

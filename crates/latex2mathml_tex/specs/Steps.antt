@@ -19,7 +19,7 @@ use Rattle.latex2mathml_tex_grammar.specs.Scanning.{Spot, BeforeRow, Given, Miss
 use Rattle.latex2mathml_attributes.specs.declared.columns.Columns.{Columns}
 use Rattle.latex2mathml_tex_commands.specs.declared.meaning.Style.{Style}
 use Rattle.latex2mathml_tex_grammar.specs.Rules.{Rule, a_number, gives, rule, styled, takes_delimiter}
-use Rattle.latex2mathml_tex_grammar.specs.{Symbols.Alphabet, Symbols.Class, Words.Word, Words.with_accent_ended, Words.with_word}
+use Rattle.latex2mathml_tex_grammar.specs.{Symbols.Alphabet, Symbols.Class, Words.Changed, Words.IsWord, Words.Word, Words.alphabet_behind, Words.with_accent_ended, Words.with_word, Words.word_rule}
 use Rattle.latex2mathml_tex_grammar.specs.Starts as starts
 use Rattle.latex2mathml_tex_grammar.specs.Units as grammar
 use Rattle.latex2mathml_tex_grammar.specs.{Formulas.shown}
@@ -28,7 +28,7 @@ use Rattle.latex2mathml_tex_units.specs.{Errors.refusal_of, Taking.piece_of, Tak
 use Rattle.latex2mathml_tex.specs.Innermost.{IsInnermost}
 use Rattle.latex2mathml_tex.specs.Frames.{RowMade, ScriptMade, Start, Whole, after_first, base_of, context_at, element_count, ending_count, ending_of, first_count, inside, primes_put, within}
 use Rattle.latex2mathml_tex_units.specs.Left.{unit_count, units_at}
-use Rattle.latex2mathml_tex.specs.Levels.{AtomMade, CoreMade, Leads, Level, OperandMade, PartMade, RestLeads, RuleLeads, ScriptsLead, Then, WordLeads, as_atom}
+use Rattle.latex2mathml_tex.specs.Levels.{AtomMade, CoreMade, Leads, Level, OperandMade, PartMade, RestLeads, RuleLeads, ScriptsLead, Then, WordLeads, as_atom, words}
 use Rattle.latex2mathml_tex_commands.specs.Meanings.{alphabet_of, limit_place_of, style_of}
 use Rattle.latex2mathml_tex_atoms.specs.Models.{context_of, core_with, kind_of, operand_with, row_count, row_with, script_count, scripts_with, top, words_with}
 use Rattle.latex2mathml_tex.specs.Numbers.{after_point}
@@ -281,6 +281,16 @@ pub record BeginsWordOf (ws : CodeWords) (piece : grammar.Piece) (place : ℕ) (
   pub style : s.style ≡ style_of p.style
   pub taken_at : ℕ
   pub leads : WordLeads (level ws.count s p) taken_at a (words_with ws (elements_of p)) (Next (grammar.unit piece place) (left_of p))
+
+-- in words in an alphabet, the piece changes what follows it in its group to another one
+pub record IsChange (a : Option Alphabet) (piece : grammar.Piece) (other : Alphabet) : Type 0 where
+  pub rule : word_rule a piece ≡ IsWord (Changed other)
+  pub behind : alphabet_behind a piece ≡ Some other
+
+-- Words in braces that began at a place go on in this alphabet.
+pub record GoesOnInBraces (ws : CodeWords) (place : ℕ) (a : Option Alphabet) (s : Start) (p : Parser) : Type 0 where
+  pub style : s.style ≡ style_of p.style
+  pub leads : PartMade (words place a (PartMade (level ws.count s p))) (Read (words_with ws (elements_of p)) (left_of p))
 
 -- The words followed by this part lead on.
 pub record WordGiven (ws : CodeWords) (w : Word) (s : Start) (p : Parser) : Type 0 where

@@ -10,7 +10,7 @@ use Rattle.latex2mathml_tex_grammar.specs.Starts.{Step, GoesOn, TakesOperand, Fo
 use Rattle.latex2mathml_tex_grammar.specs.ExpansionLaws.{EachPiece}
 use Rattle.latex2mathml_tex_grammar.specs.Tables.{Lines}
 use Rattle.latex2mathml_tex_grammar.specs.Units.{Piece, Command, Character, Units, is_forbidden}
-use Rattle.latex2mathml_tex_grammar.specs.Words.{Word, Shown, Formula, Accented, Nothing, WordRule, IsWord, Words}
+use Rattle.latex2mathml_tex_grammar.specs.Words.{Word, Shown, Formula, Accented, Changed, WordRule, IsWord, Words}
 
 -- Units
 
@@ -80,7 +80,7 @@ abbrev pub IsAllowedWord : Word → Type 0
 IsAllowedWord (Shown font text) = IsAllowed text
 IsAllowedWord (Formula x) = HasAllowedTexts x
 IsAllowedWord (Accented accent) = IsAllowed (text accent)
-IsAllowedWord Nothing = ⊤
+IsAllowedWord (Changed alphabet) = ⊤
 
 -- the outcome is something that is allowed, with units that are allowed, or it is a refusal
 abbrev pub IsAllowedOutcome : {A : Type 0} → (A → Type 0) → Outcome A → Type 0

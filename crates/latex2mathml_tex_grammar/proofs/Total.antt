@@ -18,7 +18,7 @@ use Rattle.latex2mathml_elements.specs.Columns.{Columns}
 use Rattle.latex2mathml_tex_grammar.specs.Scanning.{Spot, BeforeStar, BeforeLength, BeforeRow, Deed, Passes, Adds, Ends, Leaves, Misses, Refuses, deed, done, may_end, found_at_end, with_character, Found, Given, Missing, scan, behind_found, past, past_break, past_gap}
 use Rattle.latex2mathml_tex_grammar.specs.Symbols.{InText, InScript, Alphabet}
 use Rattle.latex2mathml_tex_grammar.specs.Units.{Piece, Space, Open, Close, Command, Character, Unit, Units, Next, End, Stop}
-use Rattle.latex2mathml_tex_grammar.specs.Words.{Words, no_words, Formula, with_accent_ended, with_word, WordRule, IsWord, BeginsGroup, EndsGroup, BeginsFormula, TakesWords, NoWord, word_rule}
+use Rattle.latex2mathml_tex_grammar.specs.Words.{Words, no_words, Formula, with_accent_ended, with_word, WordRule, IsWord, BeginsGroup, EndsGroup, BeginsFormula, TakesWords, NoWord, alphabet_behind, word_rule}
 use Rattle.latex2mathml_tex_grammar.proofs.{Spaces.next_stays, Unique.one_atoms}
 
 -- how many units there are
@@ -368,7 +368,7 @@ word_total k has place a ws (Stop r) h = is_refused r word_stopped
 -- a part of words that has an outcome, and then the words after it
 word_after : (k : ℕ) → HasOutcomes k → (place : ℕ) (a : Option Alphabet) (ws : Words) (u : Unit) (l : Units) → size l < k → is_close u.piece ≡ false → Comes Words (ReadsWord place a ws (Next u l)) (size l) → Comes Words (ReadsWords place a ws (Next u l)) (size (Next u l))
 word_after k has place a ws u l h s (is_refused r d) = is_refused r (word_refused s d)
-word_after k has place a ws u l h s (comes_to vs m fits d) = with_outcome (has.of_words place a vs m (omega arith)) (omega arith) (λ o. word_read s d)
+word_after k has place a ws u l h s (comes_to vs m fits d) = with_outcome (has.of_words place (alphabet_behind a u.piece) vs m (omega arith)) (omega arith) (λ o. word_read s d)
 
 words_total : (k : ℕ) → HasOutcomes k → (place : ℕ) (a : Option Alphabet) (ws : Words) (l : Units) → size l < suc k → Comes Words (ReadsWords place a ws l) (size l)
 words_total k has place a ws (End at) h = is_refused _ words_never_ended

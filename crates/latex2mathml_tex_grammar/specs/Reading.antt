@@ -14,7 +14,7 @@ use Rattle.latex2mathml_tex_grammar.specs.Scanning.{Spot, BeforeRow, Given, Miss
 use Rattle.latex2mathml_tex_grammar.specs.Symbols.{InText, InScript, Alphabet}
 use Rattle.latex2mathml_tex_grammar.specs.{Tables.Lines, Tables.begun_cell, Tables.cell_of, Tables.a_row, Tables.with_last}
 use Rattle.latex2mathml_tex_grammar.specs.Units.{Piece, Unit, Units, Next, End, Stop}
-use Rattle.latex2mathml_tex_grammar.specs.Words.{Word, Formula, Words, no_words, with_accent_ended, with_word, IsWord, BeginsGroup, EndsGroup, BeginsFormula, TakesWords, NoWord, word_rule}
+use Rattle.latex2mathml_tex_grammar.specs.Words.{Word, Formula, Words, no_words, with_accent_ended, with_word, IsWord, BeginsGroup, EndsGroup, BeginsFormula, TakesWords, NoWord, alphabet_behind, word_rule}
 
 -- what was read, with the units that are left, or the refusal
 pub data Outcome (A : Type 0) : Type 0 where
@@ -345,7 +345,7 @@ mutual
     word_read : {place : ℕ} {a : Option Alphabet} {ws vs : Words} {l m : Units} {u : Unit} {o : Outcome Words}
         → IsFalse (is_close u.piece)
         → ReadsWord place a ws (Next u l) (Read vs m)
-        → ReadsWords place a vs m o
+        → ReadsWords place (alphabet_behind a u.piece) vs m o
         → ReadsWords place a ws (Next u l) o
     word_refused : {place : ℕ} {a : Option Alphabet} {ws : Words} {l : Units} {u : Unit} {r : Refusal}
         → IsFalse (is_close u.piece)

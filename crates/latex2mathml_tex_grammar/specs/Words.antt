@@ -19,12 +19,13 @@ abbrev pub font_in : Option Alphabet → Font
 font_in (Some Monospace) = Typewriter
 font_in alphabet = Usual
 
--- a part of words: a text in a font, the element of a formula, an accent on the next character, or nothing
+-- a part of words: a text in a font, the element of a formula, an accent on the next character, or a change to this alphabet up to
+-- the end of the group, which is nothing by itself
 pub data Word : Type 0 where
   Shown : Font → List ℕ → Word
   Formula : Element → Word
   Accented : ℕ → Word
-  Nothing : Word
+  Changed : Alphabet → Word
 
 -- what a unit is in words
 pub data WordRule : Type 0 where
@@ -62,13 +63,13 @@ character_rule alphabet c =
     else if c == byte "_" || c == byte "^" || c == byte "&" || c == byte "#" then NoWord (CharacterInWords c)
     else IsWord (Shown (font_in alphabet) (text (word_character alphabet c)))
 
--- what a command is in words in this font, by its meaning. A change of the alphabet is ignored.
+-- what a command is in words in this font, by its meaning
 abbrev pub meaning_rule : Font → List ℕ → Option Meaning → WordRule
 meaning_rule font name (Some (Spacing width)) = IsWord (word_space font)
 meaning_rule font name (Some (Shows sign)) = IsWord (Formula (single InText (symbol None sign).atom).element)
 meaning_rule font name (Some Dots) = IsWord (Formula (single InText (symbol None low_dots).atom).element)
 meaning_rule font name (Some (TakesWordsIn alphabet)) = TakesWords alphabet
-meaning_rule font name (Some (Changes (ToAlphabet alphabet))) = IsWord Nothing
+meaning_rule font name (Some (Changes (ToAlphabet alphabet))) = IsWord (Changed alphabet)
 meaning_rule font name (Some meaning) = NoWord (CommandInWords name)
 meaning_rule font name None = NoWord (UnknownCommand name)
 
@@ -89,6 +90,16 @@ word_rule alphabet Open = BeginsGroup
 word_rule alphabet Close = EndsGroup
 word_rule alphabet (Character c) = character_rule alphabet c
 word_rule alphabet (Command name) = command_rule (font_in alphabet) name (entry_of_name text_commands name)
+
+-- the alphabet of the words after a unit in the same group, where the unit is this in words in an alphabet
+abbrev pub alphabet_after : Option Alphabet → WordRule → Option Alphabet
+alphabet_after alphabet (IsWord (Changed other)) = Some other
+alphabet_after alphabet rule = alphabet
+
+-- the alphabet of the words after a unit in the same group: only a command changes it
+abbrev pub alphabet_behind : Option Alphabet → Piece → Option Alphabet
+alphabet_behind alphabet (Command name) = alphabet_after alphabet (word_rule alphabet (Command name))
+alphabet_behind alphabet piece = alphabet
 
 -- Words so far: their elements, the last one first; the font of the last one, if it is a text; and the accent that the next
 -- character gets, if there is one.
@@ -152,7 +163,7 @@ abbrev pub with_word : Words → Word → Words
 with_word ws (Shown font character) = with_character font ws character
 with_word ws (Formula x) = with_formula (with_accent_ended ws).elements x
 with_word ws (Accented accent) = record (with_accent_ended ws) { accent = Some accent }
-with_word ws Nothing = ws
+with_word ws (Changed alphabet) = ws
 
 -- words as one element; no words are an empty text
 abbrev pub words_element : List Element → Element

@@ -1,15 +1,16 @@
 //! Words: what is in `\text` and the like.
-ghost use Rattle.std.specs.Prelude.{◌≡◌, ◌≢◌, ◌==◌, ◌||◌, false, true, OnOk, MatchOption, Some, None, option_map, take};
+ghost use Rattle.std.specs.Prelude.{◌≡◌, ◌≢◌, ◌==◌, ◌||◌, false, true, OnOk, IfSome, MatchOption, Option, Some, None, option_map, take};
 ghost use Rattle.std.specs.Str.{byte};
 ghost use Rattle.latex2mathml_tex_grammar.specs.Makes;
 ghost use Rattle.latex2mathml_tex_grammar.specs.Makes.{core};
-ghost use Rattle.latex2mathml_tex_grammar.specs.Words.{Formula, Shown, font_in, text_atom};
+ghost use Rattle.latex2mathml_tex_grammar.specs.Words.{Formula, Shown, alphabet_behind, font_in, text_atom};
+ghost use Rattle.latex2mathml_tex_grammar.specs.Symbols;
 ghost use Rattle.latex2mathml_tex_grammar.specs.Words as words;
 ghost use Rattle.latex2mathml_tex_grammar.specs.Refusal.{CommandInWords, refusal_at};
 ghost use Rattle.latex2mathml_tex_grammar.specs.{Rows.single, Rules.gives, Symbols.InText, Units.Character, Units.Close, Units.Command};
 ghost use Rattle.latex2mathml_tex_units.specs.{Errors.refusal_of, Taking.piece_of};
 ghost use Rattle.latex2mathml_tex_commands.specs.Meanings.{alphabet_of, symbol_of};
-ghost use Rattle.latex2mathml_tex.specs.Steps.{Begins, BeginsWordOf, CanMake, EndsGroupOf, HoldsIn, Advances, LeadsOn, Ready, WordGiven, core_made, elements_of, words_made};
+ghost use Rattle.latex2mathml_tex.specs.Steps.{Begins, BeginsWordOf, CanMake, EndsGroupOf, GoesOnInBraces, HoldsIn, IsChange, Advances, LeadsOn, Ready, WordGiven, core_made, elements_of, words_made};
 
 use crate::parse::frames::{Ending, Frame};
 use crate::parse::symbols::put_symbol;
@@ -81,16 +82,31 @@ impl<'a> Parser<'a> {
         ensures step { Advances 13 self.old self.new next.new result }
     {
         match unit.piece {
-            Piece::Open => {
-                self.frames.push(Frame::Words(unit.place, alphabet))?;
-                *next = State::Words(words);
-                Ok(())
-            }
+            Piece::Open => self.words_in_braces(words, unit.place, alphabet, next),
             Piece::Space => self.show(words, alphabet, '\u{a0}', next),
             Piece::Character(c) => self.character_in_words(words, c, unit.place, alphabet, next),
             Piece::Command(name) => self.word_command(words, name, unit.place, alphabet, next),
             Piece::Close => unreachable!(),
         }
+    }
+
+    /// Goes on with words in braces, which began at this place, in an alphabet if there is one.
+    fn words_in_braces(
+        &mut self,
+        words: Words,
+        place: usize,
+        alphabet: Option<Alphabet>,
+        next: &mut State,
+    ) -> Result<(), AllocError>
+        requires { CanMake words_made words.count self.old }
+        ensures holds { LeadsOn
+            (GoesOnInBraces words place (option_map alphabet_of alphabet))
+            self.old self.new next.new result }
+        ensures step { Advances 13 self.old self.new next.new result }
+    {
+        self.frames.push(Frame::Words(place, alphabet))?;
+        *next = State::Words(words);
+        Ok(())
     }
 
     /// Begins a part of words with a character.
@@ -219,7 +235,14 @@ impl<'a> Parser<'a> {
                         let _ = self.frames.take(self.style);
                         self.end_group(words, next)
                     }
-                    _ => self.word(words, place, alphabet, next),
+                    piece => match alphabet_change(piece) {
+                        Some(other) => {
+                            self.input.advance();
+                            let _ = self.frames.take(self.style);
+                            self.words_in_braces(words, place, Some(other), next)
+                        }
+                        None => self.word(words, place, alphabet, next),
+                    },
                 },
                 Next::End(_) => {
                     *next = self.refuse(TexErrorKind::UnclosedBrace, place);
@@ -305,6 +328,28 @@ impl<'a> Parser<'a> {
         }
         *next = State::Core(Core::new(Kind::Plain(Class::Ordinary), false));
         Ok(())
+    }
+}
+
+/// Returns the alphabet of the words after the unit in the same group, if the unit changes it.
+fn alphabet_change(piece: Piece) -> Option<Alphabet>
+    ensures changed { IfSome result (λ other. (a : Option Symbols.Alphabet)
+        → IsChange a (piece_of piece.entry) (alphabet_of other)) }
+    ensures kept { result ≡ None → (a : Option Symbols.Alphabet)
+        → alphabet_behind a (piece_of piece.entry) ≡ a }
+{
+    let Piece::Command(name) = piece else {
+        return None;
+    };
+    if let Some(_) = text_character(name) {
+        return None;
+    }
+    if let Some(_) = text_accent(name) {
+        return None;
+    }
+    match commands::look_up(name) {
+        Some(Meaning::Changes(Change::ToAlphabet(alphabet))) => Some(alphabet),
+        _ => None,
     }
 }
 

@@ -2,21 +2,17 @@ use Rattle.std.proofs.Common.{Option, ap, option_map}
 use Rattle.latex2mathml_tex_grammar.specs.{Symbols.Alphabet, Words.font_in, Words.word_rule, Words.word_space}
 use Rattle.latex2mathml_tex_commands.specs.Meanings.{alphabet_of}
 use Rattle.latex2mathml_tex_units.specs.Taking.{piece_of}
-use Rattle.latex2mathml_tex.proofs.{Taken.braces_opened_step, WordRules.group_begun, Wording.stands}
+use Rattle.latex2mathml_tex.proofs.{WordRules.group_begun, Wording.stands}
 use Rattle.latex2mathml_tex.proofs.parse.Parser.begin_word.Goals as goal
 
-pub returns-in_ok-push-in-Open-clause-holds : goal.returns-in_ok-push-in-Open-clause-holds
-returns-in_ok-push-in-Open-clause-holds c = λ s g.
-    group_begun s c.args.self.now c.args.words c.args.unit.place c.args.alphabet c.push.new.self c.in_ok-push-in-Open.ensures (rw c.in-Open.is at g)
+pub returns-in-Open-clause-holds : goal.returns-in-Open-clause-holds
+returns-in-Open-clause-holds c = λ s g. c.words_in_braces.ensures.holds s (group_begun s c.args.self.now c.args.words c.args.unit.place (rw c.in-Open.is at g))
 
 pub returns-in-Space-clause-holds : goal.returns-in-Space-clause-holds
 returns-in-Space-clause-holds c = λ s g.
     let a : Option Alphabet = option_map alphabet_of c.args.alphabet in
     let rule = ap (λ piece. word_rule a (piece_of piece)) c.in-Space.is in
     c.show.ensures.holds s (stands s c.args.self.now c.args.words (piece_of c.args.unit.piece) c.args.unit.place a (word_space (font_in a)) rule g)
-
-pub returns-in_ok-push-in-Open-clause-step : goal.returns-in_ok-push-in-Open-clause-step
-returns-in_ok-push-in-Open-clause-step c = braces_opened_step c.args.self.now c.push.new.self c.args.unit.place c.args.alphabet c.args.words c.in_ok-push-in-Open.ensures c.requires.can
 
 pub returns-in-Character-clause-holds : goal.returns-in-Character-clause-holds
 returns-in-Character-clause-holds c = λ s g. c.character_in_words.ensures.holds s (rw c.in-Character.is at g)

@@ -1,15 +1,16 @@
-use Rattle.std.proofs.Common.{◌≡◌, ◌∙◌, ◌+◌, Some, ap, arith, refl, suc}
+use Rattle.std.proofs.Common.{◌≡◌, ◌∙◌, ◌+◌, Some, ap, arith, option_map, refl, suc}
 use Rattle.latex2mathml_tex_grammar.specs.Refusal.{UnclosedBrace, refusal_at}
 use Rattle.latex2mathml_tex_grammar.specs.Starts.{is_close}
 use Rattle.latex2mathml_tex_grammar.specs.Units.{End, Next, Stop}
 use Rattle.latex2mathml_tex_units.specs.{Errors.refusal_of, Left.put_back, Left.unit_count, Left.units_at, Left.units_behind, Taking.kind_of, Taking.piece_of, Taking.unit_of}
 use Rattle.latex2mathml_tex_units.proofs.Nexts.{passed}
+use Rattle.latex2mathml_tex_commands.specs.Meanings.{alphabet_of}
 use Rattle.latex2mathml_tex.specs.Steps.{left_of}
 use Rattle.latex2mathml_tex.specs.declared.parse.frames.Frame.TheVariants as frame
 use Rattle.latex2mathml_tex.proofs.Rows.{step_within}
 use Rattle.latex2mathml_tex.proofs.WordStarts.{other_piece, taken_innermost}
 use Rattle.latex2mathml_tex.proofs.Taken.{taken_can, taken_step, text_taken}
-use Rattle.latex2mathml_tex.proofs.Wording.{braces_closed, braces_unended, word_behind, word_stops}
+use Rattle.latex2mathml_tex.proofs.Wording.{alphabet_changed, braces_closed, braces_unended, word_behind, word_stops}
 use Rattle.latex2mathml_tex.proofs.parse.Parser.deliver_words.Goals as goal
 
 pub end_accent-requires : goal.end_accent-requires
@@ -60,14 +61,43 @@ returns-in-Close c =
       step = step_within p (record p { input = i }) c.end_group.new.self c.end_group.new.next c.end_group.result 2 2 (omega (arith, left)) step;
     }
 
-pub returns-in_default-piece : goal.returns-in_default-piece
-returns-in_default-piece c =
+pub words_in_braces-requires : goal.words_in_braces-requires
+words_in_braces-requires c =
+    let p = c.args.self.now in
+    let frames = c.take-in-Some.new.self in
+    let braces = frame.Words c.in-Words.place c.in-Words.alphabet in
+    let inner = taken_innermost p.style p.frames.stack.items c.in-Words.ensures.0 frames.stack.items braces c.take-in-Some.result c.in-Words.ensures.1 c.take-in-Some.ensures in
+    let can = taken_can p frames braces inner c.args.words.count (c.args.words.count + 0) c.requires.elements c.requires.may_come.nested (omega arith) in
+    record { elements = omega (arith, can.elements); awaits = record { accepted = can.awaits.accepted; nested = can.awaits.nested } }
+
+pub returns-in-Some : goal.returns-in-Some
+returns-in-Some c =
+    let p = c.args.self.now in
+    let i = c.advance-in-Some.new.self in
+    let frames = c.take-in-Some.new.self in
+    let braces = frame.Words c.in-Words.place c.in-Words.alphabet in
+    let inner = taken_innermost p.style p.frames.stack.items c.in-Words.ensures.0 frames.stack.items braces c.take-in-Some.result c.in-Words.ensures.1 c.take-in-Some.ensures in
+    let u = c.in-Unit.unit in
+    let stands : left_of p ≡ Next (unit_of u) (units_at i) = passed c.peek.result p.input i c.peek.ensures c.advance-in-Some.ensures.left ∙ ap (λ n. put_back n (units_at i)) c.in-Unit.is in
+    let left : unit_count (left_of p) ≡ suc (unit_count (units_at i)) = ap unit_count stands in
+    let other = other_piece u.piece c.in_default-piece.not-Close in
+    let change = c.in-Some.ensures.changed (option_map alphabet_of c.in-Words.alphabet) in
+    let step = taken_step (record p { input = i }) frames braces inner 13 9 c.words_in_braces.new.self c.words_in_braces.new.next c.words_in_braces.result (omega arith) c.words_in_braces.ensures.step in
+    record {
+      holds = λ s h. c.words_in_braces.ensures.holds s (alphabet_changed s p c.args.words c.in-Words.place c.in-Words.alphabet frames.stack.items inner h i frames (unit_of u) (alphabet_of c.in-Some.other) refl stands other change);
+      step = step_within p (record p { input = i }) c.words_in_braces.new.self c.words_in_braces.new.next c.words_in_braces.result 9 2 (omega (arith, left)) step;
+    }
+
+pub returns-in-None : goal.returns-in-None
+returns-in-None c =
     let p = c.args.self.now in
     let u = c.in-Unit.unit in
     let others = units_behind p.input in
     let stands : left_of p ≡ Next (unit_of u) others = c.peek.ensures ∙ ap (λ n. put_back n others) c.in-Unit.is in
+    let other = other_piece u.piece c.in_default-piece.not-Close in
+    let kept = c.in-None.ensures.kept refl (option_map alphabet_of c.in-Words.alphabet) in
     record {
-      holds = λ s h. c.word.ensures.holds s (word_behind s p c.args.words c.in-Words.place c.in-Words.alphabet c.in-Words.ensures.0 c.in-Words.ensures.1 h (unit_of u) others stands (other_piece u.piece c.in_default-piece.not-Close));
+      holds = λ s h. c.word.ensures.holds s (word_behind s p c.args.words c.in-Words.place c.in-Words.alphabet c.in-Words.ensures.0 c.in-Words.ensures.1 h (unit_of u) others stands other kept);
       step = step_within p p c.word.new.self c.word.new.next c.word.result 1 2 (omega arith) c.word.ensures.step;
     }
 

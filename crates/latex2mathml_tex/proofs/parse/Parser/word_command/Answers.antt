@@ -2,7 +2,7 @@ use Rattle.std.proofs.Common.{◌≡◌, ◌≤◌, ◌∙◌, None, Option, Som
 use Rattle.latex2mathml_tex_grammar.specs.Makes
 use Rattle.latex2mathml_tex_grammar.specs.Refusal.{UnknownCommand, refusal_at}
 use Rattle.latex2mathml_tex_grammar.specs.{Dots.low_dots, Rows.single, Symbols.Alphabet, Symbols.InText, Units.Command}
-use Rattle.latex2mathml_tex_grammar.specs.Words.{Accented, Formula, Nothing, Shown, font_in, with_accent_ended, word_space}
+use Rattle.latex2mathml_tex_grammar.specs.Words.{Accented, Formula, Shown, font_in, with_accent_ended, word_space}
 use Rattle.latex2mathml_tex_units.specs.{Errors.refusal_of, Left.unit_count, Left.units_at}
 use Rattle.latex2mathml_tex.specs.Steps.{left_of}
 use Rattle.latex2mathml_tex_commands.specs.Meanings
@@ -97,7 +97,7 @@ returns-in-ToAlphabet-clause-holds c = λ s g.
     let name = c.args.name.now in
     let is = c.in-Changes.is ∙ ap code_meaning.Changes c.in-ToAlphabet.is in
     let meant = c.in-Some-look_up.ensures ∙ ap (λ m. Some (Meanings.meaning_of m)) is in
-    words_stay s c.args.self.now c.args.words (stands s c.args.self.now c.args.words (Command name) c.args.place a Nothing (command_meant a name (sym c.in_default.ensures) (sym c.in_default-text_accent.ensures) _ meant) g)
+    words_stay s c.args.self.now c.args.words (stands s c.args.self.now c.args.words (Command name) c.args.place a _ (command_meant a name (sym c.in_default.ensures) (sym c.in_default-text_accent.ensures) _ meant) g)
 
 pub returns-in_default-change : goal.returns-in_default-change
 returns-in_default-change c =
