@@ -58,7 +58,7 @@ EQUALLY = 0.02
 LETTERS = dict.fromkeys([r"\Delta c", r"c\Delta", r"c\Delta c", r"2\Delta\Gamma c", r"\mathrm{d}c", r"c\mathrm{d}", r"\mathrm{d}\mathbf{c}",
                          r"{\rm d}c", r"\rm dc\mit c", r"\Delta_c c", r"c^c\Delta^c", r"\mathrm{d}^c c\,\mathrm{d}c_c"], [0])
 
-# Words of as many characters as one another, and how many ems wider the first are than the second
+# Pairs of words that have equally many characters, and how many ems wider the first are than the second
 WORDS = {r"\texttt{i.,:| ()}\texttt{mmmmmmmm}": [0], r"\texttt{f(x)[0]}\text{\texttt{wwwwwww}}": [0]}
 
 # Lines and arrows, and how many ems they begin before the letters that they cover, or that are their label, and end behind these.
