@@ -15,10 +15,12 @@ from tests.test_page import judge, settle, spaces_between
 KEEPING = [r"\bigm|", r"\overset{c}{=}"]
 # commas, with space of their own and without
 COMMAS, LETTER_COMMA = [",", ";", r"\mathpunct:"], r"\mathpunct{c}"
+# binary atoms that keep their space where they have no second operand
+BINARY_KEEPING = [r"\mathbin{c}", "+_c"]
 # atoms of each class of TeX
 ATOMS = {"ordinary": ["c", "2", r"\frac cd", r"\sqrt c", "{=}", "{,}", "|"],
          "operator": [r"\sin", r"\lim_c", r"\sum", r"\int_c", r"\mathop{c}", r"\mathop{|}", r"\underbrace{c}_d"],
-         "binary": ["+", "-", r"\mathbin/", r"\mathbin{c}"],
+         "binary": ["+", "-", r"\mathbin/", *BINARY_KEEPING],
          "relation": ["=", r"\to", ":", "<_c", r"\mathrel|", r"\mathrel{c}", r"\stackrel{c}{c}", *KEEPING],
          "opening": ["(", r"\bigl("], "closing": [")", r"\rangle"], "punctuation": [*COMMAS, LETTER_COMMA],
          "inner": [r"\ldots", r"\left(c\right)", r"\left]c\right[", r"\begin{pmatrix}c\end{pmatrix}"]}
@@ -223,9 +225,9 @@ def keeps_space(left, right, one, other, in_script):
     """Whether a sign has space there where TeX leaves none, or less: docs/DECISIONS.md says why."""
     if in_script:
         return False
-    if other in KEEPING:
-        return left in {"binary", "opening", "punctuation"} and one != LETTER_COMMA
-    return left == "binary" and right in {"relation", "closing", "punctuation"}
+    if one in BINARY_KEEPING:
+        return right in {"relation", "closing", "punctuation"}
+    return other in KEEPING and left in {"opening", "punctuation"} and one != LETTER_COMMA
 
 
 class Spaces(Case):

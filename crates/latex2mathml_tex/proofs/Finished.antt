@@ -25,10 +25,10 @@ use Rattle.latex2mathml_tex.proofs.{NoAtom.row_closed, NoAtom.text_ended, Restin
 
 module _ (style : Style) (row : Row) (xs : List Element) (is : IsFinished row) where
   as_it_is : row_with row xs ≡ finished (style_of style) (row_with row xs)
-  as_it_is = rw (is.0, is.1) refl
+  as_it_is = rw (is.restyled, is.under, is.ended) refl
 
   own_elements : drop row.count xs ≡ drop (row_count row) xs
-  own_elements = let count : row_count row ≡ row.count = rw (is.0, is.1) (omega arith) in rw count refl
+  own_elements = let count : row_count row ≡ row.count = rw (is.restyled, is.under) (omega arith) in rw count refl
 
 module _ (p : Parser) (fr : Frames) (row : Row) (s : Start) (h : Holds s p state.Next) where
   -- a group or an operand ends with a closing brace

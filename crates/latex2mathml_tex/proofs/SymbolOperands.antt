@@ -4,12 +4,13 @@ use Rattle.std.proofs.lemmas.Bool.Decides.{nat_tests}
 use Rattle.std.specs.Char.{is_ascii_alphabetic, is_ascii_alphanumeric, is_ascii_digit}
 use Rattle.latex2mathml_elements.specs.Element.{Element}
 use Rattle.latex2mathml_builder.specs.Built.{Built, elements_in}
-use Rattle.latex2mathml_tex_grammar.specs.Atoms.{Atom, Nothing, Plain, atom}
+use Rattle.latex2mathml_tex_grammar.specs.Atoms.{Atom, Kind, Nothing, Plain, SignOf, atom, awaits_second, past}
 use Rattle.latex2mathml_tex_grammar.specs.Makes.{core, letter, no_scripts, number}
-use Rattle.latex2mathml_tex_grammar.specs.{Next.digits_next, Next.past_space, Symbols.Ordinary}
+use Rattle.latex2mathml_tex_grammar.specs.{Next.digits_next, Next.past_space, Rests.finished}
+use Rattle.latex2mathml_tex_grammar.specs.Symbols.{Ordinary, Operator, Binary, Relation, Opening, Closing, Punctuation, Inner}
 use Rattle.latex2mathml_tex_grammar.specs.Reading.{Read, ReadsAtom, ReadsOperand, ReadsRule, atom_read, atoms_end, base_read, digit_operand, digits_taken, group_operand, other_operand, rule_gives, scripts_end, units_missing}
 use Rattle.latex2mathml_tex_grammar.specs.Makes as makes
-use Rattle.latex2mathml_tex_grammar.specs.Rows.{empty_row, single, with_atom}
+use Rattle.latex2mathml_tex_grammar.specs.Rows.{empty_row, operand_of, single, with_atom}
 use Rattle.latex2mathml_tex_grammar.specs.Rows as rows
 use Rattle.latex2mathml_tex_grammar.specs.Rules as rules
 use Rattle.latex2mathml_tex_grammar.specs.Rules.{Context as RuleContext, InBraces, gives, rule}
@@ -57,6 +58,18 @@ module _ (k : Context) (a : Atom) (row : Row) (old xs ys : List Element) (is : x
       let others : drop 1 ys ≡ old = under_one (style_of k.style) a row xs ys longer under there ∙ ap (drop 1) is in
       whole ys (some_there (style_of k.style) a row xs ys longer under there) ∙ ap (λ y. y ∷ drop 1 ys) first ∙ ap (λ zs. (single (style_of k.style) a).element ∷ zs) others
 
+-- no second operand is to come after the only atom of a group
+nothing_awaited : (kind : Kind) → awaits_second kind (past Nothing kind) ≡ false
+nothing_awaited (SignOf Ordinary) = refl
+nothing_awaited (SignOf Operator) = refl
+nothing_awaited (SignOf Binary) = refl
+nothing_awaited (SignOf Relation) = refl
+nothing_awaited (SignOf Opening) = refl
+nothing_awaited (SignOf Closing) = refl
+nothing_awaited (SignOf Punctuation) = refl
+nothing_awaited (SignOf Inner) = refl
+nothing_awaited kind = refl
+
 -- an atom of one character in braces is the operand that it is without them
 in_braces_read : (k : RuleContext) (c place : ℕ) (x : makes.Core) (u v w : Unit) (l : Units) → u.piece ≡ Open → v.piece ≡ Character c → w.piece ≡ Close → ends_or_marks c ≡ false → ReadsRule (rule v.place k v.piece) (Next w l) (Read x (Next w l)) → ReadsOperand place k (Next u (Next v (Next w l))) (Read (single k.style x.atom) l)
 in_braces_read k c place x u v w l opens is closes plain read =
@@ -68,7 +81,10 @@ in_braces_read k c place x u v w l opens is closes plain read =
     let by : atom_start (InBraces u.place) v.piece ≡ RuleStart = rw is (begins_by_rule c plain (InBraces u.place)) in
     let none : step_next (no_scripts x.atom.kind x.limits) (past_space (Next w l)) ≡ None = rw closes refl in
     let one : ReadsAtom (InBraces u.place) k Nothing v (Next w l) (Read x.atom (Next w l)) = base_read by read (scripts_end none) in
-    group_operand opening (rw opens refl) (atom_read begins goes_on one (atoms_end closing ended))
+    let row = with_atom k.style empty_row x.atom in
+    let whole : finished k.style row ≡ row = rw (nothing_awaited x.atom.kind) refl in
+    subst (λ r. ReadsOperand place k (Next u (Next v (Next w l))) (Read (operand_of r) l)) whole
+    (group_operand opening (rw opens refl) (atom_read begins goes_on one (atoms_end closing ended)))
 
 -- there are fewer units after a lone character
 fewer : (c : ℕ) (l m : Units) → TakesLone c l m → unit_count m < unit_count l

@@ -282,7 +282,7 @@ pub record BeginsWordOf (ws : CodeWords) (piece : grammar.Piece) (place : ℕ) (
   pub taken_at : ℕ
   pub leads : WordLeads (level ws.count s p) taken_at a (words_with ws (elements_of p)) (Next (grammar.unit piece place) (left_of p))
 
--- in words in an alphabet, the piece changes what follows it in its group to another one
+-- In words in an alphabet, this piece is a change to another alphabet, in which the words after it in its group are.
 pub record IsChange (a : Option Alphabet) (piece : grammar.Piece) (other : Alphabet) : Type 0 where
   pub rule : word_rule a piece ≡ IsWord (Changed other)
   pub behind : alphabet_behind a piece ≡ Some other

@@ -1,4 +1,5 @@
 pub mod Boxing
+pub mod LastSigns
 pub mod Outlined
 pub mod Rooms
 pub mod Shaping

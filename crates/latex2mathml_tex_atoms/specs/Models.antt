@@ -111,9 +111,12 @@ row_rest row = settled_count row.restyled row.settled + under_count row.under
 abbrev pub row_count : Row → ℕ
 row_count row = row.count + row_rest row
 
--- A row that is whole at its end: no style or color was changed in it, and it is not the lower part of a fraction.
-abbrev pub IsFinished : Row → Type 0
-IsFinished row = (row.restyled ≡ None) × (row.under ≡ None)
+-- A row that is whole at its end: no style or color was changed in it, it is not the lower part of a fraction, and no binary sign
+-- ends it.
+pub record IsFinished (row : Row) : Type 0 where
+  pub restyled : row.restyled ≡ None
+  pub under : row.under ≡ None
+  pub ended : atoms.awaits_second (kind_of row.last) (before_of row.before) ≡ false
 
 -- a row without atoms
 abbrev pub empty_row : Row

@@ -345,13 +345,13 @@ impl Row {
         }
     }
 
-    /// Whether the row needs no [`finish`](crate::rests::finish): no style or color was changed in it, and it is not the lower
-    /// part of a fraction.
+    /// Whether the row needs no [`finish`](crate::rests::finish): no style or color was changed in it, it is not the lower part of
+    /// a fraction, and no binary sign ends it.
     #[inline(always)]
     pub fn is_finished(&self) -> bool
         ensures { IsTrue result → IsFinished self.now }
     {
-        self.restyled.is_none() && self.under.is_none()
+        self.restyled.is_none() && self.under.is_none() && !self.awaits_second()
     }
 
     /// Adds an atom after the others, if its element stays as it is there and no space precedes it. Returns whether the atom was
@@ -362,6 +362,9 @@ impl Row {
         ensures unchanged { result ≡ false → self.new ≡ self.old }
     {
         if !core.kind.is_apart(self.last) {
+            return false;
+        }
+        if self.awaits_second() && core.kind.ends_operand() {
             return false;
         }
         if !is_put_as_it_is(style, self.count == 0, self.before, core.kind) {

@@ -10,6 +10,7 @@ pub mod boxes;
 pub mod delimiters;
 pub mod fonts;
 pub mod fractions;
+mod operands;
 pub mod outlines;
 pub mod rests;
 pub mod shapes;

@@ -10,6 +10,7 @@ ghost use Rattle.latex2mathml_tex_atoms.specs.Models.{row_count, row_with};
 
 use crate::atoms::{Before, Kind, Restyled, Row};
 use crate::fractions::{put_fraction, style_attributes};
+use crate::operands::end_operand;
 use crate::shapes::put_row;
 use latex2mathml_attributes::around::{Around, Color};
 use latex2mathml_attributes::tag::Container;
@@ -183,12 +184,13 @@ pub fn divide(
     requires count { row_count row ≤ length (elements_in builder.old) }
     requires none { row.under ≡ None }
     ensures row { IfOk result (λ begun. row_with begun (elements_in builder.new)
-        ≡ Rests.begun_below (fraction_rule_of rule)
-        (Rests.settled (style_of style) (row_with row (elements_in builder.old)))) }
+        ≡ Rests.begun_below (fraction_rule_of rule) (Rests.settled (style_of style)
+        (Rows.with_operand_ended (row_with row (elements_in builder.old))))) }
     ensures below { IfOk result (λ begun. drop (row_count begun) (elements_in builder.new)
         ≡ drop (row_count row) (elements_in builder.old)) }
     ensures count { IfOk result (λ begun. row_count begun ≤ length (elements_in builder.new)) }
 {
+    let row = end_operand(builder, row);
     let whole = settle(builder, style, row)?;
     put_row(builder, whole.count)?;
     Ok(Row {
@@ -207,18 +209,20 @@ pub fn finish(builder: &mut Builder, style: Style, row: Row) -> Result<Row, Allo
         ≡ drop (row_count row) (elements_in builder.old)) }
     ensures count { IfOk result (λ whole. whole.count ≤ length (elements_in builder.new)) }
 {
+    let row = end_operand(builder, row);
     match (row.restyled, row.under) {
         (None, None) => Ok(row),
         _ => finish_changed(builder, style, row),
     }
 }
 
-/// Finishes a row in which the style or color was changed, or which is the lower part of a fraction.
+/// Finishes a row in which the style or color was changed, or which is the lower part of a fraction. Its last operand has ended.
 #[inline(never)]
 fn finish_changed(builder: &mut Builder, style: Style, row: Row) -> Result<Row, AllocError>
     requires { row_count row ≤ length (elements_in builder.old) }
     ensures row { IfOk result (λ whole. row_with whole (elements_in builder.new)
-        ≡ Rests.finished (style_of style) (row_with row (elements_in builder.old))) }
+        ≡ Rests.whole_fraction
+        (Rests.settled (style_of style) (row_with row (elements_in builder.old)))) }
     ensures below { IfOk result (λ whole. drop whole.count (elements_in builder.new)
         ≡ drop (row_count row) (elements_in builder.old)) }
     ensures count { IfOk result (λ whole. whole.count ≤ length (elements_in builder.new)) }

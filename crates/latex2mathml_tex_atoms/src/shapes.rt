@@ -13,6 +13,7 @@ ghost use Rattle.latex2mathml_tex_atoms.specs.Models.{before_of, core_with, join
 ghost use Rattle.latex2mathml_tex_atoms.specs.Shapes.{ChangesAt, ReplacesTop, mark_element};
 
 use crate::atoms::{Before, Core, Joining, Kind, Row, class_after};
+use crate::operands::before_atom;
 use crate::signs::{adapt, remove_space};
 use latex2mathml_attributes::attributes::{Attributes, BoxStyle, Form, Side, Space, Stretch};
 use latex2mathml_attributes::tag::{Container, Pair, Token};
@@ -239,6 +240,7 @@ pub fn with_atom(
     if longer.add(style, core) {
         return Ok(longer);
     }
+    let row = before_atom(builder, row, core.kind);
     let joining = core.kind.joining(row.last);
     let count = put_adapted(builder, style, row.count, row.before, joining, core.kind)?;
     Ok(Row {

@@ -298,9 +298,12 @@ right_brace_plain (Character c) found e = cc
 empty_braces_plain : AllPlain empty_braces
 empty_braces_plain = (left_brace_plain, (right_brace_plain, tt))
 
+in_braces_plain : AllPlain (a_left_brace ∷ delimiter_of ∷ a_right_brace ∷ [])
+in_braces_plain = (left_brace_plain, (delimiter_plain, (right_brace_plain, tt)))
+
 outer_delimiter_too : {at : Standing} (p q : ℕ) {f g : List ℕ → Rule} → ((text : List ℕ) → AlikeRules at at (f text) (g text)) → AlikeRules at at (an_outer_delimiter p f) (an_outer_delimiter q g)
 outer_delimiter_too p q h =
-    if_too (delimiter_plain, tt) h (if_too (left_brace_plain, (delimiter_plain, (right_brace_plain, tt))) h (if_too empty_braces_plain h (refuses_too refl)))
+    if_too (delimiter_plain, tt) h (if_too in_braces_plain h (if_too empty_braces_plain h (refuses_too refl)))
 
 line_too : {at : Standing} (p q : ℕ) {f g : Bool → Rule} → ((has_line : Bool) → AlikeRules at at (f has_line) (g has_line)) → AlikeRules at at (a_line p f) (a_line q g)
 line_too p q h = if_too empty_braces_plain (λ usual. h true) (length_too p q BeforeLengthInBraces (λ width. h (has_width width)))
@@ -358,7 +361,7 @@ command_too p q c name (Some StackedRelation) calm = as_is calm two_too
 command_too p q c name (Some OperatorName) calm = as_is calm (if_too (a_character_plain (byte "*") refl, tt) (λ star. one_too) one_too)
 command_too p q c name (Some Negation) calm = as_is calm (if_too (negated_of_plain, tt) (λ sign_text. gives_too) (core_too (λ x. struck_too p q x _)))
 command_too p q c name (Some Slash) calm = as_is calm one_too
-command_too p q c name (Some (Sized size class)) calm = as_is calm (delimiter_too (λ sign_text. gives_too))
+command_too p q c name (Some (Sized size class)) calm = as_is calm (if_too in_braces_plain (λ sign_text. gives_too) (delimiter_too (λ sign_text. gives_too)))
 command_too p q c name (Some Left) calm = as_is calm (delimiter_too (λ opening. atoms_too both_delimiters refl (λ row. delimiter_too (λ closing. gives_too))))
 command_too p q c name (Some Middle) calm = refuses_too refl
 command_too p q c name (Some Right) calm = refuses_too refl

@@ -11,7 +11,7 @@ use Rattle.latex2mathml_tex_grammar.specs.Atoms.{Atom, Kind, SignOf, PlusOrMinus
 use Rattle.latex2mathml_tex_grammar.specs.Fences.{Height, fenced, height_if}
 use Rattle.latex2mathml_tex_grammar.specs.Makes.{text, letter, upright_letter, number, symbol, struck, classed, on_side, accent, brace, stack, in_style, unfenced, quotient, fraction_element, fraction, lowered_divider, lowered, between_delimiters, spaced_as, Scripts, primes_text, prime_mark, behind_primes, superscript, are_stacked, fixed_base, with_scripts, before_base, base_there, scripted_atom, scripted}
 use Rattle.latex2mathml_tex_grammar.specs.Meaning.{FractionRule, Bar, NoBar, Braced, Bracketed, Bare, LimitPlace, Beside, ByStyle, Movable, Stacked}
-use Rattle.latex2mathml_tex_grammar.specs.Rows.{Row, Operand, Joining, ToWord, ToRelations, Separated, Apart, as_base, is_spaced, isolated, lone, is_empty, join, parted, put, row_element, single, with_atom, empty_row}
+use Rattle.latex2mathml_tex_grammar.specs.Rows.{Row, Operand, without_last_space, row_before, Joining, ToWord, ToRelations, Separated, Apart, as_base, is_spaced, isolated, lone, is_empty, join, parted, put, row_element, single, with_atom, empty_row}
 use Rattle.latex2mathml_tex_grammar.specs.Symbols.{Class, Ordinary, Operator, Binary, Relation, Opening, Closing, Punctuation, Inner, Style, InDisplay, InText, InScript, Alphabet, Upright, Italic, Bold, BoldItalic, DoubleStruck, Fraktur, Calligraphic, SansSerif, Monospace, Symbol, Letter, UprightLetter, Sign, BigOperator, Integral}
 use Rattle.latex2mathml_tex_grammar.proofs.Allowed.{AreAllowedElements, IsAllowedElement, IsAllowedCore, IsAllowedAtom, IsAllowedOperand, IsAllowedRow, AreAllowedScripts}
 use Rattle.latex2mathml_tex_grammar.proofs.AllowedTables.{in_alphabet_allowed, is_allowed_symbol, not_forbidden}
@@ -171,8 +171,15 @@ put_allowed Separated style before x xs h k = (h, (tt, k))
 put_allowed Apart style before x xs h k =
     (element_there_allowed style (is_empty xs) before x.kind x.element h, parted_allowed (gap style before x.kind) xs k)
 
+pub last_allowed : (loses : Bool) (xs : List Element) → AreAllowedElements xs → AreAllowedElements (without_last_space loses xs)
+last_allowed true [] h = tt
+last_allowed true (x ∷ xs) h = (without_space_allowed x h.0, h.1)
+last_allowed false xs h = h
+
 pub with_atom_allowed : (style : Style) (row : Row) (x : Atom) → IsAllowedRow row → IsAllowedAtom x → IsAllowedRow (with_atom style row x)
-with_atom_allowed style row x h k = put_allowed _ style row.before x row.elements k h
+with_atom_allowed style row x h k =
+    let before = row_before x.kind row in
+    put_allowed _ style before.before x before.elements k (last_allowed _ row.elements h)
 
 pub single_allowed : (style : Style) (x : Atom) → IsAllowedAtom x → IsAllowedOperand (single style x)
 single_allowed style x h =

@@ -5,9 +5,9 @@ use Rattle.latex2mathml_tex_grammar.specs.{Colors.color_of, Makes.fraction, Mean
 use Rattle.latex2mathml_tex_grammar.specs.Rests.{begun_anew, below, finished, in_color, in_own_style, rest_behind_name, rest_below, rest_in, rest_of, settled, settled_after}
 use Rattle.latex2mathml_tex_grammar.specs.Scanning.{BeforeArgument, ColorName, Found, Given, Missing, scan}
 use Rattle.latex2mathml_tex_grammar.specs.Units.{Units}
-use Rattle.latex2mathml_tex_grammar.specs.{Rows.Restyled, Rows.Row, Rows.Upper, Rows.empty_row, Rows.row_element, Rules.Context}
+use Rattle.latex2mathml_tex_grammar.specs.{Rows.Restyled, Rows.Row, Rows.Upper, Rows.empty_row, Rows.row_element, Rows.with_operand_ended, Rules.Context}
 use Rattle.latex2mathml_tex_grammar.proofs.Allowed.{AreAllowedElements, AreAllowedUnits, IsAllowedBefore, IsAllowedPart, IsAllowedRest, IsAllowedRow, IsAllowedUpper}
-use Rattle.latex2mathml_tex_grammar.proofs.AllowedMakes.{fraction_allowed, row_children_allowed, row_element_allowed, with_atom_allowed}
+use Rattle.latex2mathml_tex_grammar.proofs.AllowedMakes.{fraction_allowed, last_allowed, row_children_allowed, row_element_allowed, with_atom_allowed}
 use Rattle.latex2mathml_tex_grammar.proofs.AllowedRows.{given_allowed}
 
 own_style_allowed : (has_own_style : Bool) (style : Style) (xs : List Element) → AreAllowedElements xs → HasAllowedTexts (in_own_style has_own_style style xs)
@@ -33,15 +33,25 @@ upper_kept : (change : Option Restyled) (style : Style) (row : Row) → IsAllowe
 upper_kept None style row h = h
 upper_kept (Some change) style row h = h
 
+-- a row at its end
+ended_allowed : (row : Row) → IsAllowedPart row → IsAllowedPart (with_operand_ended row)
+ended_allowed row h = record { elements = last_allowed _ row.elements h.elements; before = h.before; upper = h.upper }
+
+settled_row_allowed : (style : Style) (row : Row) → IsAllowedPart row → IsAllowedRow (settled style row)
+settled_row_allowed style row h = settled_allowed row.restyled style row h.before h.elements
+
 pub finished_allowed : (style : Style) (row : Row) → IsAllowedPart row → IsAllowedRow (finished style row)
-finished_allowed style row h = below_allowed (settled style row).under (settled style row) (upper_kept row.restyled style row h.upper) (settled_allowed row.restyled style row h.before h.elements)
+finished_allowed style row h =
+    let ended = with_operand_ended row in
+    let part = ended_allowed row h in
+    below_allowed (settled style ended).under (settled style ended) (upper_kept ended.restyled style ended part.upper) (settled_row_allowed style ended part)
 
 rest_below_allowed : (rule : FractionRule) (c : Context) (row : Row) (place : ℕ) (l : Units) (upper : Option Upper) → IsAllowedPart row → AreAllowedUnits l → IsAllowedRest (rest_below rule c row place l upper)
 rest_below_allowed rule c row place l None h k = (
   record {
     elements = tt;
     before = tt;
-    upper = row_element_allowed (settled c.style row).elements (settled_allowed row.restyled c.style row h.before h.elements);
+    upper = row_element_allowed (settled c.style (with_operand_ended row)).elements (settled_row_allowed c.style (with_operand_ended row) (ended_allowed row h));
   },
   k,
 )
@@ -51,7 +61,7 @@ rest_below_allowed rule c row place l (Some upper) h k = tt
 anew_allowed : (c : Context) (row : Row) (group : Style) (has_own_style : Bool) (color : Option Color) → IsAllowedPart row → IsAllowedPart (begun_anew group has_own_style color (settled c.style row))
 anew_allowed c row group has_own_style color h = record {
   elements = tt;
-  before = settled_allowed row.restyled c.style row h.before h.elements;
+  before = settled_row_allowed c.style row h;
   upper = upper_kept row.restyled c.style row h.upper;
 }
 

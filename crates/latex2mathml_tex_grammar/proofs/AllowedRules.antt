@@ -304,7 +304,7 @@ meaning_rule_allowed place c OperatorName h = (λ star given x k. k, λ x k. k)
 meaning_rule_allowed place c Negation h =
     (λ sign_text given. text_given negated_of negated_allowed sign_text given, λ x k. struck_atom_allowed place x (struck x.atom.element) (struck_allowed x.atom.element k))
 meaning_rule_allowed place c Slash h = λ x k. slashed_allowed x (struck x.element) k (struck_allowed x.element k)
-meaning_rule_allowed place c (Sized size class) h = λ sign_text k. k
+meaning_rule_allowed place c (Sized size class) h = (λ text given. braced_given text given, λ sign_text k. k)
 meaning_rule_allowed place c Left h = λ opening k row i closing j. between_allowed opening closing row k j i
 meaning_rule_allowed place c Middle h = tt
 meaning_rule_allowed place c Right h = tt

@@ -51,6 +51,21 @@ awaits_operand Ordinary = false
 awaits_operand Closing = false
 awaits_operand Inner = false
 
+-- whether an operand ends before an atom of this class
+abbrev pub ends_operand : Class → Bool
+ends_operand Relation = true
+ends_operand Closing = true
+ends_operand Punctuation = true
+ends_operand class = false
+
+-- whether an operand ends before an atom of this kind
+abbrev pub kind_ends_operand : Kind → Bool
+kind_ends_operand (SignOf class) = ends_operand class
+kind_ends_operand (Plain class) = ends_operand class
+kind_ends_operand (Unspaced class) = ends_operand class
+kind_ends_operand Divider = true
+kind_ends_operand kind = false
+
 -- whether no binary operator can follow
 abbrev pub begins_operand : Before → Bool
 begins_operand Nothing = true
@@ -72,6 +87,12 @@ past before UprightIdentifier = After Ordinary
 past before (Unspaced class) = AfterUnspaced (class_there before class)
 past before Divider = After Opening
 past before Blank = before
+
+-- whether an atom of this kind, which is this to the atom after it, is a binary sign: its second operand is still to come
+abbrev pub awaits_second : Kind → Before → Bool
+awaits_second (SignOf Binary) (After Binary) = true
+awaits_second PlusOrMinus (After Binary) = true
+awaits_second last before = false
 
 -- The space between two atoms
 

@@ -4,7 +4,7 @@ use Rattle.std.specs.Prelude.{ℕ, Bool, true, false, List, [], ◌∷◌, rever
 use Rattle.latex2mathml_elements.specs.{Colors.Color, Element.Element, Element.Mstyle, Element.container, Element.children}
 use Rattle.latex2mathml_tex_grammar.specs.{Atoms.Blank, Colors.color_of, Makes.fraction, Makes.in_box, Makes.style_attributes, Meaning.Change, Meaning.Colored, Meaning.ToAlphabet, Meaning.ToStyle, Meaning.Divides, Meaning.ToColor, Meaning.FractionRule}
 use Rattle.latex2mathml_tex_grammar.specs.Refusal.{Refusal, SecondInfix, UnknownColor, refusal_at}
-use Rattle.latex2mathml_tex_grammar.specs.Rows.{Row, Restyled, Upper, empty_row, row_element, with_atom}
+use Rattle.latex2mathml_tex_grammar.specs.Rows.{Row, Restyled, Upper, empty_row, row_element, with_atom, with_operand_ended}
 use Rattle.latex2mathml_tex_grammar.specs.Rules.{Context, in_context, styled}
 use Rattle.latex2mathml_tex_grammar.specs.Scanning.{BeforeArgument, ColorName, Found, Given, Missing, scan}
 use Rattle.latex2mathml_tex_grammar.specs.Symbols.{Ordinary, Style, InText, smaller}
@@ -84,7 +84,7 @@ begun_below rule row = record empty_row { under = Some (record { rule = rule; el
 
 -- the row of a group at its end, where it is read in this style
 abbrev pub finished : Style → Row → Row
-finished style row = whole_fraction (settled style row)
+finished style row = whole_fraction (settled style (with_operand_ended row))
 
 -- What follows a change
 
@@ -99,7 +99,7 @@ pub data Rest : Type 0 where
 -- one such fraction.
 abbrev pub rest_below : FractionRule → Context → Row → ℕ → Units → Option Upper → Rest
 rest_below rule c row place l None =
-    GoesOnIn (styled c (smaller (style_of_group row.restyled c.style))) (begun_below rule (settled c.style row)) l
+    GoesOnIn (styled c (smaller (style_of_group row.restyled c.style))) (begun_below rule (settled c.style (with_operand_ended row))) l
 rest_below rule c row place l (Some upper) = NoRest (refusal_at SecondInfix place)
 
 -- what follows is in the color of this name, where there is one

@@ -1,7 +1,7 @@
 -- Rows: the elements of atoms that are next to each other. Here the last element comes first.
-use Rattle.std.specs.Prelude.{zero, ℤ, pos, Bool, true, false, ◌||◌, List, [], ◌∷◌, ◌++◌, reverse, Option, None}
+use Rattle.std.specs.Prelude.{zero, ℤ, pos, Bool, true, false, ◌||◌, ◌&&◌, List, [], ◌∷◌, ◌++◌, reverse, Option, None}
 use Rattle.latex2mathml_elements.specs.{Attributes.Attributes, Attributes.plain, Colors.Color, Element.Element, Element.Mrow, Element.token, Element.space, Element.container, Element.children}
-use Rattle.latex2mathml_tex_grammar.specs.Atoms.{Atom, Kind, SignOf, PlusOrMinus, Plain, UprightLetters, UprightIdentifier, Blank, Before, Nothing, gap, past, element_there, element_as, without_space}
+use Rattle.latex2mathml_tex_grammar.specs.Atoms.{Atom, Kind, SignOf, PlusOrMinus, Plain, UprightLetters, UprightIdentifier, Blank, Before, Nothing, After, kind_ends_operand, awaits_second, gap, past, element_there, element_as, without_space}
 use Rattle.latex2mathml_tex_grammar.specs.{Meaning.FractionRule}
 use Rattle.latex2mathml_tex_grammar.specs.Symbols.{Class, Ordinary, Operator, Binary, Relation, Punctuation, Style}
 
@@ -103,9 +103,32 @@ class_with ToWord class xs kind = class
 class_with ToRelations class xs kind = class
 class_with joining class xs kind = class_after xs kind
 
--- the row with an atom after it, in this style
-abbrev pub with_atom : Style → Row → Atom → Row
-with_atom style row x = record {
+-- elements the last of which is a sign that loses its space, if so
+abbrev pub without_last_space : Bool → List Element → List Element
+without_last_space true (x ∷ xs) = without_space x ∷ xs
+without_last_space loses xs = xs
+
+-- what precedes an atom: an ordinary sign, if so
+abbrev pub behind_ordinary : Bool → Before → Before
+behind_ordinary true before = After Ordinary
+behind_ordinary false before = before
+
+-- a row whose last atom is an ordinary sign, if so
+abbrev pub with_ordinary_sign : Bool → Row → Row
+with_ordinary_sign is_ordinary row =
+    record row { elements = without_last_space is_ordinary row.elements; before = behind_ordinary is_ordinary row.before }
+
+-- a row at its end: a binary sign there has no second operand, and is ordinary
+abbrev pub with_operand_ended : Row → Row
+with_operand_ended row = with_ordinary_sign (awaits_second row.last row.before) row
+
+-- a row before an atom of this kind, where an operand may end as well
+abbrev pub row_before : Kind → Row → Row
+row_before kind row = with_ordinary_sign (awaits_second row.last row.before && kind_ends_operand kind) row
+
+-- a row with an atom after it, in this style
+abbrev pub appended : Style → Row → Atom → Row
+appended style row x = record {
   elements = put (joining row.last x.kind) style row.before x row.elements;
   before = past row.before x.kind;
   last = x.kind;
@@ -114,6 +137,10 @@ with_atom style row x = record {
   restyled = row.restyled;
   under = row.under;
 }
+
+-- a row with an atom after it, in this style, where a binary sign before it may be ordinary
+abbrev pub with_atom : Style → Row → Atom → Row
+with_atom style row x = appended style (row_before x.kind row) x
 
 -- elements that are next to each other, as one
 abbrev pub row_element : List Element → Element

@@ -328,6 +328,10 @@ an_outer_delimiter place more =
     (takes_if (a_left_brace ∷ delimiter_of ∷ a_right_brace ∷ []) more
     (takes_if empty_braces more (refuses (refusal_at MissingDelimiter place))))
 
+-- a delimiter with a size, which may be in braces as well
+abbrev pub a_sized_delimiter : (List ℕ → Rule) → Rule
+a_sized_delimiter more = takes_if (a_left_brace ∷ delimiter_of ∷ a_right_brace ∷ []) more (takes_delimiter more)
+
 -- whether there is a line: there is none where its width in braces is zero
 abbrev pub has_width : ℤ → Bool
 has_width (pos zero) = false
@@ -400,7 +404,7 @@ meaning_rule place c StackedRelation = of_two place (styled c InScript) c (λ ma
 meaning_rule place c OperatorName = an_operator_name place c
 meaning_rule place c Negation = a_negation place c
 meaning_rule place c Slash = of_one place c (λ x. slashed x (struck x.element))
-meaning_rule place c (Sized size class) = takes_delimiter (λ sign_text. gives (sized c.style size class sign_text))
+meaning_rule place c (Sized size class) = a_sized_delimiter (λ sign_text. gives (sized c.style size class sign_text))
 meaning_rule place c Left = takes_delimiter (λ opening. reads_atoms (InDelimiters place) c (λ row. takes_delimiter (λ closing. gives (between_delimiters opening closing row))))
 meaning_rule place c Middle = refuses (refusal_at MiddleWithoutLeft place)
 meaning_rule place c Right = refuses (refusal_at RightWithoutLeft place)

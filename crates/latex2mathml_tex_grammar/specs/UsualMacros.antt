@@ -40,8 +40,8 @@ usual_entries =
     (codes "bfseries", 0, codes "\\bf") ∷
     (codes "bgroup", 0, codes "{") ∷
     (codes "bmod", 0, codes "\\mathbin{\\mathchoice{\\mkern1mu\\mathrm{mod}\\mkern1mu}{\\mkern1mu\\mathrm{mod}\\mkern1mu}{\\mkern5mu\\mathrm{mod}\\mkern5mu}{\\mkern5mu\\mathrm{mod}\\mkern5mu}}") ∷
-    (codes "bra", 1, codes "\\langle #1|") ∷
-    (codes "braket", 1, codes "\\langle #1\\rangle") ∷
+    (codes "bra", 1, codes "\\mathinner{\\langle{#1}|}") ∷
+    (codes "braket", 1, codes "\\mathinner{\\langle{#1}\\rangle}") ∷
     (codes "cancelto", 2, codes "{\\cancel{#2}^{#1}}") ∷
     (codes "celsius", 0, codes "\\text{\\textdegree C}") ∷
     (codes "centering", 0, codes "") ∷
@@ -59,6 +59,7 @@ usual_entries =
     (codes "colonsim", 0, codes "\\mathrel{:\\sim}") ∷
     (codes "colorbox", 2, codes "\\mathcolorbox{#1}{\\text{#2}}") ∷
     (codes "ddddot", 1, codes "\\overset{....}{#1}") ∷
+    (codes "displaybreak", 0, codes "") ∷
     (codes "displaylines", 1, codes "\\begin{gathered}#1\\end{gathered}") ∷
     (codes "dotsb", 0, codes "\\cdots") ∷
     (codes "dotsc", 0, codes "\\ldots") ∷
@@ -91,8 +92,8 @@ usual_entries =
     (codes "impliedby", 0, codes "\\;\\Longleftarrow\\;") ∷
     (codes "implies", 0, codes "\\;\\Longrightarrow\\;") ∷
     (codes "itshape", 0, codes "\\it") ∷
-    (codes "ket", 1, codes "|#1\\rangle") ∷
-    (codes "ketbra", 2, codes "|#1\\rangle\\langle #2|") ∷
+    (codes "ket", 1, codes "\\mathinner{|{#1}\\rangle}") ∷
+    (codes "ketbra", 2, codes "\\mathinner{|{#1}\\rangle\\langle{#2}|}") ∷
     (codes "label", 1, codes "") ∷
     (codes "large", 0, codes "") ∷
     (codes "leavevmode", 0, codes "") ∷

@@ -8,8 +8,8 @@ use Rattle.latex2mathml_tex_grammar.specs.Refusal.{Kind, CommandInWords, Charact
 use Rattle.latex2mathml_tex_grammar.specs.Symbols.{Alphabet, Monospace, Ordinary, InText}
 use Rattle.latex2mathml_tex_grammar.specs.Units.{Piece, Space, Open, Close, Command, Character}
 
--- The font of a text: the usual one, or that of a typewriter, which is not Unicode's characters for it: their signs and spaces would
--- be narrower than their letters.
+-- The font of a text: the usual one, or one whose characters are all equally wide. Unicode's letters of a typewriter are no
+-- substitute, since it has no signs and spaces of their width.
 pub data Font : Type 0 where
   Usual : Font
   Typewriter : Font

@@ -1,5 +1,5 @@
 -- No more units are left than an input has.
-use Rattle.std.proofs.Common.{◌≡◌, ◌≤◌, ℕ, suc, List, [], ◌∷◌, ap, arith, drop, length, map, refl}
+use Rattle.std.proofs.Common.{◌≡◌, ◌≤◌, suc, List, [], ◌∷◌, ap, arith, drop, length, map, refl}
 use Rattle.std.proofs.lemmas.List.{length-drop}
 use Rattle.latex2mathml_tex_grammar.specs.Macros.{before}
 use Rattle.latex2mathml_tex_units.specs.{Left.unit_count, Left.units_at, Left.units_end, Taking.unit_of}

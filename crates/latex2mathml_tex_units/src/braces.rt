@@ -1,8 +1,8 @@
 //! Braces around arguments, and delimiters that may be in braces.
 ghost use Rattle.std.specs.Prelude.{◌≡◌, ◌≤◌, ◌∷◌, ◌++◌, ℕ, [], MatchBool, MatchOption, None, Some};
-ghost use Rattle.latex2mathml_tex_grammar.specs.{Delimiters.delimiter_of, Next.next_are};
+ghost use Rattle.latex2mathml_tex_grammar.specs.{Delimiters.delimiter_of, Next.next_are, Next.past_space, Next.refusal_here};
 ghost use Rattle.latex2mathml_tex_grammar.specs.Refusal.{MissingDelimiter, refusal_at};
-ghost use Rattle.latex2mathml_tex_grammar.specs.Rules.{a_left_brace, a_right_brace, an_outer_delimiter, empty_braces};
+ghost use Rattle.latex2mathml_tex_grammar.specs.Rules.{a_left_brace, a_right_brace, a_sized_delimiter, an_outer_delimiter, empty_braces};
 ghost use Rattle.latex2mathml_tex_commands.specs.Delimiters.{delimiter_text};
 ghost use Rattle.latex2mathml_tex_units.specs.Left.{SameUnits, unit_count, units_at};
 ghost use Rattle.latex2mathml_tex_units.specs.HandedOn.{HandsOn, Stops};
@@ -32,6 +32,22 @@ impl<'a> Input<'a> {
             return Some(None);
         }
         None
+    }
+
+    /// Takes the delimiter after a command for its size, in braces or without, if one comes next. Otherwise skips nothing.
+    pub fn take_sized_delimiter(&mut self) -> Option<Option<char>>
+        ensures { MatchOption result
+            ((units_at self.new ≡ units_at self.old)
+            × Stops a_sized_delimiter (units_at self.old)
+            (refusal_here MissingDelimiter (past_space (units_at self.old))))
+            (λ d. (unit_count (units_at self.new) ≤ unit_count (units_at self.old))
+            × HandsOn a_sized_delimiter (units_at self.old)
+            (delimiter_text d) (units_at self.new)) }
+    {
+        if let Some(delimiter) = self.take_braced_delimiter() {
+            return Some(delimiter);
+        }
+        self.take_delimiter()
     }
 
     /// Takes a delimiter in braces, if one comes next.

@@ -4,7 +4,7 @@ ghost use Rattle.latex2mathml_attributes.specs.Names.{size_of};
 ghost use Rattle.latex2mathml_tex_grammar.specs.Makes;
 ghost use Rattle.latex2mathml_tex_grammar.specs.{Meaning.Left};
 ghost use Rattle.latex2mathml_tex_grammar.specs.Commands;
-ghost use Rattle.latex2mathml_tex_grammar.specs.Rules.{a_negation, a_root, an_operator_name, character_rule, command_rule, gives, meaning_rule, reads_words, some_dots, takes_delimiter};
+ghost use Rattle.latex2mathml_tex_grammar.specs.Rules.{a_negation, a_root, a_sized_delimiter, an_operator_name, character_rule, command_rule, gives, meaning_rule, reads_words, some_dots};
 ghost use Rattle.latex2mathml_tex_grammar.specs.{Makes.core, Words.words_atom};
 ghost use Rattle.latex2mathml_tex_commands.specs.Meanings.{alphabet_of, class_of, style_of, meaning_of};
 ghost use Rattle.latex2mathml_tex_atoms.specs.Models.{context_of};
@@ -401,7 +401,7 @@ impl<'a> Parser<'a> {
         )
     }
 
-    /// Puts a delimiter of this size. The delimiter must come next.
+    /// Puts a delimiter of this size. The delimiter must come next, in braces or without.
     fn sized(
         &mut self,
         style: Style,
@@ -411,12 +411,12 @@ impl<'a> Parser<'a> {
     ) -> Result<(), AllocError>
         requires begin { CanBegin 0 self.old }
         ensures holds { LeadsOn
-            (Begins (takes_delimiter
+            (Begins (a_sized_delimiter
             (λ text. gives (Makes.sized (style_of style) (size_of size) (class_of class) text))) 0)
             self.old self.new next.new result }
         ensures step { Advances 13 self.old self.new next.new result }
     {
-        let Some(delimiter) = self.input.take_delimiter() else {
+        let Some(delimiter) = self.input.take_sized_delimiter() else {
             *next = self.refuse_delimiter();
             return Ok(());
         };

@@ -30,7 +30,7 @@ fn entries() -> &'static [Usual]
 
 /// An entry for each macro, in the order of their names' bytes.
 #[rattlefmt::skip]
-static ENTRIES: [Usual; 165] = [
+static ENTRIES: [Usual; 166] = [
     Usual { name: "(", arity: 0, body: "$" },
     Usual { name: ")", arity: 0, body: "$" },
     Usual { name: "*", arity: 0, body: "" },
@@ -63,8 +63,8 @@ static ENTRIES: [Usual; 165] = [
     Usual { name: "bfseries", arity: 0, body: "\\bf" },
     Usual { name: "bgroup", arity: 0, body: "{" },
     Usual { name: "bmod", arity: 0, body: "\\mathbin{\\mathchoice{\\mkern1mu\\mathrm{mod}\\mkern1mu}{\\mkern1mu\\mathrm{mod}\\mkern1mu}{\\mkern5mu\\mathrm{mod}\\mkern5mu}{\\mkern5mu\\mathrm{mod}\\mkern5mu}}" },
-    Usual { name: "bra", arity: 1, body: "\\langle #1|" },
-    Usual { name: "braket", arity: 1, body: "\\langle #1\\rangle" },
+    Usual { name: "bra", arity: 1, body: "\\mathinner{\\langle{#1}|}" },
+    Usual { name: "braket", arity: 1, body: "\\mathinner{\\langle{#1}\\rangle}" },
     Usual { name: "cancelto", arity: 2, body: "{\\cancel{#2}^{#1}}" },
     Usual { name: "celsius", arity: 0, body: "\\text{\\textdegree C}" },
     Usual { name: "centering", arity: 0, body: "" },
@@ -82,6 +82,7 @@ static ENTRIES: [Usual; 165] = [
     Usual { name: "colonsim", arity: 0, body: "\\mathrel{:\\sim}" },
     Usual { name: "colorbox", arity: 2, body: "\\mathcolorbox{#1}{\\text{#2}}" },
     Usual { name: "ddddot", arity: 1, body: "\\overset{....}{#1}" },
+    Usual { name: "displaybreak", arity: 0, body: "" },
     Usual { name: "displaylines", arity: 1, body: "\\begin{gathered}#1\\end{gathered}" },
     Usual { name: "dotsb", arity: 0, body: "\\cdots" },
     Usual { name: "dotsc", arity: 0, body: "\\ldots" },
@@ -114,8 +115,8 @@ static ENTRIES: [Usual; 165] = [
     Usual { name: "impliedby", arity: 0, body: "\\;\\Longleftarrow\\;" },
     Usual { name: "implies", arity: 0, body: "\\;\\Longrightarrow\\;" },
     Usual { name: "itshape", arity: 0, body: "\\it" },
-    Usual { name: "ket", arity: 1, body: "|#1\\rangle" },
-    Usual { name: "ketbra", arity: 2, body: "|#1\\rangle\\langle #2|" },
+    Usual { name: "ket", arity: 1, body: "\\mathinner{|{#1}\\rangle}" },
+    Usual { name: "ketbra", arity: 2, body: "\\mathinner{|{#1}\\rangle\\langle{#2}|}" },
     Usual { name: "label", arity: 1, body: "" },
     Usual { name: "large", arity: 0, body: "" },
     Usual { name: "leavevmode", arity: 0, body: "" },

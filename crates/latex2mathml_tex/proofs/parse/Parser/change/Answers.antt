@@ -1,5 +1,6 @@
 use Rattle.std.proofs.Common.{◌≡◌, ◌∙◌, ◌+◌, ℕ, List, Option, Some, ap, arith, drop, option_map, refl, subst, sum_by, sym}
 use Rattle.latex2mathml_tex_grammar.specs.Refusal.{SecondInfix, UnknownColor, refusal_at}
+use Rattle.latex2mathml_tex_grammar.specs.Rows.{with_operand_ended}
 use Rattle.latex2mathml_tex_grammar.specs.Rests.{GoesOnIn, NoRest, begun_below, recolored, rest_of, restyled, settled, style_of_group}
 use Rattle.latex2mathml_tex_grammar.specs.Rules.{in_context, styled}
 use Rattle.latex2mathml_tex_grammar.specs.Symbols.{smaller}
@@ -66,7 +67,7 @@ returns-in_ok-row-in-None-clause-holds c = λ s g.
     let whole = row_with row (elements_of p) in
     let rule = fraction_rule_of c.in-Divides.rule in
     let inner = styled (context_of context) (smaller (style_of_group whole.restyled (style_of context.style))) in
-    let begun = begun_below rule (settled (style_of context.style) whole) in
+    let begun = begun_below rule (settled (style_of context.style) (with_operand_ended whole)) in
     let rest : rest_of (change_of c.args.change) (context_of context) whole c.args.place (left_of p) ≡ GoesOnIn inner begun (left_of p) = rw (c.in-Divides.is, c.in-None.is) refl in
     let style = c.smaller-style.ensures ∙ ap smaller (c.group_style.ensures (elements_of p)) in
     let same = ap context_of c.styled-in-None.ensures ∙ ap (λ st. in_context st (option_map alphabet_of context.alphabet)) style in

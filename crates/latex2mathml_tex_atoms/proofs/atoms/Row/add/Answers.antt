@@ -1,4 +1,4 @@
-use Rattle.std.proofs.Common.{rules, ◌≡◌, ◌∙◌, ◌+◌, ◌==◌, ◌||◌, suc, ap, arith, drop, refl, pos, sym, take}
+use Rattle.std.proofs.Common.{rules, ◌≡◌, ◌∙◌, ◌+◌, ◌==◌, ◌||◌, ◌&&◌, false, suc, ap, arith, drop, refl, pos, sym, take}
 use Rattle.latex2mathml_elements.specs.Element.{Element}
 use Rattle.latex2mathml_tex_grammar.specs.Atoms
 use Rattle.latex2mathml_tex_grammar.specs.Rows
@@ -21,15 +21,16 @@ returns-clause-added c = λ t.
     let apart : joining ≡ Rows.Apart = search rules in
     let none : Atoms.gap style before kind ≡ pos 0 = search rules in
     let stays : (x : Element) → Atoms.element_there style (row.count == 0) before kind x ≡ x = λ x. search rules in
+    let whole : (Atoms.awaits_second (kind_of row.last) before && Atoms.kind_ends_operand kind) ≡ false = search rules in
     record {
-      row = λ xs enough. same_row _ _ _ _ _ _ _ _ _ _ _ _ _ _
+      row = λ xs enough. rw whole (same_row _ _ _ _ _ _ _ _ _ _ _ _ _ _
           (ap (λ n. take n xs) (longer ∙ next) ∙ put_as_it_is joining row.count style before kind xs (omega (arith, enough)) apart none stays ∙ put_high joining style before kind c.args.core.high (top xs) (take row.count (drop 1 xs)))
           c.past-self.ensures
           refl
           high
           (c.class_after-self.ensures xs enough ∙ ap (λ b. Rows.class_with b (class_of row.class) (take row.count (drop 1 xs)) kind) (sym apart))
           (ap (restyled_with row.restyled row.settled) (same_below row.count c.in-Some.count xs xs (ap (λ n. drop n xs) longer)))
-          (ap (under_with row.under) (same_far_below row.count c.in-Some.count xs xs (ap (λ n. drop n xs) longer) (settled_count row.restyled row.settled)));
+          (ap (under_with row.under) (same_far_below row.count c.in-Some.count xs xs (ap (λ n. drop n xs) longer) (settled_count row.restyled row.settled))));
       count = longer;
       rest = refl;
     }
