@@ -16,9 +16,14 @@ DELIMITED = re.compile(r"\\\((.+?)\\\)|\\\[(.+?)\\\]", re.S)
 def formulas(folder):
     """Returns each formula of the Python files and the pages under a folder once, and whether it is a block, in the order of the files,
     those of pages last."""
-    of_python = (it for file in sorted(Path(folder).rglob("*.py")) for text in texts(file) for it in formulas_of(text))
-    of_pages = (it for file in sorted(Path(folder).rglob("*.html")) for it in formulas_of_page(file))
+    of_python = (it for file in files(folder, "*.py") for text in texts(file) for it in formulas_of(text))
+    of_pages = (it for file in files(folder, "*.html") for it in formulas_of_page(file))
     return list(dict.fromkeys(itertools.chain(of_python, of_pages)))
+
+
+def files(folder, pattern):
+    """The files of this form under a folder, in order. A link that leads nowhere is none, nor is a folder of such a name."""
+    return (it for it in sorted(Path(folder).rglob(pattern)) if it.is_file())
 
 
 def texts(file):
