@@ -25,7 +25,7 @@ local RAW_TEX = re.compile([=[
   parts       <- {| (definition / environment / reference / command / group / comment / [^{])* |}
   definition  <- {| {:kind: '' -> 'definition' :} {:text: { (new / def / operator / pair) } :} |}
   new         <- '\' ('newcommand' / 'renewcommand' / 'providecommand' / 'DeclareRobustCommand') end_of_word '*'? space name space option* group
-  def         <- '\def' end_of_word space command [^{\]* group
+  def         <- '\def' end_of_word space command [^{\]* group / '\let' end_of_word space command space '='? space (command / .)
   operator    <- '\DeclareMathOperator' end_of_word '*'? space name space group
   pair        <- '\DeclarePairedDelimiter' end_of_word space name space delimiter space delimiter
   delimiter   <- group / command / [^{}%s]

@@ -16,7 +16,7 @@ use Rattle.latex2mathml_tex_grammar.specs.Tables.{Lines}
 use Rattle.latex2mathml_tex.specs.Tables.{RowsLead}
 use Rattle.latex2mathml_tex_grammar.specs.Symbols.{InText, InScript, Alphabet}
 use Rattle.latex2mathml_tex_grammar.specs.Units.{Piece, Unit, Units, Next, End, Stop}
-use Rattle.latex2mathml_tex_grammar.specs.Words.{Word, Words, no_words, with_accent_ended, with_word, IsWord, BeginsGroup, Changed, EndsGroup, BeginsFormula, TakesWords, NoWord, alphabet_behind, word_rule}
+use Rattle.latex2mathml_tex_grammar.specs.Words.{formula_alphabet, Word, Words, no_words, with_accent_ended, with_word, IsWord, BeginsGroup, Changed, EndsGroup, BeginsFormula, TakesWords, NoWord, alphabet_behind, word_rule}
 use Rattle.latex2mathml_tex.specs.Levels.{AtomMade, CoreMade, FollowsChange, Leads, Level, PartMade, RestLeads, RuleLeads, ScriptsLead, Then, WordLeads, as_operand, as_words, row, operand, part, words}
 use Rattle.latex2mathml_tex.specs.Levels.{core as core_level}
 
@@ -198,7 +198,7 @@ module _ (level : Level) {place : ℕ} {a : Option Alphabet} {ws : Words} {l : U
   pub group_of_words_due : word_rule a u.piece ≡ BeginsGroup → WordLeads level place a ws (Next u l) → PartMade (words u.place a (PartMade level)) (Read ws l)
   group_of_words_due e k = λ o d. k o (group_of_words e d)
 
-  pub formula_due : word_rule a u.piece ≡ BeginsFormula → WordLeads level place a ws (Next u l) → Leads (row (InDollars u.place) (in_context InText None) (begun (InDollars u.place)) (λ o. PartMade level (as_words (with_accent_ended ws).elements o))) l
+  pub formula_due : word_rule a u.piece ≡ BeginsFormula → WordLeads level place a ws (Next u l) → Leads (row (InDollars u.place) (in_context InText (formula_alphabet a)) (begun (InDollars u.place)) (λ o. PartMade level (as_words (with_accent_ended ws).elements o))) l
   formula_due e k (Read xs m) d = k _ (formula_read e d)
   formula_due e k (Refused r) d = k _ (formula_refused e d)
 

@@ -1,26 +1,28 @@
 -- What characters and commands are in words, and what holds of the parser after them.
-use Rattle.std.proofs.Common.{◌≡◌, ◌==◌, ◌+◌, ◌||◌, ◌++◌, ◌∷◌, [], Bool, ℕ, ℤ, true, false, drop, Err, List, Ok, Option, Result, Some, None, option_map, refl, subst, sym, take, ap, ◌∙◌, arith}
+use Rattle.std.proofs.Common.{◌≡◌, ◌==◌, ◌+◌, ◌||◌, ◌++◌, ◌∷◌, [], Bool, ℕ, ℤ, true, false, drop, Err, List, Ok, Option, Result, Some, option_map, refl, subst, sym, take, ap, arith}
 use Rattle.std.proofs.lemmas.Bool.Decides.{nat_tests}
 use Rattle.std.specs.Prelude.{OnOk, ⊤}
 use Rattle.std.specs.Str.{byte}
 use Rattle.std.specs.declared.alloc.AllocError.{AllocError}
-use Rattle.latex2mathml_tex_grammar.specs.{Commands.meaning_of, Delimiters.entry_of_name, Makes.text, Meaning.Meaning, Reading.Read, Symbols.Alphabet, TextCommands.text_accents, TextCommands.text_commands}
-use Rattle.latex2mathml_tex_grammar.specs.Refusal.{CharacterInWords, CommandInWords, UnknownCommand, refusal_at}
+use Rattle.latex2mathml_tex_grammar.specs.{Makes.text, Reading.Read, Symbols.Alphabet}
+use Rattle.latex2mathml_tex_grammar.specs.Refusal.{CharacterInWords, CommandInWords, refusal_at}
 use Rattle.latex2mathml_tex_grammar.specs.Units as grammar
 use Rattle.latex2mathml_tex_grammar.specs.Units.{Character, Command, Open, Piece}
 use Rattle.latex2mathml_builder.specs.Built.{Built, elements_in}
 use Rattle.latex2mathml_tex_atoms.specs.Wording.{Replaced}
 use Rattle.latex2mathml_tex_grammar.specs.Words as words
-use Rattle.latex2mathml_tex_grammar.specs.Words.{with_accent_ended, Accented, BeginsFormula, IsWord, NoWord, Shown, alphabet_after, alphabet_behind, font_in, meaning_rule, word_character, word_rule, word_space}
+use Rattle.latex2mathml_tex_grammar.specs.Words.{with_accent_ended, Accented, BeginsFormula, IsWord, NoWord, Shown, alphabet_after, alphabet_behind, font_in, formula_alphabet, meaning_rule, word_character, word_rule, word_space}
 use Rattle.latex2mathml_tex_units.specs.Errors.{refusal_of}
 use Rattle.latex2mathml_tex_commands.specs.Meanings.{alphabet_of}
-use Rattle.latex2mathml_tex.specs.{Frames.Start, Levels.Leads, Levels.PartMade}
+use Rattle.latex2mathml_tex.specs.{Frames.Start, Levels.Leads, Levels.PartMade, WordCommands.rule_of}
+use Rattle.latex2mathml_tex.specs.declared.parse.word_commands.WordCommand.{WordCommand}
+use Rattle.latex2mathml_tex.specs.declared.parse.word_commands.WordCommand.TheVariants as word_command
 use Rattle.latex2mathml_tex_atoms.specs.Models.{begun, words_with}
 use Rattle.latex2mathml_tex_commands.specs.Meanings
-use Rattle.latex2mathml_tex.specs.Steps.{BeginsWordOf, GoesOnInBraces, IsChange, HasElements, Holds, Advances, elements_of, left_of, level, level_within}
+use Rattle.latex2mathml_tex.specs.Steps.{BeginsWordOf, GoesOnInBraces, HasElements, Holds, Advances, elements_of, left_of, level, level_within}
 use Rattle.latex2mathml_tex_atoms.specs.declared.{atoms.Row.Row as CodeRow, atoms.Words.Words as CodeWords}
 use Rattle.latex2mathml_tex.specs.declared.{parse.Parser.Parser, parse.State.State, parse.frames.Frames.Frames}
-use Rattle.latex2mathml_tex_commands.specs.declared.meaning.{Alphabet.Alphabet as CodeAlphabet, Change.Change as CodeChange, Meaning.Meaning as CodeMeaning, Symbol.Symbol as CodeSymbol}
+use Rattle.latex2mathml_tex_commands.specs.declared.meaning.{Alphabet.Alphabet as CodeAlphabet, Meaning.Meaning as CodeMeaning, Symbol.Symbol as CodeSymbol}
 use Rattle.latex2mathml_tex_commands.specs.declared.meaning.Change.TheVariants as code_change
 use Rattle.latex2mathml_tex_commands.specs.declared.meaning.Meaning.TheVariants as code_meaning
 use Rattle.latex2mathml_tex_commands.specs.declared.meaning.Style.TheVariants as code_style
@@ -32,6 +34,8 @@ use Rattle.latex2mathml_tex.proofs.{Opening.pushed, Rows.refused_step, Wording.n
 
 -- Commands
 
+-- most meanings cannot appear in words
+
 -- the meaning cannot appear in words
 pub record IsNoWord (m : CodeMeaning) : Type 0 where
   pub no_sign : (symbol : CodeSymbol) → m ≡ code_meaning.Shows symbol → ⊥
@@ -40,53 +44,18 @@ pub record IsNoWord (m : CodeMeaning) : Type 0 where
   pub no_words : (b : Option CodeAlphabet) → m ≡ code_meaning.Words b → ⊥
   pub no_alphabet : (b : CodeAlphabet) → m ≡ code_meaning.Changes (code_change.ToAlphabet b) → ⊥
 
--- a change of something other than the alphabet
-pub other_change : (m : CodeMeaning) (change : CodeChange) → m ≡ code_meaning.Changes change → ((b : CodeAlphabet) → change ≡ code_change.ToAlphabet b → ⊥) → IsNoWord m
-other_change m change is other = record {
-  no_sign = λ symbol e. let k = sym is ∙ e in cc;
-  no_dots = λ e. let k = sym is ∙ e in cc;
-  no_space = λ width e. let k = sym is ∙ e in cc;
-  no_words = λ b e. let k = sym is ∙ e in cc;
-  no_alphabet = λ b e. other b (let k = sym is ∙ e in cc);
-}
+pub no_word_meant : (font : words.Font) (name : List ℕ) (m : CodeMeaning) → IsNoWord m → meaning_rule font name (Some (Meanings.meaning_of m)) ≡ NoWord (CommandInWords name)
+no_word_meant font name (code_meaning.Shows symbol) none = absurd (none.no_sign symbol refl)
+no_word_meant font name code_meaning.Dots none = absurd (none.no_dots refl)
+no_word_meant font name (code_meaning.Spacing width) none = absurd (none.no_space width refl)
+no_word_meant font name (code_meaning.Words b) none = absurd (none.no_words b refl)
+no_word_meant font name (code_meaning.Changes (code_change.ToAlphabet b)) none = absurd (none.no_alphabet b refl)
+no_word_meant font name m none = refl
 
-module _ (a : Option Alphabet) (name : List ℕ) where
-  pub character_shown : (c : ℕ) → entry_of_name text_commands name ≡ Some c → word_rule a (Command name) ≡ IsWord (Shown (font_in a) (text c))
-  character_shown c e = rw e refl
-
-  pub accent_begins : (accent : ℕ) → entry_of_name text_commands name ≡ None → entry_of_name text_accents name ≡ Some accent → word_rule a (Command name) ≡ IsWord (Accented accent)
-  accent_begins accent other e = rw (other, e) refl
-
-  module _ (other : entry_of_name text_commands name ≡ None) (plain : entry_of_name text_accents name ≡ None) where
-    pub command_meant : (m : Option Meaning) → meaning_of name ≡ m → word_rule a (Command name) ≡ meaning_rule (font_in a) name m
-    command_meant m e = rw (other, plain, e) refl
-
-    pub unknown : meaning_of name ≡ None → word_rule a (Command name) ≡ NoWord (UnknownCommand name)
-    unknown e = rw (other, plain, e) refl
-
-    -- most meanings change no alphabet
-    kept_by : (m : CodeMeaning) → ((b : CodeAlphabet) → m ≡ code_meaning.Changes (code_change.ToAlphabet b) → ⊥) → alphabet_after a (meaning_rule (font_in a) name (Some (Meanings.meaning_of m))) ≡ a
-    kept_by (code_meaning.Changes (code_change.ToAlphabet b)) none = absurd (none b refl)
-    kept_by m none = refl
-
-    pub meaning_keeps : (m : CodeMeaning) → meaning_of name ≡ Some (Meanings.meaning_of m) → ((b : CodeAlphabet) → m ≡ code_meaning.Changes (code_change.ToAlphabet b) → ⊥) → alphabet_behind a (Command name) ≡ a
-    meaning_keeps m e none = rw (other, plain, e) (kept_by m none)
-
-    pub changes : (b : CodeAlphabet) → meaning_of name ≡ Some (Meanings.meaning_of (code_meaning.Changes (code_change.ToAlphabet b))) → IsChange a (Command name) (alphabet_of b)
-    changes b e = record { rule = rw (other, plain, e) refl; behind = rw (other, plain, e) refl }
-
-    -- most meanings cannot appear in words
-
-    no_word_meant : (m : CodeMeaning) → IsNoWord m → meaning_rule (font_in a) name (Some (Meanings.meaning_of m)) ≡ NoWord (CommandInWords name)
-    no_word_meant (code_meaning.Shows symbol) none = absurd (none.no_sign symbol refl)
-    no_word_meant code_meaning.Dots none = absurd (none.no_dots refl)
-    no_word_meant (code_meaning.Spacing width) none = absurd (none.no_space width refl)
-    no_word_meant (code_meaning.Words b) none = absurd (none.no_words b refl)
-    no_word_meant (code_meaning.Changes (code_change.ToAlphabet b)) none = absurd (none.no_alphabet b refl)
-    no_word_meant m none = refl
-
-    pub not_in_words : (m : CodeMeaning) → meaning_of name ≡ Some (Meanings.meaning_of m) → IsNoWord m → word_rule a (Command name) ≡ NoWord (CommandInWords name)
-    not_in_words m e none = rw (other, plain, e) (no_word_meant m none)
+-- most commands change no alphabet
+pub kept_by : (a : Option Alphabet) (font : words.Font) (name : List ℕ) (w : WordCommand) → ((b : CodeAlphabet) → w ≡ word_command.Alphabet b → ⊥) → alphabet_after a (rule_of font name w) ≡ a
+kept_by a font name (word_command.Alphabet b) none = absurd (none b refl)
+kept_by a font name w none = refl
 
 -- a command that cannot appear in words is refused, if there is memory for its name
 module _ (p q : Parser) (same : q ≡ record p { refusal = q.refusal }) where
@@ -145,10 +114,10 @@ module _ (s : Start) (p : Parser) (ws : CodeWords) (place : ℕ) where
       }
 
   -- a formula, after words whose accent has ended
-  pub formula_begun : (b : Built) (after : CodeWords) (piece : Piece) (a : Option Alphabet) (row : CodeRow) → Replaced with_accent_ended ws (elements_of p) after (elements_in b) → row ≡ begun → word_rule a piece ≡ BeginsFormula → BeginsWordOf ws piece place a s p
-      → Leads (level_within (frame.Row (ending.Formula after.count) place (record { style = code_style.InText; alphabet = None }) row) 0 s (record p { builder = b })) (left_of p)
-  formula_begun b after piece a row r empty rule g =
+  pub formula_begun : (b : Built) (after : CodeWords) (piece : Piece) (a : Option Alphabet) (inside : Option CodeAlphabet) (row : CodeRow) → Replaced with_accent_ended ws (elements_of p) after (elements_in b) → row ≡ begun → option_map alphabet_of inside ≡ formula_alphabet a → word_rule a piece ≡ BeginsFormula → BeginsWordOf ws piece place a s p
+      → Leads (level_within (frame.Row (ending.Formula after.count) place (record { style = code_style.InText; alphabet = inside }) row) 0 s (record p { builder = b })) (left_of p)
+  formula_begun b after piece a inside row r empty same rule g =
       let due = formula_due (level ws.count s p) {u = grammar.unit piece place} rule g.leads in
       let count : 0 + after.count ≡ after.count = omega arith in
       let elements : take after.count (elements_in b) ≡ (with_accent_ended (words_with ws (elements_of p))).elements = ap (λ (w : words.Words). w.elements) r.words in
-      rw empty (rw count (rw (elements, r.below) due))
+      rw (empty, same) (rw count (rw (elements, r.below) due))

@@ -12,3 +12,4 @@ pub mod Steps
 pub mod SymbolOperands
 pub mod Tables
 pub mod TakenBy
+pub mod WordCommands

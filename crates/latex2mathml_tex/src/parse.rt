@@ -26,6 +26,7 @@ pub(crate) mod scripts;
 mod symbols;
 mod tables;
 mod values;
+mod word_commands;
 mod words;
 
 use crate::parse::frames::{Frame, Frames};

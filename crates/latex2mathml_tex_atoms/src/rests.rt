@@ -11,7 +11,7 @@ ghost use Rattle.latex2mathml_tex_atoms.specs.Models.{row_count, row_with};
 use crate::atoms::{Before, Kind, Restyled, Row};
 use crate::fractions::{put_fraction, style_attributes};
 use crate::operands::end_operand;
-use crate::shapes::put_row;
+use crate::shapes::{isolate, put_row};
 use latex2mathml_attributes::around::{Around, Color};
 use latex2mathml_attributes::tag::Container;
 use latex2mathml_builder::builder::Builder;
@@ -199,6 +199,24 @@ pub fn divide(
     })
 }
 
+/// Removes the space around a sign that is all of a row, if the style or the color was changed before it. Without a change, what
+/// encloses the row does so.
+fn isolate_changed(builder: &mut Builder, row: Row)
+    requires { row_count row ≤ length (elements_in builder.old) }
+    ensures row { row_with row (elements_in builder.new)
+        ≡ Rests.with_sign_alone (row_with row (elements_in builder.old)) }
+    ensures below { drop (row_count row) (elements_in builder.new)
+        ≡ drop (row_count row) (elements_in builder.old) }
+    ensures length { length (elements_in builder.new) ≡ length (elements_in builder.old) }
+{
+    let Some(_) = row.restyled else {
+        return;
+    };
+    if row.settled == 0 {
+        isolate(builder, row.count, row.last);
+    }
+}
+
 /// Finishes a row that was read in this style, at the end of its group. Most rows are finished already.
 #[inline(always)]
 pub fn finish(builder: &mut Builder, style: Style, row: Row) -> Result<Row, AllocError>
@@ -221,12 +239,13 @@ pub fn finish(builder: &mut Builder, style: Style, row: Row) -> Result<Row, Allo
 fn finish_changed(builder: &mut Builder, style: Style, row: Row) -> Result<Row, AllocError>
     requires { row_count row ≤ length (elements_in builder.old) }
     ensures row { IfOk result (λ whole. row_with whole (elements_in builder.new)
-        ≡ Rests.whole_fraction
-        (Rests.settled (style_of style) (row_with row (elements_in builder.old)))) }
+        ≡ Rests.whole_fraction (Rests.settled (style_of style)
+        (Rests.with_sign_alone (row_with row (elements_in builder.old))))) }
     ensures below { IfOk result (λ whole. drop whole.count (elements_in builder.new)
         ≡ drop (row_count row) (elements_in builder.old)) }
     ensures count { IfOk result (λ whole. whole.count ≤ length (elements_in builder.new)) }
 {
+    isolate_changed(builder, row);
     let row = settle(builder, style, row)?;
     close_fraction(builder, row)
 }

@@ -1,13 +1,13 @@
 -- What expansion adds to units: nothing but what is in them and in macros.
 use Rattle.std.proofs.Common.{ℕ, zero, suc, ◌+◌, ◌≡◌, Bool, true, false, List, [], ◌∷◌, ◌++◌, length, codes, Option, Some, None, refl, subst}
 use Rattle.std.specs.Prelude.{◌-◌, take, drop, IsTrue, ⊤, nat_lt, if◌then◌else◌}
-use Rattle.std.specs.Str.{byte, bytes_eq}
+use Rattle.std.specs.{Option.unwrap_or, Str.byte, Str.bytes_eq}
 use Rattle.std.specs.List.{AllByRecursion}
 use Rattle.latex2mathml_tex_grammar.specs.Arguments.{Brace, Opening, Closing, NoBrace, brace_of, and_then, with_first, in_group, group, argument_of, argument_here, argument, arguments, ends_brackets, in_brackets, between_brackets, is_group, without_braces, bracket_here, bracket, behind_bracket, optional, or_default, arguments_with, macro_arguments}
-use Rattle.latex2mathml_tex_grammar.specs.Definitions.{DeclareDelimiters, delimiters_definition, stretched_parts, enclosed_parts, sized_parts, Word, NewCommand, ProvideCommand, Def, DeclareOperator, Definition, is_character, sign_here, sign, digit_of, digit_found, digit_here, digit, name_in, name_read, name_of, number_closed, number_in, number_opened, number_of, numbered, parameter, parameters, argument_part, parameter_part, part_before, parts_behind, parts_of, body_read, body, default_read, default_given, default_of, is_delimited, body_in_braces, command_definition, plain_definition, operator_definition, definition_of, operator_parts, provided, behind_definition}
-use Rattle.latex2mathml_tex_grammar.specs.Expansion.{form_of, used_form, form_with, starred_form, name_role, role_of, word_role, Turn, Stays, Turns, Fails, with_arguments, used, defined, turn_of, Expands, at_end, at_stop, stays, turns, fails}
-use Rattle.latex2mathml_tex_grammar.specs.ExpansionLaws.{added_pieces, EachPiece, EachFixed, EachIfSome, EachInMacro, EachInTable, AddsNothing}
-use Rattle.latex2mathml_tex_grammar.specs.Macros.{Part, Fixed, Argument, Macro, macro_with_default, Table, with_macro, argument_at, put, before}
+use Rattle.latex2mathml_tex_grammar.specs.Definitions.{DeclareDelimiters, Let, any_piece, alias_definition, meaning_now, resolved, delimiters_definition, stretched_parts, enclosed_parts, sized_parts, Word, NewCommand, ProvideCommand, Def, DeclareOperator, Definition, is_character, sign_here, sign, digit_of, digit_found, digit_here, digit, name_in, name_read, name_of, number_closed, number_in, number_opened, number_of, numbered, parameter, parameters, argument_part, parameter_part, part_before, parts_behind, parts_of, body_read, body, default_read, default_given, default_of, is_delimited, body_in_braces, command_definition, plain_definition, operator_definition, definition_of, operator_parts, provided, behind_definition}
+use Rattle.latex2mathml_tex_grammar.specs.Expansion.{form_of, used_form, form_with, starred_form, found_role, macro_role, role_of, word_role, Turn, Stays, Turns, Fails, with_arguments, used, defined, turn_of, Expands, at_end, at_stop, stays, turns, fails}
+use Rattle.latex2mathml_tex_grammar.specs.ExpansionLaws.{added_pieces, EachPiece, EachFixed, EachIfSome, IfPiece, EachInMacro, EachInTable, AddsNothing}
+use Rattle.latex2mathml_tex_grammar.specs.Macros.{Part, Fixed, Argument, Macro, alias, macro_of, macro_with_default, Table, with_macro, argument_at, put, before}
 use Rattle.latex2mathml_tex_grammar.specs.{Next.is_space_piece, Next.past_space, Reading.Outcome, Reading.Read, Reading.Refused, Refusal.Refusal}
 use Rattle.latex2mathml_tex_grammar.specs.Units.{Piece, Space, Open, Close, Command, Character, Unit, Units, Next, End, Stop}
 use Rattle.latex2mathml_tex_grammar.proofs.Choices.{of_either}
@@ -224,8 +224,8 @@ module _ (P : Piece → Type 0) where
   of_default place n l h = after IfUnits (EachIfSome P) (optional l) (default_given place n) (of_optional l h) (λ given m p q. of_default_given place n given m p q)
 
   of_macro : (default : Option (List Part)) (n : ℕ) (parts : List Part) → EachIfSome P default → EachFixed P parts → EachInMacro P (macro_with_default default n parts)
-  of_macro None n parts h k = (k, tt, tt)
-  of_macro (Some default) n parts h k = (k, h, tt)
+  of_macro None n parts h k = (k, tt, tt, tt)
+  of_macro (Some default) n parts h k = (k, h, tt, tt)
 
   -- a definition whose macro passes
   abbrev pub IsPassed : Definition → Type 0
@@ -242,12 +242,30 @@ module _ (P : Piece → Type 0) where
   of_plain place l h =
       after Anything IsPassed (name_of place l) _ (of_name place l h) (λ name m t k.
       after Anything IsPassed (parameters place 9 0 m) _ (of_parameters place 9 0 m k) (λ n j s i.
-      after (EachFixed P) IsPassed (body_in_braces place n j) _ (of_braces place n j i) (λ parts rest p q. ((p, tt, tt), q))))
+      after (EachFixed P) IsPassed (body_in_braces place n j) _ (of_braces place n j i) (λ parts rest p q. ((p, tt, tt, tt), q))))
+
+  of_any : (place : ℕ) (l : Units) → EachPiece P l → Passes P (any_piece place l)
+  of_any place (Next u l) h = h
+  of_any place (End at) h = tt
+  of_any place (Stop r) h = tt
+
+  of_alias : (place : ℕ) (l : Units) → EachPiece P l → Passes IsPassed (alias_definition place l)
+  of_alias place l h =
+      after Anything IsPassed (name_of place l) _ (of_name place l h) (λ name m t k.
+      after P IsPassed (any_piece place (past_space (sign (byte "=") m).1)) _ (of_any place (past_space (sign (byte "=") m).1) (past (sign (byte "=") m).1 (of_sign (byte "=") m k))) (λ piece rest p q. ((tt, tt, tt, p), q)))
 
   -- of the macro that is found, whichever it is
   pub of_found : (b : Bool) (m found : Macro) (x : Option Macro) → EachInMacro P m → ((y : Macro) → x ≡ Some y → EachInMacro P y) → (if b then Some m else x) ≡ Some found → EachInMacro P found
   of_found true m found x h t e = (let same : m ≡ found = cc in subst (EachInMacro P) same h)
   of_found false m found x h t e = t found e
+
+  -- of the macro that a piece uses, if it uses one
+  in_macro_of : (piece : Piece) (table : Table) → EachInTable P table → (m : Macro) → macro_of table piece ≡ Some m → EachInMacro P m
+  in_macro_of (Command name) table t m e = t name m e
+  in_macro_of Space table t m e = cc
+  in_macro_of Open table t m e = cc
+  in_macro_of Close table t m e = cc
+  in_macro_of (Character c) table t m e = cc
 
   fixed_both : (xs ys : List Part) → EachFixed P xs → EachFixed P ys → EachFixed P (xs ++ ys)
   fixed_both [] ys h k = k
@@ -286,7 +304,7 @@ module _ (P : Piece → Type 0) where
     of_operator : (place : ℕ) (l : Units) → EachPiece P l → Passes IsPassed (operator_definition place l)
     of_operator place l h =
         after Anything IsPassed (name_of place (sign (byte "*") l).1) _ (of_name place (sign (byte "*") l).1 (of_sign (byte "*") l h)) (λ name m t k.
-        after (EachFixed P) IsPassed (body place 0 m) _ (of_body place 0 m k) (λ parts rest p q. ((of_operator_parts (sign (byte "*") l).0 parts p, tt, tt), q)))
+        after (EachFixed P) IsPassed (body place 0 m) _ (of_body place 0 m k) (λ parts rest p q. ((of_operator_parts (sign (byte "*") l).0 parts p, tt, tt, tt), q)))
 
     of_sized : (name : List ℕ) (parts : List Part) → P (Command name) → EachFixed P parts → EachFixed P (sized_parts name parts)
     of_sized name parts n h = (n, (opening, fixed_both parts (Fixed Close ∷ []) h (closing, tt)))
@@ -320,7 +338,7 @@ module _ (P : Piece → Type 0) where
     of_delimiters place l h =
         after Anything IsPassed (name_of place l) _ (of_name place l h) (λ name m t k.
         after (EachFixed P) IsPassed (body place 0 m) _ (of_body place 0 m k) (λ left j p q.
-        after (EachFixed P) IsPassed (body place 0 j) _ (of_body place 0 j q) (λ right rest r s. ((of_enclosed left right p r, tt, of_stretched left right p r), s))))
+        after (EachFixed P) IsPassed (body place 0 j) _ (of_body place 0 j q) (λ right rest r s. ((of_enclosed left right p r, tt, of_stretched left right p r, tt), s))))
 
     pub of_definition : (word : Word) (place : ℕ) (l : Units) → EachPiece P l → Passes IsPassed (definition_of word place l)
     of_definition NewCommand place l h = of_command place l h
@@ -328,6 +346,7 @@ module _ (P : Piece → Type 0) where
     of_definition Def place l h = of_plain place l h
     of_definition DeclareOperator place l h = of_operator place l h
     of_definition DeclareDelimiters place l h = of_delimiters place l h
+    of_definition Let place l h = of_alias place l h
 
     in_table : (name : List ℕ) (m : Macro) (table : Table) → EachInMacro P m → EachInTable P table → EachInTable P (with_macro name m table)
     in_table name m table h t other found e = of_found (bytes_eq name other) m found (table other) h (t other) e
@@ -336,12 +355,24 @@ module _ (P : Piece → Type 0) where
     of_provided d (Some m) table h t = t
     of_provided d None table h t = in_table d.name d.stands_for table h t
 
+    of_found_macro : (piece : Piece) (found : Option Macro) → P piece → ((m : Macro) → found ≡ Some m → EachInMacro P m) → EachInMacro P (unwrap_or found (alias piece))
+    of_found_macro piece (Some m) p h = h m refl
+    of_found_macro piece None p h = (tt, tt, tt, p)
+
+    of_meaning : (piece : Piece) (table : Table) → P piece → EachInTable P table → EachInMacro P (meaning_now table piece)
+    of_meaning piece table p t = of_found_macro piece (macro_of table piece) p (in_macro_of piece table t)
+
+    of_resolved : (m : Macro) (piece : Option Piece) (table : Table) → EachInMacro P m → IfPiece P piece → EachInTable P table → EachInMacro P (resolved table m piece)
+    of_resolved m (Some piece) table h p t = of_meaning piece table p t
+    of_resolved m None table h p t = h
+
     pub behind : (word : Word) (d : Definition) (table : Table) → IsPassed d → EachInTable P table → EachInTable P (behind_definition word d table)
     behind ProvideCommand d table h t = of_provided d (table d.name) table h t
     behind NewCommand d table h t = in_table d.name d.stands_for table h t
     behind Def d table h t = in_table d.name d.stands_for table h t
     behind DeclareOperator d table h t = in_table d.name d.stands_for table h t
     behind DeclareDelimiters d table h t = in_table d.name d.stands_for table h t
+    behind Let d table h t = in_table d.name (resolved table d.stands_for d.stands_for.alias) table (of_resolved d.stands_for d.stands_for.alias table h h.3 t) t
 
     -- Expansion
 
@@ -364,7 +395,7 @@ module _ (P : Piece → Type 0) where
     of_units_before (u ∷ us) l h k = (h.0, of_units_before us l h.1 k)
 
     abbrev TurnPasses : Turn → Type 0
-    TurnPasses Stays = ⊤
+    TurnPasses (Stays piece) = P piece
     TurnPasses (Turns table uses room l) = EachInTable P table × EachPiece P l
     TurnPasses (Fails r) = ⊤
 
@@ -388,7 +419,7 @@ module _ (P : Piece → Type 0) where
 
     of_starred_form : (m : Macro) (parts : List Part) (found : Bool × Units) → EachInMacro P m → EachFixed P parts → EachPiece P found.1
         → EachInMacro P (starred_form m parts found).0 × EachPiece P (starred_form m parts found).1
-    of_starred_form m parts (true, l) b s h = ((s, tt, tt), h)
+    of_starred_form m parts (true, l) b s h = ((s, tt, tt, tt), h)
     of_starred_form m parts (false, l) b s h = (b, h)
 
     of_form_with : (m : Macro) (starred : Option (List Part)) (l : Units) → EachInMacro P m → EachIfSome P starred → EachPiece P l
@@ -407,27 +438,28 @@ module _ (P : Piece → Type 0) where
     of_defined table uses room word (Read d l) t h = (behind word d table h.0 t, h.1)
     of_defined table uses room word (Refused r) t h = tt
 
-    of_word : (table : Table) (uses room : ℕ) (u : Unit) (l : Units) (w : Option Word) → EachInTable P table → EachPiece P l → TurnPasses (turn_of (word_role w) table uses room u l)
-    of_word table uses room u l (Some word) t h = of_defined table uses room word (definition_of word u.place l) t (of_definition word u.place l h)
-    of_word table uses room u l None t h = tt
+    of_word : (table : Table) (uses room : ℕ) (u : Unit) (l : Units) (w : Option Word) (piece : Piece) → P piece → EachInTable P table → EachPiece P l → TurnPasses (turn_of (word_role w piece) table uses room u l)
+    of_word table uses room u l (Some word) piece p t h = of_defined table uses room word (definition_of word u.place l) t (of_definition word u.place l h)
+    of_word table uses room u l None piece p t h = p
 
-    of_name_turn : (table : Table) (uses room : ℕ) (u : Unit) (l : Units) (name : List ℕ) (found : Option Macro) → table name ≡ found → EachInTable P table → EachPiece P l → TurnPasses (turn_of (name_role found name) table uses room u l)
-    of_name_turn table uses room u l name (Some m) e t h = of_used table uses room u m l t (t name m e) h
-    of_name_turn table uses room u l name None e t h = of_word table uses room u l _ t h
+    of_macro_turn : (table : Table) (uses room : ℕ) (u : Unit) (l : Units) (m : Macro) (named : Option Piece) → EachInMacro P m → IfPiece P named → EachInTable P table → EachPiece P l → TurnPasses (turn_of (macro_role m named) table uses room u l)
+    of_macro_turn table uses room u l m (Some piece) b p t h = of_word table uses room u l _ piece p t h
+    of_macro_turn table uses room u l m None b p t h = of_used table uses room u m l t b h
 
-    of_turn : (p : Piece) (table : Table) (uses room : ℕ) (u : Unit) (l : Units) → EachInTable P table → EachPiece P l → TurnPasses (turn_of (role_of table p) table uses room u l)
-    of_turn (Command name) table uses room u l t h = of_name_turn table uses room u l name (table name) refl t h
-    of_turn Space table uses room u l t h = tt
-    of_turn Open table uses room u l t h = tt
-    of_turn Close table uses room u l t h = tt
-    of_turn (Character d) table uses room u l t h = tt
+    of_found_turn : (table : Table) (uses room : ℕ) (u : Unit) (l : Units) (piece : Piece) (found : Option Macro) → P piece → ((m : Macro) → found ≡ Some m → EachInMacro P m) → EachInTable P table → EachPiece P l → TurnPasses (turn_of (found_role found piece) table uses room u l)
+    of_found_turn table uses room u l piece (Some m) p b t h = (let each = b m refl in of_macro_turn table uses room u l m m.alias each each.3 t h)
+    of_found_turn table uses room u l piece None p b t h = of_word table uses room u l _ piece p t h
+
+    of_turn : (piece : Piece) (table : Table) (uses room : ℕ) (u : Unit) (l : Units) → P piece → EachInTable P table → EachPiece P l → TurnPasses (turn_of (role_of table piece) table uses room u l)
+    of_turn piece table uses room u l p t h = of_found_turn table uses room u l piece (macro_of table piece) p (in_macro_of piece table t) t h
 
     pub pieces_of : {table : Table} {uses room : ℕ} {l m : Units} → Expands table uses room l m → EachInTable P table → EachPiece P l → EachPiece P m
     pieces_of at_end t h = h
     pieces_of at_stop t h = h
-    pieces_of (stays e d) t h = (h.0, pieces_of d t h.1)
+    pieces_of (stays {table = table} {uses = uses} {room = room} {u = u} {l = l} e d) t h =
+        let turned = subst TurnPasses e (of_turn u.piece table uses room u l h.0 t h.1) in (turned, pieces_of d t h.1)
     pieces_of (turns {table = table} {uses = uses} {room = room} {u = u} {l = l} e d) t h =
-        let turned = subst TurnPasses e (of_turn u.piece table uses room u l t h.1) in pieces_of d turned.0 turned.1
+        let turned = subst TurnPasses e (of_turn u.piece table uses room u l h.0 t h.1) in pieces_of d turned.0 turned.1
     pieces_of (fails e) t h = tt
 
 pub adds_nothing : AddsNothing

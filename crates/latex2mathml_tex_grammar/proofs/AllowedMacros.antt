@@ -28,7 +28,7 @@ body_allowed : (arity : ℕ) (text : List ℕ) → EachInMacro IsAllowedPiece (m
 body_allowed arity text =
     let units = units_of 0 (chars text) in
     let each = listed_allowed units (units_allowed (has_units 0 (chars text))) in
-    (parts_allowed (parts_of arity (listed units)) (of_parts IsAllowedPiece false arity (listed units) each), tt, tt)
+    (parts_allowed (parts_of arity (listed units)) (of_parts IsAllowedPiece false arity (listed units) each), tt, tt, tt)
 
 entries_allowed : (entries : List (List ℕ × ℕ × List ℕ)) → EachInTable IsAllowedPiece (entry_macro entries)
 entries_allowed [] name m e = cc

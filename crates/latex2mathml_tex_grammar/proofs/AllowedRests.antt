@@ -1,13 +1,13 @@
 -- What a change makes of rows that hold no character that XML forbids holds none either.
-use Rattle.std.proofs.Common.{◌≡◌, ℕ, Bool, true, false, List, Option, Some, None, refl}
+use Rattle.std.proofs.Common.{◌≡◌, ℕ, Bool, true, false, List, [], ◌∷◌, Option, Some, None, refl}
 use Rattle.latex2mathml_elements.specs.{Characters.HasAllowedTexts, Colors.Color, Element.Element}
-use Rattle.latex2mathml_tex_grammar.specs.{Colors.color_of, Makes.fraction, Meaning.Change, Meaning.ToAlphabet, Meaning.ToStyle, Meaning.ToColor, Meaning.Divides, Meaning.FractionRule, Symbols.InText, Symbols.Style}
-use Rattle.latex2mathml_tex_grammar.specs.Rests.{begun_anew, below, finished, in_color, in_own_style, rest_behind_name, rest_below, rest_in, rest_of, settled, settled_after}
+use Rattle.latex2mathml_tex_grammar.specs.{Atoms.Kind, Colors.color_of, Makes.fraction, Meaning.Change, Meaning.ToAlphabet, Meaning.ToStyle, Meaning.ToColor, Meaning.Divides, Meaning.FractionRule, Symbols.InText, Symbols.Style}
+use Rattle.latex2mathml_tex_grammar.specs.Rests.{alone_after, alone_behind, begun_anew, below, finished, in_color, in_own_style, rest_behind_name, rest_below, rest_in, rest_of, settled, settled_after, with_sign_alone}
 use Rattle.latex2mathml_tex_grammar.specs.Scanning.{BeforeArgument, ColorName, Found, Given, Missing, scan}
 use Rattle.latex2mathml_tex_grammar.specs.Units.{Units}
 use Rattle.latex2mathml_tex_grammar.specs.{Rows.Restyled, Rows.Row, Rows.Upper, Rows.empty_row, Rows.row_element, Rows.with_operand_ended, Rules.Context}
 use Rattle.latex2mathml_tex_grammar.proofs.Allowed.{AreAllowedElements, AreAllowedUnits, IsAllowedBefore, IsAllowedPart, IsAllowedRest, IsAllowedRow, IsAllowedUpper}
-use Rattle.latex2mathml_tex_grammar.proofs.AllowedMakes.{fraction_allowed, last_allowed, row_children_allowed, row_element_allowed, with_atom_allowed}
+use Rattle.latex2mathml_tex_grammar.proofs.AllowedMakes.{fraction_allowed, last_allowed, lone_allowed, row_children_allowed, row_element_allowed, with_atom_allowed}
 use Rattle.latex2mathml_tex_grammar.proofs.AllowedRows.{given_allowed}
 
 own_style_allowed : (has_own_style : Bool) (style : Style) (xs : List Element) → AreAllowedElements xs → HasAllowedTexts (in_own_style has_own_style style xs)
@@ -37,13 +37,21 @@ upper_kept (Some change) style row h = h
 ended_allowed : (row : Row) → IsAllowedPart row → IsAllowedPart (with_operand_ended row)
 ended_allowed row h = record { elements = last_allowed _ row.elements h.elements; before = h.before; upper = h.upper }
 
+behind_allowed : (before : List Element) (last : Kind) (xs : List Element) → AreAllowedElements xs → AreAllowedElements (alone_behind before last xs)
+behind_allowed [] last xs h = lone_allowed last xs h
+behind_allowed (x ∷ before) last xs h = h
+
+alone_allowed : (change : Option Restyled) (row : Row) → IsAllowedPart row → IsAllowedPart (alone_after change row)
+alone_allowed None row h = h
+alone_allowed (Some change) row h = record { elements = behind_allowed change.before row.last row.elements h.elements; before = h.before; upper = h.upper }
+
 settled_row_allowed : (style : Style) (row : Row) → IsAllowedPart row → IsAllowedRow (settled style row)
 settled_row_allowed style row h = settled_allowed row.restyled style row h.before h.elements
 
 pub finished_allowed : (style : Style) (row : Row) → IsAllowedPart row → IsAllowedRow (finished style row)
 finished_allowed style row h =
-    let ended = with_operand_ended row in
-    let part = ended_allowed row h in
+    let ended = with_sign_alone (with_operand_ended row) in
+    let part = alone_allowed row.restyled (with_operand_ended row) (ended_allowed row h) in
     below_allowed (settled style ended).under (settled style ended) (upper_kept ended.restyled style ended part.upper) (settled_row_allowed style ended part)
 
 rest_below_allowed : (rule : FractionRule) (c : Context) (row : Row) (place : ℕ) (l : Units) (upper : Option Upper) → IsAllowedPart row → AreAllowedUnits l → IsAllowedRest (rest_below rule c row place l upper)

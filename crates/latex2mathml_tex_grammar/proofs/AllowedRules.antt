@@ -14,7 +14,7 @@ use Rattle.latex2mathml_tex_grammar.specs.Atoms.{Plain}
 use Rattle.latex2mathml_tex_grammar.specs.Rows.{as_base, lone, Operand, row_element}
 use Rattle.latex2mathml_tex_grammar.specs.Rules.{Context, Rule, gives, refuses, takes_if, a_character, a_digit, decimal, after_digits, a_number, a_symbol, begins_none, character_rule, struck_atom, slashed, a_box, a_fraction, meaning_rule, command_rule, rule, with_value, a_bar, a_left_brace, a_right_brace, empty_braces, an_outer_delimiter, has_width, a_line, numbered_style, a_style, an_outlined_fraction, a_general_fraction, a_choice}
 use Rattle.latex2mathml_tex_grammar.specs.Starts.{OperandStart, NoStart, GroupStart, DigitStart, operand_start, start_of_digit, Mark, Prime, Below, Above as AboveMark, LimitsAt, step_of, step_of_mark}
-use Rattle.latex2mathml_tex_grammar.specs.Symbols.{InDisplay, InText, InScript, Ordinary, Relation, Alphabet, Monospace, Style, Symbol}
+use Rattle.latex2mathml_tex_grammar.specs.Symbols.{InDisplay, InText, InScript, Ordinary, Relation, Alphabet, BoldItalic, Monospace, Style, Symbol}
 use Rattle.latex2mathml_tex_grammar.specs.Units.{Piece, Space, Open, Close, Command, Character}
 use Rattle.latex2mathml_tex_grammar.specs.Words.{Font, Word, font_attributes, font_in, is_in, last_font, letter_in, Shown, Formula, Accented, Changed, WordRule, IsWord, BeginsFormula, NoWord, Words, word_space, word_character, with_text, accented, with_character, end_accent, with_accent_ended, with_word, words_element, word_rule, character_rule as word_of_character, meaning_rule as word_of_meaning, accent_rule as word_of_accent, command_rule as word_of_command}
 use Rattle.latex2mathml_tex_grammar.proofs.Allowed.{IsAllowedPiece, AreAllowedElements, IsAllowedAccent, IsAllowedElement, IsAllowedCore, IsAllowedOperand, AreAllowedScripts, AreAllowedWords, IsAllowedWord, IsAllowedWordRule, IsAllowedStep, IsAllowedRule, AreGiven}
@@ -368,6 +368,7 @@ word_space_allowed = allowed_char 0xA0 refl
 letter_in_allowed : (alphabet : Option Alphabet) (c : ℕ) → is_forbidden c ≡ false → is_forbidden (letter_in alphabet c) ≡ false
 letter_in_allowed None c h = h
 letter_in_allowed (Some Monospace) c h = h
+letter_in_allowed (Some BoldItalic) c h = h
 letter_in_allowed (Some alphabet) c h = in_alphabet_allowed alphabet c h
 
 word_character_allowed : (alphabet : Option Alphabet) (c : ℕ) → is_forbidden c ≡ false → is_forbidden (word_character alphabet c) ≡ false

@@ -1,18 +1,18 @@
 -- What is in an expansion.
-use Rattle.std.proofs.Common.{ℕ, zero, suc, ◌+◌, ◌-◌, ◌≤◌, ◌≡◌, Bool, true, false, List, length, Option, Some, None, refl, ap, subst, arith}
+use Rattle.std.proofs.Common.{ℕ, zero, suc, ◌+◌, ◌-◌, ◌≤◌, ◌≡◌, Bool, true, false, List, length, Option, Some, None, refl, ap, subst, ◌∙◌, arith}
 use Rattle.std.specs.Prelude.{⊤, nat_lt, if◌then◌else◌}
-use Rattle.std.specs.Str.{bytes_eq}
-use Rattle.latex2mathml_tex_grammar.specs.Definitions.{DeclareDelimiters, Word, NewCommand, ProvideCommand, Def, DeclareOperator, Definition, definition_of, provided, behind_definition}
-use Rattle.latex2mathml_tex_grammar.specs.Arguments.{macro_arguments}
-use Rattle.latex2mathml_tex_grammar.specs.Expansion.{form_of, used_form, Role, Uses, Defines, Stands, name_role, role_of, Turn, Stays, Turns, Fails, replaced, with_arguments, used, defined, turn_of, turn, Expands, at_end, at_stop, stays, turns, fails}
+use Rattle.std.specs.{Option.unwrap_or, Str.byte, Str.bytes_eq}
+use Rattle.latex2mathml_tex_grammar.specs.Definitions.{Word, NewCommand, ProvideCommand, Def, DeclareOperator, DeclareDelimiters, Let, Definition, any_piece, body, body_in_braces, command_definition, default_of, definition_of, name_of, number_of, parameters, provided, resolved, sign, word_of, behind_definition}
+use Rattle.latex2mathml_tex_grammar.specs.Arguments.{and_then, macro_arguments}
+use Rattle.latex2mathml_tex_grammar.specs.Expansion.{form_of, used_form, Role, Uses, Defines, Stands, word_role, own_role, macro_role, found_role, role_of, Turn, Stays, Turns, Fails, replaced, with_arguments, used, defined, turn_of, turn, Expands, at_end, at_stop, stays, turns, fails}
 use Rattle.latex2mathml_tex_grammar.specs.Expanding.{expansion}
-use Rattle.latex2mathml_tex_grammar.specs.ExpansionLaws.{AllStand, HaveOneExpansion, AreExpanded, IsSpacePassed}
-use Rattle.latex2mathml_tex_grammar.specs.Macros.{Part, Macro, Table, with_macro, put, before, count}
-use Rattle.latex2mathml_tex_grammar.specs.{Reading.Outcome, Reading.Read, Reading.Refused, Refusal.Refusal, Refusal.TooManyExpansions, Refusal.refusal_at}
+use Rattle.latex2mathml_tex_grammar.specs.ExpansionLaws.{AliasesStand, AllStand, HaveOneExpansion, AreExpanded, IsSpacePassed}
+use Rattle.latex2mathml_tex_grammar.specs.Macros.{Part, Macro, Table, alias, macro_of, macro_with_default, with_macro, put, before, count}
+use Rattle.latex2mathml_tex_grammar.specs.{Next.past_space, Reading.Outcome, Reading.Read, Reading.Refused, Refusal.Refusal, Refusal.TooManyExpansions, Refusal.refusal_at}
 use Rattle.latex2mathml_tex_grammar.specs.Units.{Piece, Space, Open, Close, Command, Character, Unit, Units, Next, End, Stop}
 use Rattle.latex2mathml_tex_grammar.proofs.Expanding.{expands_once, is_expanded, Shrinks, turn_shrinks}
 
-stays_standing : (table : Table) (uses room : ℕ) (u : Unit) (l : Units) → role_of table u.piece ≡ Stands → turn table uses room u l ≡ Stays
+stays_standing : (table : Table) (uses room : ℕ) (u : Unit) (l : Units) → role_of table u.piece ≡ Stands u.piece → turn table uses room u l ≡ Stays u.piece
 stays_standing table uses room u l e = ap (λ role. turn_of role table uses room u l) e
 
 pub own : (table : Table) (uses room : ℕ) (l : Units) → AllStand table l → Expands table uses room l l
@@ -20,121 +20,201 @@ own table uses room (Next u l) h = stays (stays_standing table uses room u l h.0
 own table uses room (End place) h = at_end
 own table uses room (Stop r) h = at_stop
 
--- what stays is neither a macro nor a definition
+-- what stays is neither a macro nor a definition, here in place of the piece p
 
-no_stay_either : (b : Bool) (r : Refusal) (table : Table) (uses room : ℕ) (l : Units) → (if b then Fails r else Turns table uses room l) ≡ Stays → ⊥
+no_stay_either : (b : Bool) (r : Refusal) (table : Table) (uses room : ℕ) (l : Units) {p : Piece} → (if b then Fails r else Turns table uses room l) ≡ Stays p → ⊥
 no_stay_either true r table uses room l e = cc
 no_stay_either false r table uses room l e = cc
 
-no_stay : (table : Table) (uses room : ℕ) (u : Unit) (us : List Unit) (l : Units) → replaced table uses room u us l ≡ Stays → ⊥
+no_stay : (table : Table) (uses room : ℕ) (u : Unit) (us : List Unit) (l : Units) {p : Piece} → replaced table uses room u us l ≡ Stays p → ⊥
 no_stay table uses room u us l e = no_stay_either (nat_lt room (length us)) (refusal_at TooManyExpansions u.place) table uses (room - length us) (before us l) e
 
-no_stay_arguments : (table : Table) (uses room : ℕ) (u : Unit) (parts : List Part) (o : Outcome (List (List Unit))) → with_arguments table uses room u parts o ≡ Stays → ⊥
+no_stay_arguments : (table : Table) (uses room : ℕ) (u : Unit) (parts : List Part) (o : Outcome (List (List Unit))) {p : Piece} → with_arguments table uses room u parts o ≡ Stays p → ⊥
 no_stay_arguments table uses room u parts (Read args l) e = no_stay table uses room u (put args u.place parts) l e
 no_stay_arguments table uses room u parts (Refused r) e = cc
 
-no_stay_form : (table : Table) (uses room : ℕ) (u : Unit) (f : Macro × Units) → used_form table uses room u f ≡ Stays → ⊥
+no_stay_form : (table : Table) (uses room : ℕ) (u : Unit) (f : Macro × Units) {p : Piece} → used_form table uses room u f ≡ Stays p → ⊥
 no_stay_form table uses room u (m, l) e = no_stay_arguments table uses room u m.body (macro_arguments m u.place l) e
 
-no_stay_used : (table : Table) (uses room : ℕ) (u : Unit) (m : Macro) (l : Units) → used table uses room u m l ≡ Stays → ⊥
+no_stay_used : (table : Table) (uses room : ℕ) (u : Unit) (m : Macro) (l : Units) {p : Piece} → used table uses room u m l ≡ Stays p → ⊥
 no_stay_used table zero room u m l e = cc
 no_stay_used table (suc uses) room u m l e = no_stay_form table uses room u (form_of m l) e
 
-no_stay_defined : (table : Table) (uses room : ℕ) (word : Word) (o : Outcome Definition) → defined table uses room word o ≡ Stays → ⊥
+no_stay_defined : (table : Table) (uses room : ℕ) (word : Word) (o : Outcome Definition) {p : Piece} → defined table uses room word o ≡ Stays p → ⊥
 no_stay_defined table uses room word (Read d l) e = cc
 no_stay_defined table uses room word (Refused r) e = cc
 
-stands_staying : (role : Role) (table : Table) (uses room : ℕ) (u : Unit) (l : Units) → turn_of role table uses room u l ≡ Stays → role ≡ Stands
+stands_staying : (role : Role) (table : Table) (uses room : ℕ) (u : Unit) (l : Units) {p : Piece} → turn_of role table uses room u l ≡ Stays p → role ≡ Stands p
 stands_staying (Uses m) table uses room u l e = absurd (no_stay_used table uses room u m l e)
 stands_staying (Defines word) table uses room u l e = absurd (no_stay_defined table uses room word (definition_of word u.place l) e)
-stands_staying Stands table uses room u l e = refl
+stands_staying (Stands q) table uses room u l {p} e = let same : q ≡ p = cc in ap Stands same
 
 -- a name that means a macro goes on to do so
 
 abbrev Grows : Table → Table → Type 0
 Grows old new = (name : List ℕ) → new name ≡ None → old name ≡ None
 
-with_macro_grows : (name : List ℕ) (m : Macro) (table : Table) → Grows table (with_macro name m table)
-with_macro_grows name m table other e = some_or (bytes_eq name other) m (table other) e
-  where
-    some_or : (b : Bool) (m : Macro) (x : Option Macro) → (if b then Some m else x) ≡ None → x ≡ None
-    some_or true m x e = cc
-    some_or false m x e = e
+some_or : (b : Bool) (m : Macro) (x : Option Macro) → (if b then Some m else x) ≡ None → x ≡ None
+some_or true m x e = cc
+some_or false m x e = e
 
-provided_grows : (d : Definition) (found : Option Macro) (table : Table) → Grows table (provided d found table)
-provided_grows d (Some m) table name e = e
-provided_grows d None table name e = with_macro_grows d.name d.stands_for table name e
+with_macro_grows : (name : List ℕ) (m : Macro) (first table : Table) → Grows first table → Grows first (with_macro name m table)
+with_macro_grows name m first table h other e = h other (some_or (bytes_eq name other) m (table other) e)
 
-grows : (word : Word) (d : Definition) (table : Table) → Grows table (behind_definition word d table)
-grows ProvideCommand d table = provided_grows d (table d.name) table
-grows NewCommand d table = with_macro_grows d.name d.stands_for table
-grows Def d table = with_macro_grows d.name d.stands_for table
-grows DeclareOperator d table = with_macro_grows d.name d.stands_for table
-grows DeclareDelimiters d table = with_macro_grows d.name d.stands_for table
+piece_grows : (first table : Table) (piece : Piece) → Grows first table → macro_of table piece ≡ None → macro_of first piece ≡ None
+piece_grows first table (Command name) h e = h name e
+piece_grows first table Space h e = refl
+piece_grows first table Open h e = refl
+piece_grows first table Close h e = refl
+piece_grows first table (Character c) h e = refl
 
-name_stands : (old new : Option Macro) (name : List ℕ) → (new ≡ None → old ≡ None) → name_role new name ≡ Stands → name_role old name ≡ Stands
-name_stands None new name h e = name_free new name e
-  where
-    name_free : (new : Option Macro) (name : List ℕ) → name_role new name ≡ Stands → name_role None name ≡ Stands
-    name_free None name e = e
-    name_free (Some m) name e = cc
-name_stands (Some m) (Some m') name h e = cc
-name_stands (Some m) None name h e = (let none : Some m ≡ None = h refl in cc)
+-- no macro that held first has another name
 
-role_stands : (old new : Table) (p : Piece) → Grows old new → role_of new p ≡ Stands → role_of old p ≡ Stands
-role_stands old new (Command name) h e = name_stands (old name) (new name) name (h name) e
-role_stands old new Space h e = refl
-role_stands old new Open h e = refl
-role_stands old new Close h e = refl
-role_stands old new (Character c) h e = refl
+-- the macro is no other name for one that held first
+abbrev IsNoName : Table → Macro → Type 0
+IsNoName first m = (piece : Piece) → m.alias ≡ Some piece → macro_of first piece ≡ None
 
-all_stand : (old new : Table) (l : Units) → Grows old new → AllStand new l → AllStand old l
-all_stand old new (Next u l) h d = (role_stands old new u.piece h d.0, all_stand old new l h d.1)
-all_stand old new (End place) h d = tt
-all_stand old new (Stop r) h d = tt
+abbrev AreNoNames : Table → Table → Type 0
+AreNoNames first table = (name : List ℕ) (m : Macro) → table name ≡ Some m → IsNoName first m
+
+-- macros that may hold after these
+record Later (first table : Table) : Type 0 where
+  grows : Grows first table
+  no_names : AreNoNames first table
+
+found_either : (first : Table) (b : Bool) (m found : Macro) (x : Option Macro) → IsNoName first m → ((y : Macro) → x ≡ Some y → IsNoName first y) → (if b then Some m else x) ≡ Some found → IsNoName first found
+found_either first true m found x h t e = (let same : m ≡ found = cc in subst (IsNoName first) same h)
+found_either first false m found x h t e = t found e
+
+later_macro : (name : List ℕ) (m : Macro) (first table : Table) → IsNoName first m → Later first table → Later first (with_macro name m table)
+later_macro name m first table h t = record {
+  grows = with_macro_grows name m first table t.grows;
+  no_names = λ other found e. found_either first (bytes_eq name other) m found (table other) h (t.no_names other) e;
+}
+
+-- what is read passes
+abbrev IfRead : {A : Type 0} → (A → Type 0) → Outcome A → Type 0
+IfRead P (Read x l) = P x
+IfRead P (Refused r) = ⊤
+
+read_then : {A B : Type 0} (P : B → Type 0) (o : Outcome A) (more : A → Units → Outcome B) → ((x : A) (l : Units) → IfRead P (more x l)) → IfRead P (and_then o more)
+read_then P (Read x l) more h = h x l
+read_then P (Refused r) more h = tt
+
+-- only `\let` gives another name
+abbrev IsNameByLet : Word → Definition → Type 0
+IsNameByLet Let d = ⊤
+IsNameByLet word d = d.stands_for.alias ≡ None
+
+with_default : (default : Option (List Part)) (n : ℕ) (parts : List Part) → (macro_with_default default n parts).alias ≡ None
+with_default None n parts = refl
+with_default (Some default) n parts = refl
+
+command_names : (place : ℕ) (l : Units) → IfRead (λ d. d.stands_for.alias ≡ None) (command_definition place l)
+command_names place l =
+    read_then _ (name_of place (sign (byte "*") l).1) _ (λ name m. read_then _ (number_of place m) _ (λ n k. read_then _ (default_of place n k) _ (λ default j. read_then _ (body place n j) _ (λ parts rest. with_default default n parts))))
+
+definition_names : (word : Word) (place : ℕ) (l : Units) → IfRead (IsNameByLet word) (definition_of word place l)
+definition_names NewCommand place l = command_names place l
+definition_names ProvideCommand place l = command_names place l
+definition_names Def place l = read_then _ (name_of place l) _ (λ name m. read_then _ (parameters place 9 0 m) _ (λ n k. read_then _ (body_in_braces place n k) _ (λ parts rest. refl)))
+definition_names DeclareOperator place l = read_then _ (name_of place (sign (byte "*") l).1) _ (λ name m. read_then _ (body place 0 m) _ (λ parts rest. refl))
+definition_names DeclareDelimiters place l = read_then _ (name_of place l) _ (λ name m. read_then _ (body place 0 m) _ (λ left k. read_then _ (body place 0 k) _ (λ right rest. refl)))
+definition_names Let place l = read_then _ (name_of place l) _ (λ name m. read_then _ (any_piece place (past_space (sign (byte "=") m).1)) _ (λ piece rest. tt))
+
+no_name : (first : Table) (m : Macro) → m.alias ≡ None → IsNoName first m
+no_name first m e piece f = absurd (cc)
+
+in_table : (piece : Piece) (first table : Table) → AreNoNames first table → (m : Macro) → macro_of table piece ≡ Some m → IsNoName first m
+in_table (Command name) first table t m e = t name m e
+in_table Space first table t m e = cc
+in_table Open first table t m e = cc
+in_table Close first table t m e = cc
+in_table (Character c) first table t m e = cc
+
+found_now : (first : Table) (piece : Piece) (found : Option Macro) → (found ≡ None → macro_of first piece ≡ None) → ((m : Macro) → found ≡ Some m → IsNoName first m) → IsNoName first (unwrap_or found (alias piece))
+found_now first piece (Some m) none some = some m refl
+found_now first piece None none some = λ other e. (let same : piece ≡ other = cc in subst (λ p. macro_of first p ≡ None) same (none refl))
+
+resolved_now : (first table : Table) (m : Macro) (named : Option Piece) → m.alias ≡ named → Later first table → IsNoName first (resolved table m named)
+resolved_now first table m (Some piece) e t = found_now first piece (macro_of table piece) (piece_grows first table piece t.grows) (in_table piece first table t.no_names)
+resolved_now first table m None e t = no_name first m e
+
+later_provided : (d : Definition) (found : Option Macro) (first table : Table) → d.stands_for.alias ≡ None → Later first table → Later first (provided d found table)
+later_provided d (Some m) first table e t = t
+later_provided d None first table e t = later_macro d.name d.stands_for first table (no_name first d.stands_for e) t
+
+later : (word : Word) (d : Definition) (first table : Table) → IsNameByLet word d → Later first table → Later first (behind_definition word d table)
+later ProvideCommand d first table e t = later_provided d (table d.name) first table e t
+later NewCommand d first table e t = later_macro d.name d.stands_for first table (no_name first d.stands_for e) t
+later Def d first table e t = later_macro d.name d.stands_for first table (no_name first d.stands_for e) t
+later DeclareOperator d first table e t = later_macro d.name d.stands_for first table (no_name first d.stands_for e) t
+later DeclareDelimiters d first table e t = later_macro d.name d.stands_for first table (no_name first d.stands_for e) t
+later Let d first table e t = later_macro d.name (resolved table d.stands_for d.stands_for.alias) first table (resolved_now first table d.stands_for d.stands_for.alias refl t) t
 
 -- the macros that hold after a turn
-abbrev GrowsBy : Table → Turn → Type 0
-GrowsBy table Stays = ⊤
-GrowsBy table (Turns next uses room l) = Grows table next
-GrowsBy table (Fails r) = ⊤
+abbrev LaterBy : Table → Turn → Type 0
+LaterBy first (Stays piece) = ⊤
+LaterBy first (Turns next uses room l) = Later first next
+LaterBy first (Fails r) = ⊤
 
-arguments_grow : (table : Table) (uses room : ℕ) (u : Unit) (parts : List Part) (o : Outcome (List (List Unit))) → GrowsBy table (with_arguments table uses room u parts o)
-arguments_grow table uses room u parts (Read args l) = grows_either (nat_lt room (length (put args u.place parts))) table uses _ _ _
+arguments_later : (first table : Table) (uses room : ℕ) (u : Unit) (parts : List Part) (o : Outcome (List (List Unit))) → Later first table → LaterBy first (with_arguments table uses room u parts o)
+arguments_later first table uses room u parts (Read args l) t = either (nat_lt room (length (put args u.place parts))) uses _ _ _
   where
-    grows_either : (b : Bool) (table : Table) (uses room : ℕ) (r : Refusal) (l : Units) → GrowsBy table (if b then Fails r else Turns table uses room l)
-    grows_either true table uses room r l = tt
-    grows_either false table uses room r l = λ name e. e
-arguments_grow table uses room u parts (Refused r) = tt
+    either : (b : Bool) (uses room : ℕ) (r : Refusal) (l : Units) → LaterBy first (if b then Fails r else Turns table uses room l)
+    either true uses room r l = tt
+    either false uses room r l = t
+arguments_later first table uses room u parts (Refused r) t = tt
 
-form_grows : (table : Table) (uses room : ℕ) (u : Unit) (f : Macro × Units) → GrowsBy table (used_form table uses room u f)
-form_grows table uses room u (m, l) = arguments_grow table uses room u m.body (macro_arguments m u.place l)
+form_later : (first table : Table) (uses room : ℕ) (u : Unit) (f : Macro × Units) → Later first table → LaterBy first (used_form table uses room u f)
+form_later first table uses room u (m, l) t = arguments_later first table uses room u m.body (macro_arguments m u.place l) t
 
-used_grows : (table : Table) (uses room : ℕ) (u : Unit) (m : Macro) (l : Units) → GrowsBy table (used table uses room u m l)
-used_grows table zero room u m l = tt
-used_grows table (suc uses) room u m l = form_grows table uses room u (form_of m l)
+used_later : (first table : Table) (uses room : ℕ) (u : Unit) (m : Macro) (l : Units) → Later first table → LaterBy first (used table uses room u m l)
+used_later first table zero room u m l t = tt
+used_later first table (suc uses) room u m l t = form_later first table uses room u (form_of m l) t
 
-defined_grows : (table : Table) (uses room : ℕ) (word : Word) (o : Outcome Definition) → GrowsBy table (defined table uses room word o)
-defined_grows table uses room word (Read d l) = grows word d table
-defined_grows table uses room word (Refused r) = tt
+defined_later : (first table : Table) (uses room : ℕ) (word : Word) (o : Outcome Definition) → IfRead (IsNameByLet word) o → Later first table → LaterBy first (defined table uses room word o)
+defined_later first table uses room word (Read d l) e t = later word d first table e t
+defined_later first table uses room word (Refused r) e t = tt
 
-turn_grows : (role : Role) (table : Table) (uses room : ℕ) (u : Unit) (l : Units) → GrowsBy table (turn_of role table uses room u l)
-turn_grows (Uses m) table uses room u l = used_grows table uses room u m l
-turn_grows (Defines word) table uses room u l = defined_grows table uses room word (definition_of word u.place l)
-turn_grows Stands table uses room u l = tt
+turn_later : (role : Role) (first table : Table) (uses room : ℕ) (u : Unit) (l : Units) → Later first table → LaterBy first (turn_of role table uses room u l)
+turn_later (Uses m) first table uses room u l t = used_later first table uses room u m l t
+turn_later (Defines word) first table uses room u l t = defined_later first table uses room word (definition_of word u.place l) (definition_names word u.place l) t
+turn_later (Stands piece) first table uses room u l t = tt
 
-done : {table : Table} {uses room : ℕ} {l m : Units} → Expands table uses room l m → AllStand table m
-done at_end = tt
-done at_stop = tt
-done (stays {table = table} {uses = uses} {room = room} {u = u} {l = l} e d) = (stands_staying (role_of table u.piece) table uses room u l e, done d)
-done (turns {table = table} {next = next} {uses = uses} {room = room} {u = u} {l = l} {m = m} e d) =
-    all_stand table next m (subst (GrowsBy table) e (turn_grows (role_of table u.piece) table uses room u l)) (done d)
-done (fails e) = tt
+-- what stands later stands among the first macros
 
-behind : (table next : Table) (uses room uses_left room_left : ℕ) (u : Unit) (l n m : Units) → turn table uses room u l ≡ Turns next uses_left room_left n → Expands table uses room (Next u l) m → AllStand next m
-behind table next uses room uses_left room_left u l n m e d =
+own_piece : (word : Option Word) (p q : Piece) → word_role word p ≡ Stands q → p ≡ q
+own_piece (Some word) p q e = cc
+own_piece None p q e = cc
+
+own_stands : (first : Table) (p q : Piece) → macro_of first p ≡ None → own_role p ≡ Stands q → role_of first q ≡ Stands q
+own_stands first p q none e = subst (λ x. role_of first x ≡ Stands q) (own_piece (word_of p) p q e) (ap (λ found. found_role found p) none ∙ e)
+
+named_stands : (first : Table) (m : Macro) (named : Option Piece) (q : Piece) → m.alias ≡ named → IsNoName first m → macro_role m named ≡ Stands q → role_of first q ≡ Stands q
+named_stands first m (Some piece) q e h stands = own_stands first piece q (h piece e) stands
+named_stands first m None q e h stands = cc
+
+found_stands : (first : Table) (found : Option Macro) (p q : Piece) → (found ≡ None → macro_of first p ≡ None) → ((m : Macro) → found ≡ Some m → IsNoName first m) → found_role found p ≡ Stands q → role_of first q ≡ Stands q
+found_stands first (Some m) p q none some stands = named_stands first m m.alias q refl (some m refl) stands
+found_stands first None p q none some stands = own_stands first p q (none refl) stands
+
+done : {table : Table} {uses room : ℕ} {l m : Units} (first : Table) → Later first table → Expands table uses room l m → AllStand first m
+done first t at_end = tt
+done first t at_stop = tt
+done first t (stays {table = table} {uses = uses} {room = room} {u = u} {piece = piece} {l = l} e d) =
+    (found_stands first (macro_of table u.piece) u.piece piece (piece_grows first table u.piece t.grows) (in_table u.piece first table t.no_names) (stands_staying (role_of table u.piece) table uses room u l e), done first t d)
+done first t (turns {table = table} {next = next} {uses = uses} {room = room} {u = u} {l = l} e d) =
+    done first (subst (LaterBy first) e (turn_later (role_of table u.piece) first table uses room u l t)) d
+done first t (fails e) = tt
+
+now : (table : Table) → AliasesStand table → Later table table
+now table h = record { grows = λ name e. e; no_names = λ name m e piece f. h name m piece e f }
+
+behind : (table next : Table) (uses room uses_left room_left : ℕ) (u : Unit) (l n m : Units) → AliasesStand next → turn table uses room u l ≡ Turns next uses_left room_left n → Expands table uses room (Next u l) m → AllStand next m
+behind table next uses room uses_left room_left u l n m h e d =
     let rest : Expands next uses_left room_left n (expansion next uses_left room_left n) = is_expanded next uses_left room_left n in
-    subst (AllStand next) (expands_once (turns e rest) d) (done rest)
+    subst (AllStand next) (expands_once (turns e rest) d) (done next (now next h) rest)
 
 most : {table : Table} {uses room : ℕ} {l m : Units} → Expands table uses room l m → count m ≤ count l + room
 most at_end = omega arith
@@ -151,9 +231,9 @@ have_one = λ table uses room l. record { some = (_, is_expanded table uses room
 pub are_expanded : AreExpanded
 are_expanded = record {
   own = own;
-  done = λ table uses room l m d. done d;
+  done = λ table uses room l m h d. done table (now table h) d;
   behind = behind;
-  again = λ table uses room l m d. own table uses room m (done d);
+  again = λ table uses room l m h d. own table uses room m (done table (now table h) d);
   most = λ table uses room l m d. most d;
 }
 
@@ -166,3 +246,4 @@ space_passed = record { behind_word = passed; before_argument = λ place n u l e
     passed Def place u l e = rw e refl
     passed DeclareOperator place u l e = rw e refl
     passed DeclareDelimiters place u l e = rw e refl
+    passed Let place u l e = rw e refl

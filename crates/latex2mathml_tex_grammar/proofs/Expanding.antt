@@ -8,13 +8,13 @@ use Rattle.latex2mathml_tex_grammar.specs.Expanding.{turned, expansion_within, e
 use Rattle.latex2mathml_tex_grammar.specs.Expansion.{form_of, used_form, Role, Uses, Defines, Stands, role_of, Turn, Stays, Turns, Fails, replaced, with_arguments, used, defined, turn_of, turn, Expands, at_end, at_stop, stays, turns, fails}
 use Rattle.latex2mathml_tex_grammar.specs.Macros.{Part, Macro, Table, put, count}
 use Rattle.latex2mathml_tex_grammar.specs.{Reading.Outcome, Reading.Read, Reading.Refused, Refusal.Refusal}
-use Rattle.latex2mathml_tex_grammar.specs.Units.{Unit, Units, Next, End, Stop}
+use Rattle.latex2mathml_tex_grammar.specs.Units.{Piece, Unit, unit, Units, Next, End, Stop}
 use Rattle.latex2mathml_tex_grammar.proofs.Choices.{of_chosen}
 use Rattle.latex2mathml_tex_grammar.proofs.Shrinking.{Leaves, form_leaves, macro_arguments_leave, definition_leaves, count-before}
 
 -- what is expanded instead, with what can still be put, is at most n units
 abbrev pub Shrinks : ℕ → Turn → Type 0
-Shrinks n Stays = ⊤
+Shrinks n (Stays piece) = ⊤
 Shrinks n (Turns table uses room l) = count l + room ≤ n
 Shrinks n (Fails r) = ⊤
 
@@ -41,14 +41,14 @@ defined_shrinks n k table uses room word (Refused r) left h = tt
 pub turn_shrinks : (role : Role) (table : Table) (uses room : ℕ) (u : Unit) (l : Units) → Shrinks (count l + room) (turn_of role table uses room u l)
 turn_shrinks (Uses m) table uses room u l = used_shrinks table uses room u m l
 turn_shrinks (Defines word) table uses room u l = defined_shrinks (count l + room) (count l) table uses room word (definition_of word u.place l) (definition_leaves word u.place l) (omega arith)
-turn_shrinks Stands table uses room u l = tt
+turn_shrinks (Stands piece) table uses room u l = tt
 
 -- Units have an expansion
 
 turned_expands : (n : ℕ) (table : Table) (uses room : ℕ) (u : Unit) (l : Units) (t : Turn) → turn table uses room u l ≡ t → Shrinks (count l + room) t → count l + room < n
     → ((table : Table) (uses room : ℕ) (l : Units) → count l + room < n → Expands table uses room l (expansion_within n table uses room l))
     → Expands table uses room (Next u l) (turned t table uses room u l (expansion_within n))
-turned_expands n table uses room u l Stays e s h more = stays e (more table uses room l h)
+turned_expands n table uses room u l (Stays piece) e s h more = stays e (more table uses room l h)
 turned_expands n table uses room u l (Turns next uses_left room_left m) e s h more = turns e (more next uses_left room_left m (omega (arith, s, h)))
 turned_expands n table uses room u l (Fails r) e s h more = fails e
 
@@ -76,7 +76,8 @@ turns_moved t {table} {next} {uses} {room} {uses_left} {room_left} {l} {m} {n} e
 pub expands_once : {table : Table} {uses room : ℕ} {l m n : Units} → Expands table uses room l m → Expands table uses room l n → m ≡ n
 expands_once at_end at_end = refl
 expands_once at_stop at_stop = refl
-expands_once (stays {u = u} e d) (stays f d') = ap (Next u) (expands_once d d')
+expands_once (stays {u = u} {piece = p} {m = m} e d) (stays {piece = q} f d') =
+    let same : p ≡ q = cc in rw same (ap (Next (unit q u.place)) (expands_once d d'))
 expands_once (stays e d) (turns f d') = cc
 expands_once (stays e d) (fails f) = cc
 expands_once (turns e d) (stays f d') = cc
@@ -97,8 +98,8 @@ expansion_end table uses room place = expansion_is at_end
 pub expansion_stop : (table : Table) (uses room : ℕ) (r : Refusal) → expansion table uses room (Stop r) ≡ Stop r
 expansion_stop table uses room r = expansion_is at_stop
 
-pub expansion_stays : (table : Table) (uses room : ℕ) (u : Unit) (l : Units) → turn table uses room u l ≡ Stays → expansion table uses room (Next u l) ≡ Next u (expansion table uses room l)
-expansion_stays table uses room u l e = expansion_is (stays e (is_expanded table uses room l))
+pub expansion_stays : (table : Table) (uses room : ℕ) (u : Unit) (piece : Piece) (l : Units) → turn table uses room u l ≡ Stays piece → expansion table uses room (Next u l) ≡ Next (unit piece u.place) (expansion table uses room l)
+expansion_stays table uses room u piece l e = expansion_is (stays e (is_expanded table uses room l))
 
 pub expansion_turns : (table : Table) (uses room : ℕ) (u : Unit) (l : Units) (next : Table) (uses_left room_left : ℕ) (m : Units) → turn table uses room u l ≡ Turns next uses_left room_left m → expansion table uses room (Next u l) ≡ expansion next uses_left room_left m
 expansion_turns table uses room u l next uses_left room_left m e = expansion_is (turns e (is_expanded next uses_left room_left m))

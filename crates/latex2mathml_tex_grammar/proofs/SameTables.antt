@@ -1,14 +1,14 @@
 -- Tables in which each name means the same expand units to the same.
 use Rattle.std.proofs.Common.{ℕ, zero, suc, ◌+◌, ◌-◌, ◌≡◌, Bool, true, false, List, length, Option, Some, None, refl, ap, ◌∙◌}
 use Rattle.std.specs.Prelude.{nat_lt, if◌then◌else◌}
-use Rattle.std.specs.Str.{bytes_eq}
+use Rattle.std.specs.{Option.unwrap_or, Str.bytes_eq}
 use Rattle.latex2mathml_tex_grammar.specs.Arguments.{macro_arguments}
-use Rattle.latex2mathml_tex_grammar.specs.Definitions.{DeclareDelimiters, Word, NewCommand, ProvideCommand, Def, DeclareOperator, Definition, definition_of, provided, behind_definition}
+use Rattle.latex2mathml_tex_grammar.specs.Definitions.{Word, NewCommand, ProvideCommand, Def, DeclareOperator, DeclareDelimiters, Let, Definition, definition_of, provided, resolved, behind_definition}
 use Rattle.latex2mathml_tex_grammar.specs.Expanding.{turned, expansion_within, expansion}
-use Rattle.latex2mathml_tex_grammar.specs.Expansion.{form_of, used_form, Role, Uses, Defines, Stands, name_role, role_of, Turn, Turns, Fails, with_arguments, used, defined, turn_of}
-use Rattle.latex2mathml_tex_grammar.specs.Macros.{Part, Macro, SameMacros, Table, with_macro, put, before, count}
+use Rattle.latex2mathml_tex_grammar.specs.Expansion.{form_of, used_form, Role, Uses, Defines, Stands, found_role, role_of, Turn, Turns, Fails, with_arguments, used, defined, turn_of}
+use Rattle.latex2mathml_tex_grammar.specs.Macros.{Part, Macro, alias, macro_of, SameMacros, Table, with_macro, put, before, count}
 use Rattle.latex2mathml_tex_grammar.specs.{Reading.Outcome, Reading.Read, Reading.Refused, Refusal.Refusal, Refusal.TooManyExpansions, Refusal.refusal_at}
-use Rattle.latex2mathml_tex_grammar.specs.Units.{Piece, Space, Open, Close, Command, Character, Unit, Units, Next, End, Stop}
+use Rattle.latex2mathml_tex_grammar.specs.Units.{Piece, Space, Open, Close, Command, Character, Unit, unit, Units, Next, End, Stop}
 
 pub with_macro_same : (name : List ℕ) (m : Macro) (t v : Table) → SameMacros t v → SameMacros (with_macro name m t) (with_macro name m v)
 with_macro_same name m t v h other = ap (λ (x : Option Macro). if bytes_eq name other then Some m else x) (h other)
@@ -19,19 +19,28 @@ provided_same d None None t v e h = with_macro_same d.name d.stands_for t v h
 provided_same d (Some m) None t v e h = absurd (cc)
 provided_same d None (Some m) t v e h = absurd (cc)
 
+macro_of_same : (p : Piece) (t v : Table) → SameMacros t v → macro_of t p ≡ macro_of v p
+macro_of_same (Command name) t v h = h name
+macro_of_same Space t v h = refl
+macro_of_same Open t v h = refl
+macro_of_same Close t v h = refl
+macro_of_same (Character c) t v h = refl
+
+resolved_same : (m : Macro) (piece : Option Piece) (t v : Table) → SameMacros t v → resolved t m piece ≡ resolved v m piece
+resolved_same m (Some p) t v h = ap (λ found. unwrap_or found (alias p)) (macro_of_same p t v h)
+resolved_same m None t v h = refl
+
 pub behind_same : (word : Word) (d : Definition) (t v : Table) → SameMacros t v → SameMacros (behind_definition word d t) (behind_definition word d v)
 behind_same ProvideCommand d t v h = provided_same d (t d.name) (v d.name) t v (h d.name) h
 behind_same NewCommand d t v h = with_macro_same d.name d.stands_for t v h
 behind_same Def d t v h = with_macro_same d.name d.stands_for t v h
 behind_same DeclareOperator d t v h = with_macro_same d.name d.stands_for t v h
 behind_same DeclareDelimiters d t v h = with_macro_same d.name d.stands_for t v h
+behind_same Let d t v h =
+    rw (resolved_same d.stands_for d.stands_for.alias t v h) (with_macro_same d.name (resolved v d.stands_for d.stands_for.alias) t v h)
 
 role_same : (p : Piece) (t v : Table) → SameMacros t v → role_of t p ≡ role_of v p
-role_same (Command name) t v h = ap (λ found. name_role found name) (h name)
-role_same Space t v h = refl
-role_same Open t v h = refl
-role_same Close t v h = refl
-role_same (Character c) t v h = refl
+role_same p t v h = ap (λ found. found_role found p) (macro_of_same p t v h)
 
 -- what is expanded from here on is the same
 abbrev SameFrom : ℕ → Type 0
@@ -67,7 +76,7 @@ defined_same n t v uses room u l word (Refused r) more h = refl
 turn_same : (n : ℕ) (t v : Table) (uses room : ℕ) (u : Unit) (l : Units) (role : Role) → SameFrom n → SameMacros t v → SameTurns n t v uses room u l (turn_of role t uses room u l) (turn_of role v uses room u l)
 turn_same n t v uses room u l (Uses m) more h = used_same n t v uses room u l m more h
 turn_same n t v uses room u l (Defines word) more h = defined_same n t v uses room u l word (definition_of word u.place l) more h
-turn_same n t v uses room u l Stands more h = ap (Next u) (more t v uses room l h)
+turn_same n t v uses room u l (Stands piece) more h = ap (Next (unit piece u.place)) (more t v uses room l h)
 
 same_within : (n : ℕ) → SameFrom n
 unfolding expansion_within

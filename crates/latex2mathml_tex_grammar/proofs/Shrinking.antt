@@ -3,7 +3,7 @@ use Rattle.std.proofs.Common.{ℕ, zero, suc, ◌+◌, ◌≤◌, ◌≡◌, Boo
 use Rattle.std.specs.Prelude.{⊤}
 use Rattle.std.specs.Str.{byte}
 use Rattle.latex2mathml_tex_grammar.specs.Arguments.{Brace, Opening, Closing, NoBrace, brace_of, and_then, with_first, in_group, group, argument_of, argument_here, argument, arguments, is_character, ends_brackets, in_brackets, between_brackets, without_braces, bracket_here, bracket, behind_bracket, optional, or_default, arguments_with, macro_arguments}
-use Rattle.latex2mathml_tex_grammar.specs.Definitions.{DeclareDelimiters, delimiters_definition, Word, NewCommand, ProvideCommand, Def, DeclareOperator, sign_here, sign, digit_of, digit_found, digit_here, digit, name_in, name_read, name_of, number_closed, number_in, number_opened, number_of, numbered, parameter, parameters, parts_of, body_read, body, default_read, default_given, default_of, is_delimited, body_in_braces, command_definition, plain_definition, operator_definition, definition_of}
+use Rattle.latex2mathml_tex_grammar.specs.Definitions.{DeclareDelimiters, Let, any_piece, alias_definition, delimiters_definition, Word, NewCommand, ProvideCommand, Def, DeclareOperator, sign_here, sign, digit_of, digit_found, digit_here, digit, name_in, name_read, name_of, number_closed, number_in, number_opened, number_of, numbered, parameter, parameters, parts_of, body_read, body, default_read, default_given, default_of, is_delimited, body_in_braces, command_definition, plain_definition, operator_definition, definition_of}
 use Rattle.latex2mathml_tex_grammar.specs.Macros.{Part, Macro, count, before}
 use Rattle.latex2mathml_tex_grammar.specs.{Next.is_space_piece, Next.past_space, Reading.Outcome, Reading.Read, Reading.Refused}
 use Rattle.latex2mathml_tex_grammar.specs.Units.{Unit, Units, Next, End, Stop}
@@ -213,12 +213,25 @@ operator_leaves place l =
     leaves_after (count l) (name_of place (sign (byte "*") l).1) _ (leaves_more _ _ (name_of place (sign (byte "*") l).1) starred (name_leaves place (sign (byte "*") l).1)) (λ name m h.
     leaves_after (count l) (body place 0 m) _ (leaves_more (count m) _ (body place 0 m) h (body_leaves place 0 m)) (λ parts rest j. j))
 
+any_leaves : (k place : ℕ) (l : Units) → count l ≤ k → Leaves k (any_piece place l)
+any_leaves k place (Next u l) h = omega (arith, h)
+any_leaves k place (End at) h = tt
+any_leaves k place (Stop r) h = tt
+
+alias_leaves : (place : ℕ) (l : Units) → Leaves (count l) (alias_definition place l)
+alias_leaves place l =
+    leaves_after (count l) (name_of place l) _ (name_leaves place l) (λ name m h.
+    leaves_after (count l) (any_piece place (past_space (sign (byte "=") m).1)) _
+    (any_leaves (count l) place (past_space (sign (byte "=") m).1) (omega (arith, h, sign_leaves (byte "=") m, count-past_space (sign (byte "=") m).1)))
+    (λ piece rest j. j))
+
 pub definition_leaves : (word : Word) (place : ℕ) (l : Units) → Leaves (count l) (definition_of word place l)
 definition_leaves NewCommand place l = command_leaves place l
 definition_leaves ProvideCommand place l = command_leaves place l
 definition_leaves Def place l = plain_leaves place l
 definition_leaves DeclareOperator place l = operator_leaves place l
 definition_leaves DeclareDelimiters place l = delimiters_leave place l
+definition_leaves Let place l = alias_leaves place l
 
 pub count-before : (us : List Unit) (l : Units) → count (before us l) ≡ length us + count l
 count-before [] l = omega arith

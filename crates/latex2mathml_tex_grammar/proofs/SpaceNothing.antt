@@ -76,7 +76,7 @@ refusal_there {m = m} has (also_refused q e d) = (q, e, (m, has, d))
 stand_there : (macros : Table) {at : Standing} {l m : Units} → AreAlike at l m → AllStand macros l → AllStand macros m
 stand_there macros both_end h = tt
 stand_there macros (both_stop e) h = tt
-stand_there macros (same_piece e d) h = (subst (λ p. role_of macros p ≡ Stands) e h.0, stand_there macros d h.1)
+stand_there macros (same_piece e d) h = (subst (λ p. role_of macros p ≡ Stands p) e h.0, stand_there macros d h.1)
 stand_there macros (space_before w e d) h = stand_there macros d h.1
 stand_there macros (space_behind w e d) h = (rw e refl, stand_there macros d h)
 

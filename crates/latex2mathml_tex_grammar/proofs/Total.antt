@@ -18,7 +18,7 @@ use Rattle.latex2mathml_elements.specs.Columns.{Columns}
 use Rattle.latex2mathml_tex_grammar.specs.Scanning.{Spot, BeforeStar, BeforeLength, BeforeRow, Deed, Passes, Adds, Ends, Leaves, Misses, Refuses, deed, done, may_end, found_at_end, with_character, Found, Given, Missing, scan, behind_found, past, past_break, past_gap}
 use Rattle.latex2mathml_tex_grammar.specs.Symbols.{InText, InScript, Alphabet}
 use Rattle.latex2mathml_tex_grammar.specs.Units.{Piece, Space, Open, Close, Command, Character, Unit, Units, Next, End, Stop}
-use Rattle.latex2mathml_tex_grammar.specs.Words.{Words, no_words, Formula, with_accent_ended, with_word, WordRule, IsWord, BeginsGroup, EndsGroup, BeginsFormula, TakesWords, NoWord, alphabet_behind, word_rule}
+use Rattle.latex2mathml_tex_grammar.specs.Words.{formula_alphabet, Words, no_words, Formula, with_accent_ended, with_word, WordRule, IsWord, BeginsGroup, EndsGroup, BeginsFormula, TakesWords, NoWord, alphabet_behind, word_rule}
 use Rattle.latex2mathml_tex_grammar.proofs.{Spaces.next_stays, Unique.one_atoms}
 
 -- how many units there are
@@ -352,7 +352,7 @@ begun_word : (k : ℕ) → HasOutcomes k → (place : ℕ) (a : Option Alphabet)
 begun_word k has place a ws u l h (IsWord w) s = comes_to (with_word ws w) l (omega arith) (word_stands s)
 begun_word k has place a ws u l h BeginsGroup s = with_outcome (has.of_words u.place a ws l h) (omega arith) (λ o. group_of_words s)
 begun_word k has place a ws u l h EndsGroup s = is_refused _ (word_missing s)
-begun_word k has place a ws u l h BeginsFormula s = elim (has.of_atoms (InDollars u.place) (in_context InText None) (begun (InDollars u.place)) l h) [
+begun_word k has place a ws u l h BeginsFormula s = elim (has.of_atoms (InDollars u.place) (in_context InText (formula_alphabet a)) (begun (InDollars u.place)) l h) [
   | comes_to row m fits d ↦ comes_to (with_word ws (Formula (row_element (lone row.last row.elements)))) m fits (formula_read s d)
   | is_refused r d ↦ is_refused r (formula_refused s d)
 ]

@@ -347,6 +347,7 @@ commands_from_m =
     (codes "uArr", Shows (Sign Relation 0x21D1)) ∷  -- ⇑
     (codes "uarr", Shows (Sign Relation 0x2191)) ∷  -- ↑
     (codes "ulcorner", Shows (Sign Opening 0x231C)) ∷  -- ⌜
+    (codes "unboldmath", Changes (ToAlphabet Upright)) ∷
     (codes "underbar", Accent Below 0x0332 Stretching) ∷
     (codes "underbrace", Brace Below 0x23DF) ∷  -- ⏟
     (codes "underbracket", Brace Below 0x23B5) ∷  -- ⎵

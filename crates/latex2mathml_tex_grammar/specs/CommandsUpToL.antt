@@ -196,6 +196,7 @@ commands_up_to_l =
     (codes "blacktriangleright", Shows (Sign Relation 0x25B6)) ∷  -- ▶
     (codes "bm", Styled BoldItalic) ∷
     (codes "bold", Styled Bold) ∷
+    (codes "boldmath", Changes (ToAlphabet BoldItalic)) ∷
     (codes "boldsymbol", Styled BoldItalic) ∷
     (codes "bot", Shows (Sign Ordinary 0x22A5)) ∷  -- ⊥
     (codes "bowtie", Shows (Sign Relation 0x22C8)) ∷  -- ⋈

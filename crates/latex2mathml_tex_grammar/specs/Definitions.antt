@@ -2,12 +2,12 @@
 -- is not one is refused: at the word, at a brace that is not closed, or where there is no unit. White space between the
 -- parts is ignored.
 use Rattle.std.specs.Prelude.{ℕ, zero, suc, ◌+◌, ◌-◌, Bool, true, false, ◌&&◌, nat_lt, List, [], ◌∷◌, ◌++◌, codes, Option, Some, None, if◌then◌else◌}
-use Rattle.std.specs.{Char.is_ascii_digit, Str.byte, Str.bytes_eq}
+use Rattle.std.specs.{Char.is_ascii_digit, Option.unwrap_or, Str.byte, Str.bytes_eq}
 pub use Rattle.latex2mathml_tex_grammar.specs.Arguments.{is_character}
 use Rattle.latex2mathml_tex_grammar.specs.Arguments.{NoBrace, Brace, brace_of, argument, optional, and_then}
-use Rattle.latex2mathml_tex_grammar.specs.Macros.{Part, Fixed, Argument, Macro, macro, macro_of_parts, macro_with_default, Table, with_macro}
+use Rattle.latex2mathml_tex_grammar.specs.Macros.{Part, Fixed, Argument, Macro, alias, macro, macro_of, macro_of_parts, macro_with_default, Table, with_macro}
 use Rattle.latex2mathml_tex_grammar.specs.{Next.is_space_piece, Next.past_space, Reading.Outcome, Reading.Read, Reading.Refused}
-use Rattle.latex2mathml_tex_grammar.specs.Refusal.{MissingMacroName, WrongParameters, DelimitedArgument, UnknownParameter, refusal_at}
+use Rattle.latex2mathml_tex_grammar.specs.Refusal.{MissingArgument, MissingMacroName, WrongParameters, DelimitedArgument, UnknownParameter, refusal_at}
 use Rattle.latex2mathml_tex_grammar.specs.Units.{Piece, Open, Close, Command, Character, Unit, Units, Next, End, Stop}
 
 -- the words that define
@@ -22,6 +22,8 @@ pub data Word : Type 0 where
   DeclareOperator : Word
   -- `\DeclarePairedDelimiter`
   DeclareDelimiters : Word
+  -- `\let`, after which a name means what another one means now
+  Let : Word
 
 -- the word that has this name, if one does
 abbrev pub word_named : List ℕ → Option Word
@@ -34,6 +36,7 @@ word_named name =
     else if bytes_eq name (codes "gdef") then Some Def
     else if bytes_eq name (codes "DeclareMathOperator") then Some DeclareOperator
     else if bytes_eq name (codes "DeclarePairedDelimiter") then Some DeclareDelimiters
+    else if bytes_eq name (codes "let") then Some Let
     else None
 
 -- what is defined
@@ -277,6 +280,18 @@ delimiters_definition place l =
     and_then (body place 0 m) (λ left k.
     and_then (body place 0 k) (λ right rest. Read (definition name (delimiters_macro left right)) rest)))
 
+-- the piece that comes next, whatever it is
+abbrev pub any_piece : ℕ → Units → Outcome Piece
+any_piece place (Next u l) = Read u.piece l
+any_piece place (End at) = Refused (refusal_at MissingArgument place)
+any_piece place (Stop r) = Refused r
+
+-- what follows `\let`: a name, an equals sign, which can be left out, and the piece that has the name from now on
+abbrev pub alias_definition : ℕ → Units → Outcome Definition
+alias_definition place l =
+    and_then (name_of place l) (λ name m.
+    and_then (any_piece place (past_space (sign (byte "=") m).1)) (λ piece rest. Read (definition name (alias piece)) rest))
+
 -- the definition after a word at this place
 abbrev pub definition_of : Word → ℕ → Units → Outcome Definition
 definition_of NewCommand place l = command_definition place l
@@ -284,6 +299,7 @@ definition_of ProvideCommand place l = command_definition place l
 definition_of Def place l = plain_definition place l
 definition_of DeclareOperator place l = operator_definition place l
 definition_of DeclareDelimiters place l = delimiters_definition place l
+definition_of Let place l = alias_definition place l
 
 -- The macros that hold after a definition
 
@@ -292,6 +308,15 @@ abbrev pub provided : Definition → Option Macro → Table → Table
 provided d (Some m) table = table
 provided d None table = with_macro d.name d.stands_for table
 
+-- what a name means that is another one for this piece: the macro that the piece uses now, if it uses one
+abbrev pub meaning_now : Table → Piece → Macro
+meaning_now table piece = unwrap_or (macro_of table piece) (alias piece)
+
+-- this macro, with the meaning that its piece has now, if it is another name for one
+abbrev pub resolved : Table → Macro → Option Piece → Macro
+resolved table m (Some piece) = meaning_now table piece
+resolved table m None = m
+
 -- the table after a definition by this word
 abbrev pub behind_definition : Word → Definition → Table → Table
 behind_definition ProvideCommand d table = provided d (table d.name) table
@@ -299,3 +324,4 @@ behind_definition NewCommand d table = with_macro d.name d.stands_for table
 behind_definition Def d table = with_macro d.name d.stands_for table
 behind_definition DeclareOperator d table = with_macro d.name d.stands_for table
 behind_definition DeclareDelimiters d table = with_macro d.name d.stands_for table
+behind_definition Let d table = with_macro d.name (resolved table d.stands_for d.stands_for.alias) table

@@ -3,11 +3,11 @@
 use Rattle.std.specs.Prelude.{ℕ, zero, suc, ◌+◌}
 use Rattle.latex2mathml_tex_grammar.specs.Expansion.{Turn, Stays, Turns, Fails, turn}
 use Rattle.latex2mathml_tex_grammar.specs.Macros.{Table, count}
-use Rattle.latex2mathml_tex_grammar.specs.Units.{Unit, Units, Next, End, Stop}
+use Rattle.latex2mathml_tex_grammar.specs.Units.{Unit, unit, Units, Next, End, Stop}
 
--- what a turn leads to: this unit and what follows it, only what follows, or a refusal
+-- what a turn leads to: a unit and what follows it, only what follows, or a refusal
 abbrev pub turned : Turn → Table → ℕ → ℕ → Unit → Units → (Table → ℕ → ℕ → Units → Units) → Units
-turned Stays table uses room u l more = Next u (more table uses room l)
+turned (Stays piece) table uses room u l more = Next (unit piece u.place) (more table uses room l)
 turned (Turns next uses_left room_left m) table uses room u l more = more next uses_left room_left m
 turned (Fails r) table uses room u l more = Stop r
 

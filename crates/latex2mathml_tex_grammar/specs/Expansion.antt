@@ -3,11 +3,11 @@
 use Rattle.std.specs.Prelude.{◌≡◌, ℕ, zero, suc, ◌-◌, Bool, true, false, nat_lt, List, length, Option, Some, None, if◌then◌else◌}
 use Rattle.std.specs.Str.{byte}
 use Rattle.latex2mathml_tex_grammar.specs.Arguments.{macro_arguments}
-use Rattle.latex2mathml_tex_grammar.specs.Definitions.{Word, word_named, Definition, sign, definition_of, behind_definition}
-use Rattle.latex2mathml_tex_grammar.specs.Macros.{Part, Macro, macro, Table, put, before}
+use Rattle.latex2mathml_tex_grammar.specs.Definitions.{Word, word_of, Definition, sign, definition_of, behind_definition}
+use Rattle.latex2mathml_tex_grammar.specs.Macros.{Part, Macro, macro, macro_of, Table, put, before}
 use Rattle.latex2mathml_tex_grammar.specs.Reading.{Outcome, Read, Refused}
 use Rattle.latex2mathml_tex_grammar.specs.Refusal.{TooManyExpansions, Refusal, refusal_at}
-use Rattle.latex2mathml_tex_grammar.specs.Units.{Piece, Command, Unit, Units, Next, End, Stop}
+use Rattle.latex2mathml_tex_grammar.specs.Units.{Piece, Unit, unit, Units, Next, End, Stop}
 
 -- how many macros a text can use, and how many units can be put in place of them, so that the expansion of each text ends
 abbrev pub most_uses : ℕ
@@ -23,28 +23,36 @@ pub data Role : Type 0 where
   Uses : Macro → Role
   -- the word of a definition
   Defines : Word → Role
-  -- neither
-  Stands : Role
+  -- neither: it is this piece
+  Stands : Piece → Role
 
--- a unit that defines, if its name is a word for that
-abbrev pub word_role : Option Word → Role
-word_role (Some word) = Defines word
-word_role None = Stands
+-- the role of a piece that is this word of a definition, if it is one
+abbrev pub word_role : Option Word → Piece → Role
+word_role (Some word) piece = Defines word
+word_role None piece = Stands piece
 
--- a unit that uses a macro, if its name means one
-abbrev pub name_role : Option Macro → List ℕ → Role
-name_role (Some m) name = Uses m
-name_role None name = word_role (word_named name)
+-- the role of a piece, whatever macros hold
+abbrev pub own_role : Piece → Role
+own_role piece = word_role (word_of piece) piece
+
+-- the role of a piece that uses this macro: if its name is only another one, it is that of the piece that has the name
+abbrev pub macro_role : Macro → Option Piece → Role
+macro_role m (Some piece) = own_role piece
+macro_role m None = Uses m
+
+-- the role of a piece that uses this macro, if it uses one
+abbrev pub found_role : Option Macro → Piece → Role
+found_role (Some m) piece = macro_role m m.alias
+found_role None piece = own_role piece
 
 -- a macro may have the name of any command, and takes precedence
 abbrev pub role_of : Table → Piece → Role
-role_of table (Command name) = name_role (table name) name
-role_of table piece = Stands
+role_of table piece = found_role (macro_of table piece) piece
 
 -- What becomes of a unit before others
 pub data Turn : Type 0 where
-  -- it stays, and the units after it are expanded
-  Stays : Turn
+  -- it stays, as this piece, and the units after it are expanded
+  Stays : Piece → Turn
   -- these units are expanded in place of it and those after it, with these macros; the numbers say how many more macros can
   -- be used, and how many more units can be put
   Turns : Table → ℕ → ℕ → Units → Turn
@@ -96,7 +104,7 @@ defined table uses room word (Refused r) = Fails r
 abbrev pub turn_of : Role → Table → ℕ → ℕ → Unit → Units → Turn
 turn_of (Uses m) table uses room u l = used table uses room u m l
 turn_of (Defines word) table uses room u l = defined table uses room word (definition_of word u.place l)
-turn_of Stands table uses room u l = Stays
+turn_of (Stands piece) table uses room u l = Stays piece
 
 -- what becomes of a unit before these units, where these macros hold
 abbrev pub turn : Table → ℕ → ℕ → Unit → Units → Turn
@@ -106,10 +114,10 @@ turn table uses room u l = turn_of (role_of table u.piece) table uses room u l
 pub data Expands : Table → ℕ → ℕ → Units → Units → Type 0 where
   at_end : {table : Table} {uses room place : ℕ} → Expands table uses room (End place) (End place)
   at_stop : {table : Table} {uses room : ℕ} {r : Refusal} → Expands table uses room (Stop r) (Stop r)
-  stays : {table : Table} {uses room : ℕ} {u : Unit} {l m : Units}
-      → turn table uses room u l ≡ Stays
+  stays : {table : Table} {uses room : ℕ} {u : Unit} {piece : Piece} {l m : Units}
+      → turn table uses room u l ≡ Stays piece
       → Expands table uses room l m
-      → Expands table uses room (Next u l) (Next u m)
+      → Expands table uses room (Next u l) (Next (unit piece u.place) m)
   turns : {table next : Table} {uses room uses_left room_left : ℕ} {u : Unit} {l m n : Units}
       → turn table uses room u l ≡ Turns next uses_left room_left n
       → Expands next uses_left room_left n m

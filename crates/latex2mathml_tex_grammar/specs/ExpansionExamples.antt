@@ -17,6 +17,12 @@ pub record AreExpansionExamples : Type 0 where
   -- what replaces a macro is read again
   pub again : ExpandsTo (codes "\\def\\a{\\b}\\def\\b{z}\\a")
       (Next (unit (Character (byte "z")) 19) (End 21))
+  -- another name for a macro keeps what replaces it
+  pub kept : ExpandsTo (codes "\\def\\b{x}\\let\\a=\\b\\def\\b{y}\\a")
+      (Next (unit (Character (byte "x")) 27) (End 29))
+  -- and one for a command means that command, also where a macro has its name
+  pub another : ExpandsTo (codes "\\let\\a\\b\\def\\b{x}\\a\\b")
+      (Next (unit (Command (codes "b")) 17) (Next (unit (Character (byte "x")) 19) (End 21)))
   -- a macro that uses itself is refused
   pub endless : ExpandsTo (codes "\\def\\a{x\\a}\\a")
       (Next (unit (Character (byte "x")) 11) (Next (unit (Character (byte "x")) 11) (Next (unit (Character (byte "x")) 11) (Next (unit (Character (byte "x")) 11) (Stop (refusal_at TooManyExpansions 11))))))

@@ -4,12 +4,12 @@ use Rattle.std.specs.Prelude.{Bool, IsTrue, Option, Some, None, codes, ◌≡◌
 use Rattle.latex2mathml_tex_grammar.specs.Arguments.{Opening, Closing, NoBrace, brace_of, group, arguments}
 use Rattle.latex2mathml_tex_grammar.specs.Definitions.{Word, definition_of}
 use Rattle.latex2mathml_tex_grammar.specs.{DefinitionTexts.ReadsDefinitions, Reading.Outcome, Reading.Read}
-use Rattle.latex2mathml_tex_grammar.specs.{Expansion.Expands, Expansion.Stands, Expansion.Turns, Expansion.role_of, Expansion.turn, Macros.Part, Macros.Fixed, Macros.Argument, Macros.Macro, Macros.Table, Macros.before, Macros.count}
+use Rattle.latex2mathml_tex_grammar.specs.{Expansion.Expands, Expansion.Stands, Expansion.Turns, Expansion.role_of, Expansion.turn, Macros.Part, Macros.Fixed, Macros.Argument, Macros.Macro, Macros.macro_of, Macros.Table, Macros.before, Macros.count}
 use Rattle.latex2mathml_tex_grammar.specs.Units.{Piece, Space, Open, Close, Command, Character, Unit, Units, Next}
 
 -- among the units no macro is used, and no definition begins
 abbrev pub AllStand : Table → Units → Type 0
-AllStand table (Next u l) = (role_of table u.piece ≡ Stands) × AllStand table l
+AllStand table (Next u l) = (role_of table u.piece ≡ Stands u.piece) × AllStand table l
 AllStand table l = ⊤
 
 -- Units have exactly one expansion, whatever macros hold, and however many macros can be used and units can be put.
@@ -30,19 +30,24 @@ pub record HasOneTable (table : Table) (l : Units) : Type 0 where
 abbrev pub HaveOneTable : Type 0
 HaveOneTable = (table : Table) (l : Units) → HasOneTable table l
 
+-- what another name means here is no macro
+abbrev pub AliasesStand : Table → Type 0
+AliasesStand table = (name : List ℕ) (m : Macro) (piece : Piece) → table name ≡ Some m → m.alias ≡ Some piece → macro_of table piece ≡ None
+
 -- What is in an expansion.
 pub record AreExpanded : Type 0 where
   -- units among which no macro is used and no definition begins are their own expansion
   pub own : (table : Table) (uses room : ℕ) (l : Units) → AllStand table l → Expands table uses room l l
-  -- in an expansion no macro is used that held before it, and no definition begins
-  pub done : (table : Table) (uses room : ℕ) (l m : Units) → Expands table uses room l m → AllStand table m
+  -- in an expansion no macro is used that held before it, and no definition begins, unless a macro had another name before it
+  pub done : (table : Table) (uses room : ℕ) (l m : Units) → AliasesStand table → Expands table uses room l m → AllStand table m
   -- nor is one used that was defined by what comes first
   pub behind : (table next : Table) (uses room uses_left room_left : ℕ) (u : Unit) (l n m : Units)
+      → AliasesStand next
       → turn table uses room u l ≡ Turns next uses_left room_left n
       → Expands table uses room (Next u l) m
       → AllStand next m
   -- so an expansion is its own expansion
-  pub again : (table : Table) (uses room : ℕ) (l m : Units) → Expands table uses room l m → Expands table uses room m m
+  pub again : (table : Table) (uses room : ℕ) (l m : Units) → AliasesStand table → Expands table uses room l m → Expands table uses room m m
   -- it has no more units than there were before, plus those that can be put
   pub most : (table : Table) (uses room : ℕ) (l m : Units) → Expands table uses room l m → count m ≤ count l + room
 
@@ -62,11 +67,16 @@ abbrev pub EachIfSome : (Piece → Type 0) → Option (List Part) → Type 0
 EachIfSome P (Some parts) = EachFixed P parts
 EachIfSome P None = ⊤
 
--- each fixed piece of a macro passes
-abbrev pub EachInMacro : (Piece → Type 0) → Macro → Type 0
-EachInMacro P m = EachFixed P m.body × EachIfSome P m.default × EachIfSome P m.starred
+-- the piece passes, if there is one
+abbrev pub IfPiece : (Piece → Type 0) → Option Piece → Type 0
+IfPiece P (Some piece) = P piece
+IfPiece P None = ⊤
 
--- each fixed piece of the macros passes
+-- each piece of a macro passes: the one that has its name, or the fixed ones
+abbrev pub EachInMacro : (Piece → Type 0) → Macro → Type 0
+EachInMacro P m = EachFixed P m.body × EachIfSome P m.default × EachIfSome P m.starred × IfPiece P m.alias
+
+-- each piece of the macros passes
 abbrev pub EachInTable : (Piece → Type 0) → Table → Type 0
 EachInTable P table = (name : List ℕ) (m : Macro) → table name ≡ Some m → EachInMacro P m
 

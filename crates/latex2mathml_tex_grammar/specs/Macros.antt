@@ -12,6 +12,8 @@ pub data Part : Type 0 where
 
 -- what arguments a macro takes, and what replaces it
 pub record Macro : Type 0 where
+  -- the piece that its name means, if the name is only another one for this piece. Then it takes nothing, and nothing replaces it.
+  pub alias : Option Piece
   -- what replaces it if a star follows its name, if it takes a star
   pub starred : Option (List Part)
   -- the default of its first argument, if that one can be left out. With a star, there is no such argument.
@@ -20,9 +22,13 @@ pub record Macro : Type 0 where
   pub arity : ℕ
   pub body : List Part
 
--- a macro of its four parts
+-- a macro of its four parts, whose name is not only another name
 abbrev pub macro_of_parts : Option (List Part) → Option (List Part) → ℕ → List Part → Macro
-macro_of_parts starred default arity body = record { starred = starred; default = default; arity = arity; body = body }
+macro_of_parts starred default arity body = record { alias = None; starred = starred; default = default; arity = arity; body = body }
+
+-- another name for this piece
+abbrev pub alias : Piece → Macro
+alias piece = record { alias = Some piece; starred = None; default = None; arity = 0; body = [] }
 
 -- a macro of which no argument can be left out, and which takes no star
 abbrev pub macro : ℕ → List Part → Macro

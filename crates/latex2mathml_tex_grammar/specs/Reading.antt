@@ -14,7 +14,7 @@ use Rattle.latex2mathml_tex_grammar.specs.Scanning.{Spot, BeforeRow, Given, Miss
 use Rattle.latex2mathml_tex_grammar.specs.Symbols.{InText, InScript, Alphabet}
 use Rattle.latex2mathml_tex_grammar.specs.{Tables.Lines, Tables.begun_cell, Tables.cell_of, Tables.a_row, Tables.with_last}
 use Rattle.latex2mathml_tex_grammar.specs.Units.{Piece, Unit, Units, Next, End, Stop}
-use Rattle.latex2mathml_tex_grammar.specs.Words.{Word, Formula, Words, no_words, with_accent_ended, with_word, IsWord, BeginsGroup, EndsGroup, BeginsFormula, TakesWords, NoWord, alphabet_behind, word_rule}
+use Rattle.latex2mathml_tex_grammar.specs.Words.{formula_alphabet, Word, Formula, Words, no_words, with_accent_ended, with_word, IsWord, BeginsGroup, EndsGroup, BeginsFormula, TakesWords, NoWord, alphabet_behind, word_rule}
 
 -- what was read, with the units that are left, or the refusal
 pub data Outcome (A : Type 0) : Type 0 where
@@ -311,11 +311,11 @@ mutual
         → ReadsWord place a ws (Next u l) o
     formula_read : {place : ℕ} {a : Option Alphabet} {ws : Words} {l m : Units} {u : Unit} {row : Row}
         → word_rule a u.piece ≡ BeginsFormula
-        → ReadsAtoms (InDollars u.place) (in_context InText None) (begun (InDollars u.place)) l (Read row m)
+        → ReadsAtoms (InDollars u.place) (in_context InText (formula_alphabet a)) (begun (InDollars u.place)) l (Read row m)
         → ReadsWord place a ws (Next u l) (Read (with_word ws (Formula (row_element (lone row.last row.elements)))) m)
     formula_refused : {place : ℕ} {a : Option Alphabet} {ws : Words} {l : Units} {u : Unit} {r : Refusal}
         → word_rule a u.piece ≡ BeginsFormula
-        → ReadsAtoms (InDollars u.place) (in_context InText None) (begun (InDollars u.place)) l (Refused r)
+        → ReadsAtoms (InDollars u.place) (in_context InText (formula_alphabet a)) (begun (InDollars u.place)) l (Refused r)
         → ReadsWord place a ws (Next u l) (Refused r)
     words_in_alphabet : {place : ℕ} {a b : Option Alphabet} {ws : Words} {l : Units} {u : Unit} {o : Outcome Words}
         → word_rule a u.piece ≡ TakesWords b

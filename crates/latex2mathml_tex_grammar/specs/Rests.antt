@@ -2,9 +2,9 @@
 -- group is at its end.
 use Rattle.std.specs.Prelude.{ℕ, Bool, true, false, List, [], ◌∷◌, reverse, Option, Some, None}
 use Rattle.latex2mathml_elements.specs.{Colors.Color, Element.Element, Element.Mstyle, Element.container, Element.children}
-use Rattle.latex2mathml_tex_grammar.specs.{Atoms.Blank, Colors.color_of, Makes.fraction, Makes.in_box, Makes.style_attributes, Meaning.Change, Meaning.Colored, Meaning.ToAlphabet, Meaning.ToStyle, Meaning.Divides, Meaning.ToColor, Meaning.FractionRule}
+use Rattle.latex2mathml_tex_grammar.specs.{Atoms.Blank, Atoms.Kind, Colors.color_of, Makes.fraction, Makes.in_box, Makes.style_attributes, Meaning.Change, Meaning.Colored, Meaning.ToAlphabet, Meaning.ToStyle, Meaning.Divides, Meaning.ToColor, Meaning.FractionRule}
 use Rattle.latex2mathml_tex_grammar.specs.Refusal.{Refusal, SecondInfix, UnknownColor, refusal_at}
-use Rattle.latex2mathml_tex_grammar.specs.Rows.{Row, Restyled, Upper, empty_row, row_element, with_atom, with_operand_ended}
+use Rattle.latex2mathml_tex_grammar.specs.Rows.{Row, Restyled, Upper, empty_row, lone, row_element, with_atom, with_operand_ended}
 use Rattle.latex2mathml_tex_grammar.specs.Rules.{Context, in_context, styled}
 use Rattle.latex2mathml_tex_grammar.specs.Scanning.{BeforeArgument, ColorName, Found, Given, Missing, scan}
 use Rattle.latex2mathml_tex_grammar.specs.Symbols.{Ordinary, Style, InText, smaller}
@@ -82,9 +82,23 @@ whole_fraction row = below row.under row
 abbrev pub begun_below : FractionRule → Row → Row
 begun_below rule row = record empty_row { under = Some (record { rule = rule; element = row_element row.elements }) }
 
+-- elements after a change that these precede: if there are none, a sign that is all of the row has no space
+abbrev pub alone_behind : List Element → Kind → List Element → List Element
+alone_behind [] last xs = lone last xs
+alone_behind before last xs = xs
+
+-- a row at its end, where this was its last change, if there was one. Without a change, what encloses the row removes the space.
+abbrev pub alone_after : Option Restyled → Row → Row
+alone_after None row = row
+alone_after (Some change) row = record row { elements = alone_behind change.before row.last row.elements }
+
+-- a row at its end
+abbrev pub with_sign_alone : Row → Row
+with_sign_alone row = alone_after row.restyled row
+
 -- the row of a group at its end, where it is read in this style
 abbrev pub finished : Style → Row → Row
-finished style row = whole_fraction (settled style (with_operand_ended row))
+finished style row = whole_fraction (settled style (with_sign_alone (with_operand_ended row)))
 
 -- What follows a change
 

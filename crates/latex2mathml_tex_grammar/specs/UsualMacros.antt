@@ -103,6 +103,7 @@ usual_entries =
     (codes "llap", 1, codes "\\mathllap{\\text{#1}}") ∷
     (codes "long", 0, codes "") ∷
     (codes "lq", 0, codes "`") ∷
+    (codes "mathpalette", 2, codes "\\mathchoice{#1\\displaystyle{#2}}{#1\\textstyle{#2}}{#1\\scriptstyle{#2}}{#1\\scriptscriptstyle{#2}}") ∷
     (codes "mathstrut", 0, codes "\\vphantom{(}") ∷
     (codes "mathtoolsset", 1, codes "") ∷
     (codes "matrix", 1, codes "\\begin{matrix}#1\\end{matrix}") ∷

@@ -5,7 +5,7 @@ use Rattle.latex2mathml_elements.specs.{Attributes.Attributes, Attributes.Monosp
 use Rattle.latex2mathml_tex_grammar.specs.{Alphabets.in_alphabet, Atoms.Atom, Atoms.Plain, Atoms.atom, Commands.meaning_of, Delimiters.entry_of_name, Dots.low_dots, Makes.symbol, Makes.text, Rows.row_element, Rows.single, TextCommands.text_accents, TextCommands.text_commands}
 use Rattle.latex2mathml_tex_grammar.specs.Meaning.{Meaning, Shows, Dots, Spacing, Words as TakesWordsIn, Changes, ToAlphabet}
 use Rattle.latex2mathml_tex_grammar.specs.Refusal.{Kind, CommandInWords, CharacterInWords, UnknownCommand}
-use Rattle.latex2mathml_tex_grammar.specs.Symbols.{Alphabet, Monospace, Ordinary, InText}
+use Rattle.latex2mathml_tex_grammar.specs.Symbols.{Alphabet, BoldItalic, Monospace, Ordinary, InText}
 use Rattle.latex2mathml_tex_grammar.specs.Units.{Piece, Space, Open, Close, Command, Character}
 
 -- The font of a text: the usual one, or one whose characters are all equally wide. Unicode's letters of a typewriter are no
@@ -45,11 +45,17 @@ pub data WordRule : Type 0 where
 abbrev pub word_space : Font → Word
 word_space font = Shown font (text 0xA0)
 
--- a letter or a digit in an alphabet; a typewriter has them as they are
+-- a letter or a digit in an alphabet. A typewriter has them as they are, and bold italic is only for formulas.
 abbrev pub letter_in : Option Alphabet → ℕ → ℕ
 letter_in None c = c
 letter_in (Some Monospace) c = c
+letter_in (Some BoldItalic) c = c
 letter_in (Some alphabet) c = in_alphabet alphabet c
+
+-- the alphabet of the formulas in words: bold italic after `\boldmath`, otherwise none
+abbrev pub formula_alphabet : Option Alphabet → Option Alphabet
+formula_alphabet (Some BoldItalic) = Some BoldItalic
+formula_alphabet alphabet = None
 
 -- a character in an alphabet; quotation marks become typographic ones
 abbrev pub word_character : Option Alphabet → ℕ → ℕ

@@ -62,8 +62,8 @@ pub fn one_expansion()
 {}
 
 /// Units in which no macro is used and no definition begins are their own expansion. In an expansion no macro is used that
-/// held before it or was defined by what comes first, and no definition begins. It has at most as many units as there were
-/// before, plus those that can be put.
+/// held before it or was defined by what comes first, and no definition begins. This assumes that no macro has another name then,
+/// as after `\let\a\b\def\b{..}`. An expansion has at most as many units as there were before, plus those that can be put.
 pub fn expansions()
     ensures { AreExpanded }
 {}

@@ -4,7 +4,7 @@ use Rattle.std.specs.Prelude.{IsTrue}
 use Rattle.std.proofs.lemmas.List.{map-append}
 use Rattle.latex2mathml_tex_grammar.specs.Definitions.{word_named}
 use Rattle.latex2mathml_tex_grammar.specs.Expanding.{expansion}
-use Rattle.latex2mathml_tex_grammar.specs.Expansion.{Stands, name_role, role_of, turn_of, word_role}
+use Rattle.latex2mathml_tex_grammar.specs.Expansion.{Stands, found_role, role_of, turn_of, word_role}
 use Rattle.latex2mathml_tex_grammar.specs.{Macros.SameMacros, Macros.Table, Macros.before, UsualMacros.usual_macros}
 use Rattle.latex2mathml_tex_grammar.specs.Units as units
 use Rattle.latex2mathml_tex_grammar.specs.Units.{Units}
@@ -13,15 +13,16 @@ use Rattle.latex2mathml_tex_units.specs.{MacroTables.defined_in, MacroTables.or_
 use Rattle.latex2mathml_tex_units.specs.Standing.{AreStanding, IsUsual, Moves}
 use Rattle.latex2mathml_tex_units.proofs.Whole.{before-last, moved_all}
 
-pub name_stands : (table : Table) (name : List ℕ) → SameMacros table usual_macros → usual_macros name ≡ None → word_named name ≡ None → role_of table (units.Command name) ≡ Stands
-name_stands table name same usual word = ap (λ x. name_role x name) (same name ∙ usual) ∙ ap word_role word
+pub name_stands : (table : Table) (name : List ℕ) → SameMacros table usual_macros → usual_macros name ≡ None → word_named name ≡ None → role_of table (units.Command name) ≡ Stands (units.Command name)
+name_stands table name same usual word =
+    ap (λ found. found_role found (units.Command name)) (same name ∙ usual) ∙ ap (λ found. word_role found (units.Command name)) word
 
 pub none_moved : (usual : Bool) (old : List Unit) (l : Units) → Moves old old (λ taken. AreStanding usual taken l l)
 none_moved usual old l = ([], sym (append-nil old), λ table uses room holds. refl)
 
 -- one more unit stays
 pub moved_on : (usual : Bool) (old new more : List Unit) (u : Unit) (start l m : Units) → Moves old new (λ taken. AreStanding usual taken start l) → more ≡ new ++ u ∷ [] → l ≡ units.Next (unit_of u) m
-    → ((table : Table) → IsUsual usual table → role_of table (piece_of u.piece) ≡ Stands)
+    → ((table : Table) → IsUsual usual table → role_of table (piece_of u.piece) ≡ Stands (piece_of u.piece))
     → Moves old more (λ taken. AreStanding usual taken start m)
 moved_on usual old new more u start l m (us, e, so_far) pushed is stands = (
   us ++ u ∷ [],
@@ -29,7 +30,7 @@ moved_on usual old new more u start l m (us, e, so_far) pushed is stands = (
   λ table uses room holds.
       so_far table uses room holds
       ∙ ap (λ k. before (map unit_of us) (expansion table uses room k)) is
-      ∙ ap (before (map unit_of us)) (expansion_stays table uses room (unit_of u) m (ap (λ role. turn_of role table uses room (unit_of u) m) (stands table holds)))
+      ∙ ap (before (map unit_of us)) (expansion_stays table uses room (unit_of u) (piece_of u.piece) m (ap (λ role. turn_of role table uses room (unit_of u) m) (stands table holds)))
       ∙ sym (before-last (map unit_of us) (unit_of u) (expansion table uses room m))
       ∙ ap (λ xs. before xs (expansion table uses room m)) (sym (map-append unit_of us (u ∷ []))),
 )

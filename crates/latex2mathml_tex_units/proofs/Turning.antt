@@ -1,16 +1,16 @@
 -- The turns of an expansion, in the code and in the grammar.
 use Rattle.std.proofs.Common.{◌≡◌, ℕ, suc, ◌+◌, ◌<◌, ◌≤◌, List, Option, Some, None, refl, sym, ap, subst, ◌∙◌, arith}
-use Rattle.std.specs.Prelude.{option_map, Err}
+use Rattle.std.specs.Prelude.{option_map, Err, ⊤}
 use Rattle.latex2mathml_tex_grammar.specs.Definitions.{behind_definition, definition_of, word_named}
 use Rattle.latex2mathml_tex_grammar.specs.Definitions as definitions
 use Rattle.latex2mathml_tex_grammar.specs.Expanding.{expansion}
-use Rattle.latex2mathml_tex_grammar.specs.Expansion.{Stands, Stays, Turns, defined, name_role, role_of, turn, turn_of, used, word_role}
+use Rattle.latex2mathml_tex_grammar.specs.Expansion.{Stands, Stays, Turn, Turns, Uses, defined, found_role, macro_role, own_role, role_of, turn, turn_of, used, word_role}
 use Rattle.latex2mathml_tex_grammar.specs.{Macros.Macro, Macros.SameMacros, Macros.Table, Macros.count, Reading.Read, UsualMacros.usual_macros}
 use Rattle.latex2mathml_tex_grammar.specs.Units as units
 use Rattle.latex2mathml_tex_grammar.specs.Units.{Units}
 use Rattle.latex2mathml_tex_grammar.proofs.Expanding.{Shrinks, expansion_end, expansion_fails, expansion_stays, expansion_stop, expansion_turns, turn_shrinks}
 use Rattle.latex2mathml_tex_grammar.proofs.SameTables.{expansion_same}
-use Rattle.latex2mathml_tex_units.specs.{Bodies.macro_of, Expanded.IsHalted, Expanded.Turned, Expanded.after_refusal, MacroTables.defined_in, MacroTables.or_usual, MacroTables.table_of, Taking.Takes, Taking.piece_of, Taking.unit_of}
+use Rattle.latex2mathml_tex_units.specs.{Bodies.macro_of, Expanded.IsHalted, Expanded.Turned, Expanded.after_refusal, MacroTables.defined_in, MacroTables.or_usual, MacroTables.table_of, Putting.Replaces, Taking.Takes, Taking.piece_of, Taking.unit_of}
 use Rattle.latex2mathml_tex_units.specs.declared.macros.{expander.Expander.Expander, halt.Halt.Halt, scope.Scope.Scope}
 use Rattle.latex2mathml_tex_units.specs.declared.macros.part.Macro.{Macro as CodeMacro}
 use Rattle.latex2mathml_tex_units.specs.declared.unit.{Fault.Fault, Next.Next, Piece.Piece, Unit.Unit}
@@ -28,53 +28,75 @@ abbrev pub TurnsTo : Table → ℕ → ℕ → List ℕ → ℕ → Units → �
 TurnsTo table uses room name place l uses_left room_left m new =
     (next : Table) × (turn table uses room (named name place) l ≡ Turns next uses_left room_left m) × SameMacros next new
 
-pub replaced_defined : (m : Scope) (name : List ℕ) (place uses room uses_left room_left : ℕ) (l k : Units) (found : CodeMacro)
-    → Some (macro_of found) ≡ defined_in m name
-    → used (table_of m) uses room (named name place) (macro_of found) l ≡ Turns (table_of m) uses_left room_left k
-    → TurnsTo (table_of m) uses room name place l uses_left room_left k (table_of m)
-replaced_defined m name place uses room uses_left room_left l k found e d =
-    (table_of m, ap (λ x. turn_of (name_role (or_usual x name) name) (table_of m) uses room (named name place) l) (sym e) ∙ d, λ other. refl)
+-- what a command is, by what its name means
+
+role_used : (table : Table) (name : List ℕ) (m : Macro) → table name ≡ Some m → m.alias ≡ None → role_of table (units.Command name) ≡ Uses m
+role_used table name m e none = ap (λ found. found_role found (units.Command name)) e ∙ ap (macro_role m) none
+
+role_named : (table : Table) (name : List ℕ) (m : Macro) (p : units.Piece) → table name ≡ Some m → m.alias ≡ Some p → role_of table (units.Command name) ≡ own_role p
+role_named table name m p e some = ap (λ found. found_role found (units.Command name)) e ∙ ap (macro_role m) some
+
+role_alone : (table : Table) (name : List ℕ) → table name ≡ None → role_of table (units.Command name) ≡ own_role (units.Command name)
+role_alone table name e = ap (λ found. found_role found (units.Command name)) e
 
 -- what a name that was not defined means
-undefined : (m : Scope) (name : List ℕ) (x : Option Macro) → None ≡ defined_in m name → x ≡ usual_macros name → x ≡ table_of m name
-undefined m name x e f = f ∙ ap (λ y. or_usual y name) e
+undefined : (m : Scope) (name : List ℕ) (x : Option Macro) → None ≡ defined_in m name → x ≡ usual_macros name → table_of m name ≡ x
+undefined m name x e f = ap (λ y. or_usual y name) (sym e) ∙ sym f
 
-pub replaced_usual : (m : Scope) (name : List ℕ) (place uses room uses_left room_left : ℕ) (l k : Units) (o : Option CodeMacro) (found : CodeMacro)
-    → None ≡ defined_in m name
-    → option_map macro_of o ≡ usual_macros name
-    → o ≡ Some found
-    → used (table_of m) uses room (named name place) (macro_of found) l ≡ Turns (table_of m) uses_left room_left k
+pub defined_there : (m : Scope) (name : List ℕ) (found : Macro) → Some found ≡ defined_in m name → table_of m name ≡ Some found
+defined_there m name found e = ap (λ y. or_usual y name) (sym e)
+
+pub usual_there : (m : Scope) (name : List ℕ) (o : Option CodeMacro) (found : CodeMacro) → None ≡ defined_in m name → option_map macro_of o ≡ usual_macros name → o ≡ Some found → table_of m name ≡ Some (macro_of found)
+usual_there m name o found none usual is = undefined m name (Some (macro_of found)) none (ap (option_map macro_of) (sym is) ∙ usual)
+
+-- the turn of a command is that of a macro
+pub turn_used : (m : Scope) (name : List ℕ) (place uses room : ℕ) (l : Units) (found : Macro) → table_of m name ≡ Some found → found.alias ≡ None
+    → turn (table_of m) uses room (named name place) l ≡ used (table_of m) uses room (named name place) found l
+turn_used m name place uses room l found e none = ap (λ role. turn_of role (table_of m) uses room (named name place) l) (role_used (table_of m) name found e none)
+
+-- or of the piece that has its name
+pub turn_named : (m : Scope) (name : List ℕ) (place uses room : ℕ) (l : Units) (found : Macro) (p : units.Piece) → table_of m name ≡ Some found → found.alias ≡ Some p
+    → turn (table_of m) uses room (named name place) l ≡ turn_of (own_role p) (table_of m) uses room (named name place) l
+turn_named m name place uses room l found p e some = ap (λ role. turn_of role (table_of m) uses room (named name place) l) (role_named (table_of m) name found p e some)
+
+-- or its own
+pub turn_alone : (m : Scope) (name : List ℕ) (place uses room : ℕ) (l : Units) → None ≡ defined_in m name → usual_macros name ≡ None
+    → turn (table_of m) uses room (named name place) l ≡ turn_of (own_role (units.Command name)) (table_of m) uses room (named name place) l
+turn_alone m name place uses room l none usual = ap (λ role. turn_of role (table_of m) uses room (named name place) l) (role_alone (table_of m) name (undefined m name None none (sym usual)))
+
+pub replaced_by : (m : Scope) (name : List ℕ) (place uses room uses_left room_left : ℕ) (l k : Units) (found : Macro)
+    → table_of m name ≡ Some found
+    → found.alias ≡ None
+    → used (table_of m) uses room (named name place) found l ≡ Turns (table_of m) uses_left room_left k
     → TurnsTo (table_of m) uses room name place l uses_left room_left k (table_of m)
-replaced_usual m name place uses room uses_left room_left l k o found none usual is d =
-    let stands : Some (macro_of found) ≡ table_of m name = undefined m name (Some (macro_of found)) none (ap (option_map macro_of) (sym is) ∙ usual) in
-    (table_of m, ap (λ x. turn_of (name_role x name) (table_of m) uses room (named name place) l) (sym stands) ∙ d, λ other. refl)
+replaced_by m name place uses room uses_left room_left l k found e none d = (table_of m, turn_used m name place uses room l found e none ∙ d, λ other. refl)
 
-pub word_taken : (m n : Scope) (name : List ℕ) (place uses room : ℕ) (l k : Units) (o : Option CodeMacro) (word : definitions.Word) (d : definitions.Definition)
-    → None ≡ defined_in m name
-    → option_map macro_of o ≡ usual_macros name
-    → o ≡ None
-    → Some word ≡ word_named name
+-- a use that is refused
+pub refused_by : (h : Halt) (t u : Turn) (table : Table) (uses room : ℕ) (l : Units) (old new : Expander) → t ≡ u → Replaces {A = ⊤} (Err h) u table uses room l → Turned (Err h) t old new
+refused_by (halt.Refused fault place) t u table uses room l old new e d = e ∙ d
+refused_by halt.OutOfMemory t u table uses room l old new e d = tt
+
+-- the turn of a word, whatever name it has
+pub word_turn : (m n : Scope) (piece written : units.Piece) (place uses room : ℕ) (l k : Units) (word : definitions.Word) (d : definitions.Definition)
+    → Some word ≡ definitions.word_of piece
     → definition_of word place l ≡ Read d k
     → SameMacros (table_of n) (behind_definition word d (table_of m))
-    → TurnsTo (table_of m) uses room name place l uses room k (table_of n)
-word_taken m n name place uses room l k o word d none usual is named_so read same =
-    let stands : None ≡ table_of m name = undefined m name None none (ap (option_map macro_of) (sym is) ∙ usual) in (
-      behind_definition word d (table_of m),
-      ap (λ x. turn_of (name_role x name) (table_of m) uses room (named name place) l) (sym stands)
-          ∙ ap (λ w. turn_of (word_role w) (table_of m) uses room (named name place) l) (sym named_so)
-          ∙ ap (λ x. defined (table_of m) uses room word x) read,
-      λ other. sym (same other),
-    )
+    → (next : Table) × (turn_of (own_role piece) (table_of m) uses room (units.unit written place) l ≡ Turns next uses room k) × SameMacros next (table_of n)
+word_turn m n piece written place uses room l k word d is read same = (
+  behind_definition word d (table_of m),
+  ap (λ w. turn_of (word_role w piece) (table_of m) uses room (units.unit written place) l) (sym is)
+      ∙ ap (λ x. defined (table_of m) uses room word x) read,
+  λ other. sym (same other),
+)
 
 -- a name that neither was defined nor is that of a usual macro or of a word
 pub name_left : (m : Scope) (name : List ℕ) (place uses room : ℕ) (l : Units)
     → None ≡ defined_in m name
     → usual_macros name ≡ None
     → word_named name ≡ None
-    → turn (table_of m) uses room (named name place) l ≡ Stays
+    → turn (table_of m) uses room (named name place) l ≡ Stays (units.Command name)
 name_left m name place uses room l none usual word =
-    let stands : None ≡ table_of m name = undefined m name None none (sym usual) in
-    ap (λ x. turn_of (name_role x name) (table_of m) uses room (named name place) l) (sym stands) ∙ ap (λ w. turn_of (word_role w) (table_of m) uses room (named name place) l) word
+    turn_alone m name place uses room l none usual ∙ ap (λ w. turn_of (word_role w (units.Command name)) (table_of m) uses room (named name place) l) word
 
 -- Taking the next unit
 
@@ -88,19 +110,19 @@ ended (next.Unit u) table uses room l k start same apart d = absurd (apart u ref
 ended (next.End place) table uses room l k start same apart (is, left) = (sym same ∙ ap (expansion table uses room) is ∙ expansion_end table uses room place, ap (expansion table uses room) left ∙ same)
 ended (next.Fault fault place) table uses room l k start same apart (is, left) = (sym same ∙ ap (expansion table uses room) is ∙ expansion_stop table uses room _, ap (expansion table uses room) left ∙ same)
 
--- a unit that stays
-pub stood : (taken : Next) (table : Table) (uses room : ℕ) (u : Unit) (v : units.Unit) (l k start x : Units) → taken ≡ next.Unit u → expansion table uses room l ≡ start → l ≡ units.Next (unit_of u) k → unit_of u ≡ v
-    → turn table uses room v k ≡ Stays → x ≡ expansion table uses room k → Takes taken start x
-stood taken table uses room u v l k start x e same is v_is stays rest =
-    let on : expansion table uses room (units.Next v k) ≡ units.Next v (expansion table uses room k) = expansion_stays table uses room v k stays in
+-- a unit that stays, as this piece
+pub stood : (taken : Next) (table : Table) (uses room : ℕ) (u : Unit) (v : units.Unit) (l k start x : Units) → taken ≡ next.Unit u → expansion table uses room l ≡ start → l ≡ units.Next v k
+    → turn table uses room v k ≡ Stays (piece_of u.piece) → u.place ≡ v.place → x ≡ expansion table uses room k → Takes taken start x
+stood taken table uses room u v l k start x e same is stays place rest =
     let whole : start ≡ units.Next (unit_of u) x =
-    sym same ∙ ap (expansion table uses room) (is ∙ ap (λ w. units.Next w k) v_is) ∙ on ∙ ap (λ w. units.Next w (expansion table uses room k)) (sym v_is) ∙ ap (units.Next (unit_of u)) (sym rest) in
+    sym same ∙ ap (expansion table uses room) is ∙ expansion_stays table uses room v (piece_of u.piece) k stays
+    ∙ ap (λ at. units.Next (units.unit (piece_of u.piece) at) (expansion table uses room k)) (sym place) ∙ ap (units.Next (unit_of u)) (sym rest) in
     subst (λ n. Takes n start x) (sym e) whole
 
-pub no_command : (table : Table) (uses room : ℕ) (u : Unit) (k : Units) → ((name : _) → u.piece ≡ piece.Command name → ⊥) → turn table uses room (unit_of u) k ≡ Stays
+pub no_command : (table : Table) (uses room : ℕ) (u : Unit) (k : Units) → ((name : _) → u.piece ≡ piece.Command name → ⊥) → turn table uses room (unit_of u) k ≡ Stays (piece_of u.piece)
 no_command table uses room u k apart = ap (λ role. turn_of role table uses room (unit_of u) k) (stands u.piece apart)
   where
-    stands : (p : Piece) → ((name : _) → p ≡ piece.Command name → ⊥) → role_of table (piece_of p) ≡ Stands
+    stands : (p : Piece) → ((name : _) → p ≡ piece.Command name → ⊥) → role_of table (piece_of p) ≡ Stands (piece_of p)
     stands piece.Space apart = refl
     stands piece.Open apart = refl
     stands piece.Close apart = refl

@@ -5,14 +5,14 @@ use Rattle.std.proofs.lemmas.Slice.Eq.{bytes_eq-Decides}
 use Rattle.std.specs.Str.{byte, bytes_eq}
 use Rattle.latex2mathml_tex_grammar.specs.UsualMacros.{entry_macro, usual_entries, usual_macros}
 use Rattle.latex2mathml_tex_grammar.specs.Definitions.{word_named}
-use Rattle.latex2mathml_tex_units.specs.TurningForms.{is_like_mathbb, is_turning_form}
+use Rattle.latex2mathml_tex_units.specs.TurningForms.{is_frequent, is_turning_form}
 use Rattle.latex2mathml_tex_units.proofs.Tables.{usual_is}
 
 -- whether the name is of one byte and one of such macros, or has such a form
 abbrev pub may_turn : List ℕ → Bool
 may_turn [] = false
 may_turn (one ∷ []) = one == byte "(" || one == byte ")" || one == byte "*" || one == byte "-" || one == byte "/"
-may_turn (first ∷ second ∷ rest) = is_turning_form first second (length (first ∷ second ∷ rest)) && not (is_like_mathbb (first ∷ second ∷ rest))
+may_turn (first ∷ second ∷ rest) = is_turning_form first second (length (first ∷ second ∷ rest)) && not (is_frequent (first ∷ second ∷ rest))
 
 all_may_be : List (List ℕ × ℕ × List ℕ) → Bool
 all_may_be [] = true
@@ -45,7 +45,7 @@ apart name word none may = elim (cases_Bool (bytes_eq name word)) [
 
 pub no_word : (name : List ℕ) → may_turn name ≡ false → word_named name ≡ None
 no_word name none =
-    rw (apart name (codes "newcommand") none refl, apart name (codes "renewcommand") none refl, apart name (codes "DeclareRobustCommand") none refl, apart name (codes "providecommand") none refl, apart name (codes "def") none refl, apart name (codes "gdef") none refl, apart name (codes "DeclareMathOperator") none refl, apart name (codes "DeclarePairedDelimiter") none refl) refl
+    rw (apart name (codes "newcommand") none refl, apart name (codes "renewcommand") none refl, apart name (codes "DeclareRobustCommand") none refl, apart name (codes "providecommand") none refl, apart name (codes "def") none refl, apart name (codes "gdef") none refl, apart name (codes "DeclareMathOperator") none refl, apart name (codes "DeclarePairedDelimiter") none refl, apart name (codes "let") none refl) refl
 
 -- Names by their length
 
@@ -58,10 +58,10 @@ turns_one [] bytes e h k = absurd (omega (arith, h, ap length e))
 turns_one (x ∷ []) bytes e h k = ap (λ b. get_or b 0 0 == byte "(" || get_or b 0 0 == byte ")" || get_or b 0 0 == byte "*" || get_or b 0 0 == byte "-" || get_or b 0 0 == byte "/") (sym e)
 turns_one (x ∷ y ∷ rest) bytes e h k = absurd (omega (arith, k, ap length e))
 
-pub turns_more : (name bytes : List ℕ) → bytes ≡ name → 2 ≤ length bytes → may_turn name ≡ (is_turning_form (get_or bytes 0 0) (get_or bytes 1 0) (length name) && not (is_like_mathbb name))
+pub turns_more : (name bytes : List ℕ) → bytes ≡ name → 2 ≤ length bytes → may_turn name ≡ (is_turning_form (get_or bytes 0 0) (get_or bytes 1 0) (length name) && not (is_frequent name))
 turns_more [] bytes e h = absurd (omega (arith, h, ap length e))
 turns_more (x ∷ []) bytes e h = absurd (omega (arith, h, ap length e))
-turns_more (x ∷ y ∷ rest) bytes e h = ap (λ b. is_turning_form (get_or b 0 0) (get_or b 1 0) (length (x ∷ y ∷ rest)) && not (is_like_mathbb (x ∷ y ∷ rest))) (sym e)
+turns_more (x ∷ y ∷ rest) bytes e h = ap (λ b. is_turning_form (get_or b 0 0) (get_or b 1 0) (length (x ∷ y ∷ rest)) && not (is_frequent (x ∷ y ∷ rest))) (sym e)
 
 -- one of two tests is false
 

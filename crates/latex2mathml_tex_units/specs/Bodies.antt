@@ -1,5 +1,5 @@
 -- The bodies of macros, and macros.
-use Rattle.std.specs.Prelude.{ℕ, List, [], Option, Some, None, map, Vec}
+use Rattle.std.specs.Prelude.{ℕ, List, [], Option, Some, None, map, option_map, Vec}
 use Rattle.std.specs.Global.{Global}
 use Rattle.latex2mathml_tex_grammar.specs.Macros as macros
 use Rattle.latex2mathml_tex_units.specs.{Taking.piece_of, declared.macros.part.Lead.Lead, declared.macros.part.Macro.Macro, declared.macros.part.Part.Part, declared.macros.usual.Usual.Usual}
@@ -26,7 +26,7 @@ default_of (lead.Default parts) = Some (parts_in parts)
 default_of (lead.Star parts) = Some []
 
 abbrev pub macro_of : Macro → macros.Macro
-macro_of m = macros.macro_of_parts (starred_of m.lead) (default_of m.lead) m.arity (parts_in m.body)
+macro_of m = record { alias = option_map piece_of m.alias; starred = starred_of m.lead; default = default_of m.lead; arity = m.arity; body = parts_in m.body }
 
 -- the macro that is used, where this body was found for a star
 abbrev pub form_in : Macro → Option (List Part) → macros.Macro

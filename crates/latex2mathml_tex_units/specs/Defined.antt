@@ -9,6 +9,7 @@ word_of word.ProvideCommand = definitions.ProvideCommand
 word_of word.Def = definitions.Def
 word_of word.DeclareOperator = definitions.DeclareOperator
 word_of word.DeclareDelimiters = definitions.DeclareDelimiters
+word_of word.Let = definitions.Let
 
 abbrev pub definition_in : Definition → definitions.Definition
 definition_in d = definitions.definition d.name.now (macro_of d.stands_for)

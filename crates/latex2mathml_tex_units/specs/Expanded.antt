@@ -1,9 +1,9 @@
 -- The units that a text expands to, and those of them that are left.
-use Rattle.std.specs.Prelude.{◌≡◌, ℕ, Bool, true, false, List, Option, Some, None, Result, Ok, Err, ⊤}
-use Rattle.latex2mathml_tex_grammar.specs.{Cutting.units_of, Expanding.expansion, Expansion.most_units, Expansion.most_uses, Expansion.Turn, Expansion.Stays, Expansion.Turns, Expansion.Fails, Expansion.turn, Macros.SameMacros, Macros.Table, Refusal.refusal_at}
+use Rattle.std.specs.Prelude.{◌≡◌, ℕ, List, Option, Some, None, Result, Ok, Err, ⊤}
+use Rattle.latex2mathml_tex_grammar.specs.{Cutting.units_of, Expanding.expansion, Expansion.most_units, Expansion.most_uses, Expansion.Turn, Expansion.Stays, Expansion.Turns, Expansion.Fails, Expansion.own_role, Expansion.turn, Expansion.turn_of, Macros.SameMacros, Macros.Table, Refusal.refusal_at}
 use Rattle.latex2mathml_tex_grammar.specs.Units as units
-use Rattle.latex2mathml_tex_units.specs.{Pending.pending_units, MacroTables.macros_in, MacroTables.table_of, Taking.kind_of}
-use Rattle.latex2mathml_tex_units.specs.declared.{macros.expander.Expander.Expander, macros.halt.Halt.Halt, macros.table.Macros.Macros, unit.Fault.Fault}
+use Rattle.latex2mathml_tex_units.specs.{Pending.pending_units, MacroTables.macros_in, MacroTables.table_of, Taking.kind_of, Taking.piece_of}
+use Rattle.latex2mathml_tex_units.specs.declared.{macros.expander.Expander.Expander, macros.halt.Halt.Halt, macros.table.Macros.Macros, unit.Fault.Fault, unit.Piece.Piece}
 use Rattle.latex2mathml_tex_units.specs.declared.macros.halt.Halt.TheVariants as halt
 
 -- the units that a text expands to, in which these macros hold
@@ -26,10 +26,14 @@ expanded_left e = after_refusal e.refused (still_expanded e)
 abbrev pub turn_of_name : Expander → List ℕ → ℕ → Turn
 turn_of_name e name place = turn (table_of e.macros) e.uses e.room (units.unit (units.Command name) place) (pending_units e.pending)
 
--- the result says what becomes of a unit in the turn from one state to another
-abbrev pub Turned : Result Bool Halt → Turn → Expander → Expander → Type 0
-Turned (Ok true) turn old new = (next : Table) × (turn ≡ Turns next new.uses new.room (pending_units new.pending)) × SameMacros next (table_of new.macros)
-Turned (Ok false) turn old new = (turn ≡ Stays) × (still_expanded new ≡ still_expanded old)
+-- what becomes of this unit, whose name is another one for a piece, or which is that piece, if no macro has its name
+abbrev pub own_turn : Expander → units.Piece → units.Unit → Turn
+own_turn e piece u = turn_of (own_role piece) (table_of e.macros) e.uses e.room u (pending_units e.pending)
+
+-- the result says what becomes of a unit in the turn from one state to another: as which piece it stays, if it stays
+abbrev pub Turned : Result (Option Piece) Halt → Turn → Expander → Expander → Type 0
+Turned (Ok None) turn old new = (next : Table) × (turn ≡ Turns next new.uses new.room (pending_units new.pending)) × SameMacros next (table_of new.macros)
+Turned (Ok (Some piece)) turn old new = (turn ≡ Stays (piece_of piece)) × (still_expanded new ≡ still_expanded old)
 Turned (Err (halt.Refused fault place)) turn old new = turn ≡ Fails (refusal_at (kind_of fault) place)
 Turned (Err halt.OutOfMemory) turn old new = ⊤
 

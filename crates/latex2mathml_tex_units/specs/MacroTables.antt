@@ -1,6 +1,7 @@
 -- The macros that hold, as tables of the grammar.
 use Rattle.std.specs.Prelude.{ℕ, List, Option, Some, None, option_map}
 use Rattle.std.specs.BTreeMap as tree
+use Rattle.std.specs.Arc.{arc_value}
 use Rattle.std.specs.{Cmp.Lexicographic.slice_cmp, Ordering.nat_cmp}
 use Rattle.latex2mathml_tex_grammar.specs.{DefinitionTexts.Defines, Macros.Macro, Macros.SameMacros, Macros.Table, UsualMacros.usual_macros}
 use Rattle.latex2mathml_tex_units.specs.{Bodies.macro_of, declared.macros.scope.Scope.Scope, declared.macros.table.Macros.Macros}
@@ -16,7 +17,7 @@ or_usual found name = or_else found (usual_macros name)
 
 -- what a text of definitions defined
 abbrev pub defined_by : Macros → Table
-defined_by m name = option_map macro_of (tree.get_by (λ k. slice_cmp nat_cmp name k.now) m.defined)
+defined_by m name = option_map (λ shared. macro_of (arc_value shared)) (tree.get_by (λ k. slice_cmp nat_cmp name k.now) m.defined)
 
 abbrev pub macros_in : Macros → Table
 macros_in m name = or_usual (defined_by m name) name
@@ -36,7 +37,7 @@ defined_before (Some outer) name = defined_by outer name
 defined_before None name = None
 
 abbrev pub defined_here : Scope → Table
-defined_here s name = option_map macro_of (tree.get_by (λ k. slice_cmp nat_cmp name k.now) s.inner)
+defined_here s name = option_map (λ shared. macro_of (arc_value shared)) (tree.get_by (λ k. slice_cmp nat_cmp name k.now) s.inner)
 
 abbrev pub defined_in : Scope → Table
 defined_in s name = or_else (defined_here s name) (defined_before (option_map (λ outer. outer.now) s.outer) name)

@@ -23,13 +23,13 @@ turns_up_to_l first second len =
     else if first == byte "h" then (if second == byte "d" then len == 5 else if second == byte "f" then len == 4 || len == 5 else if second == byte "r" then len == 4 else if second == byte "t" then len == 6 || len == 8 || len == 9 else if second == byte "u" then len == 4 else false)
     else if first == byte "i" then (if second == byte "d" then len == 8 else if second == byte "f" then len == 3 else if second == byte "g" then len == 12 else if second == byte "m" then len == 7 || len == 9 else if second == byte "t" then len == 7 else false)
     else if first == byte "k" then second == byte "e" && (len == 3 || len == 6)
-    else if first == byte "l" then (if second == byte "a" then len == 5 else if second == byte "e" then len == 5 || len == 7 || len == 8 || len == 10 else if second == byte "l" || second == byte "o" then len == 4 else if second == byte "q" then len == 2 else false)
+    else if first == byte "l" then (if second == byte "a" then len == 5 else if second == byte "e" then len == 3 || len == 5 || len == 7 || len == 8 || len == 10 else if second == byte "l" || second == byte "o" then len == 4 else if second == byte "q" then len == 2 else false)
     else false
 
 -- the same of those that begin with m or after it
 abbrev pub turns_from_m : ℕ → ℕ → ℕ → Bool
 turns_from_m first second len =
-    if first == byte "m" then (if second == byte "a" then len == 6 || len == 9 || len == 12 else if second == byte "d" then len == 8 else if second == byte "i" then len == 15 else if second == byte "o" then len == 3 else false)
+    if first == byte "m" then (if second == byte "a" then len == 6 || len == 9 || len == 11 || len == 12 else if second == byte "d" then len == 8 else if second == byte "i" then len == 15 else if second == byte "o" then len == 3 else false)
     else if first == byte "n" then (if second == byte "e" then len == 10 else if second == byte "i" then len == 8 else if second == byte "o" then len == 5 || len == 7 || len == 8 || len == 10 else if second == byte "u" then len == 4 else false)
     else if first == byte "o" then (if second == byte "p" then len == 22 else if second == byte "v" then len == 12 else false)
     else if first == byte "p" then (if second == byte "m" then len == 4 || len == 7 else if second == byte "o" then len == 3 else if second == byte "r" then len == 7 || len == 9 || len == 14 else false)
@@ -46,7 +46,9 @@ turns_from_m first second len =
 abbrev pub is_turning_form : ℕ → ℕ → ℕ → Bool
 is_turning_form first second len = if nat_lt first (byte "m") then turns_up_to_l first second len else turns_from_m first second len
 
--- whether a name has six bytes, of which the first and the fourth are those of `mathbb`
-abbrev pub is_like_mathbb : List ℕ → Bool
-is_like_mathbb (a ∷ b ∷ c ∷ d ∷ e ∷ f ∷ []) = a == byte "m" && d == byte "h"
-is_like_mathbb name = false
+-- whether a name has six bytes, of which the first and the fourth are those of `mathbb`, or three, of which the first and the
+-- last are those of `leq`
+abbrev pub is_frequent : List ℕ → Bool
+is_frequent (a ∷ b ∷ c ∷ d ∷ e ∷ f ∷ []) = a == byte "m" && d == byte "h"
+is_frequent (a ∷ b ∷ c ∷ []) = a == byte "l" && c == byte "q"
+is_frequent name = false

@@ -14,6 +14,7 @@ ghost use Rattle.latex2mathml_tex.specs.Steps.{Begins, BeginsWordOf, CanMake, En
 
 use crate::parse::frames::{Ending, Frame};
 use crate::parse::symbols::put_symbol;
+use crate::parse::word_commands::WordCommand;
 use crate::parse::{Parser, State};
 use latex2mathml_attributes::attributes::Attributes;
 use latex2mathml_attributes::tag::Token;
@@ -22,10 +23,7 @@ use latex2mathml_tex_atoms::fonts::Font;
 use latex2mathml_tex_atoms::shapes::{put_row, with_atom};
 use latex2mathml_tex_atoms::words::{end_accent, put_character};
 use latex2mathml_tex_commands::alphabets::in_alphabet;
-use latex2mathml_tex_commands::commands;
-use latex2mathml_tex_commands::meaning::{Alphabet, Change, Class, Meaning, Style, Symbol};
-use latex2mathml_tex_commands::text_commands::{text_accent, text_character};
-use latex2mathml_tex_units::dots::LOW_DOTS;
+use latex2mathml_tex_commands::meaning::{Alphabet, Class, Style, Symbol};
 use latex2mathml_tex_units::error::TexErrorKind;
 use latex2mathml_tex_units::unit::{Next, Piece, Unit};
 use std::alloc::AllocError;
@@ -128,7 +126,7 @@ impl<'a> Parser<'a> {
             let words = end_accent(&mut self.builder, words)?;
             let context = Context {
                 style: Style::InText,
-                alphabet: None,
+                alphabet: formula_alphabet(alphabet),
             };
             return self.open(
                 Frame::Row(Ending::Formula(words.count), place, context, Row::begun()),
@@ -160,37 +158,29 @@ impl<'a> Parser<'a> {
             self.old self.new next.new result }
         ensures step { Advances 13 self.old self.new next.new result }
     {
-        if let Some(c) = text_character(name) {
-            return self.show(words, alphabet, c, next);
-        }
-        if let Some(accent) = text_accent(name) {
-            let words = end_accent(&mut self.builder, words)?;
-            *next = State::Words(Words {
-                accent: Some(accent),
-                ..words
-            });
-            return Ok(());
-        }
-        match commands::look_up(name) {
-            Some(meaning) => match meaning {
-                Meaning::Spacing(_) => self.show(words, alphabet, '\u{a0}', next),
-                Meaning::Shows(symbol) => self.show_symbol(words, symbol, next),
-                Meaning::Dots => self.show_symbol(words, LOW_DOTS, next),
-                Meaning::Words(alphabet) => {
-                    self.input.skip_space();
-                    *next = State::Word(words, place, alphabet);
-                    Ok(())
-                }
-                Meaning::Changes(change) => match change {
-                    Change::ToAlphabet(_) => {
-                        *next = State::Words(words);
-                        Ok(())
-                    }
-                    _ => self.refuse_command(name, place, next),
-                },
-                _ => self.refuse_command(name, place, next),
-            },
-            None => {
+        match WordCommand::of(name) {
+            WordCommand::Character(c) => self.show(words, alphabet, c, next),
+            WordCommand::Accent(accent) => {
+                let words = end_accent(&mut self.builder, words)?;
+                *next = State::Words(Words {
+                    accent: Some(accent),
+                    ..words
+                });
+                Ok(())
+            }
+            WordCommand::Space => self.show(words, alphabet, '\u{a0}', next),
+            WordCommand::Sign(symbol) => self.show_symbol(words, symbol, next),
+            WordCommand::Words(alphabet) => {
+                self.input.skip_space();
+                *next = State::Word(words, place, alphabet);
+                Ok(())
+            }
+            WordCommand::Alphabet(_) => {
+                *next = State::Words(words);
+                Ok(())
+            }
+            WordCommand::Forbidden => self.refuse_command(name, place, next),
+            WordCommand::Unknown => {
                 let name = String::from_str(self.alloc, name)?;
                 *next = self.refuse(TexErrorKind::UnknownCommand(name), place);
                 Ok(())
@@ -341,14 +331,8 @@ fn alphabet_change(piece: Piece) -> Option<Alphabet>
     let Piece::Command(name) = piece else {
         return None;
     };
-    if let Some(_) = text_character(name) {
-        return None;
-    }
-    if let Some(_) = text_accent(name) {
-        return None;
-    }
-    match commands::look_up(name) {
-        Some(Meaning::Changes(Change::ToAlphabet(alphabet))) => Some(alphabet),
+    match WordCommand::of(name) {
+        WordCommand::Alphabet(alphabet) => Some(alphabet),
         _ => None,
     }
 }
@@ -371,12 +355,24 @@ fn word_character(alphabet: Option<Alphabet>, c: char) -> char
     }
 }
 
-/// Returns a letter or a digit in an alphabet, if there is one. A typewriter has them as they are.
+/// Returns the alphabet of the formulas in words: bold italic after `\boldmath`, otherwise none.
+fn formula_alphabet(alphabet: Option<Alphabet>) -> Option<Alphabet>
+    ensures { option_map alphabet_of result
+        ≡ words.formula_alphabet (option_map alphabet_of alphabet) }
+{
+    match alphabet {
+        Some(Alphabet::BoldItalic) => alphabet,
+        _ => None,
+    }
+}
+
+/// Returns a letter or a digit in an alphabet, if there is one. A typewriter has them as they are, and bold italic is only for
+/// formulas.
 fn letter_in(alphabet: Option<Alphabet>, c: char) -> char
     ensures { result ≡ words.letter_in (option_map alphabet_of alphabet) c }
 {
     match alphabet {
-        None | Some(Alphabet::Monospace) => c,
+        None | Some(Alphabet::Monospace) | Some(Alphabet::BoldItalic) => c,
         Some(alphabet) => in_alphabet(alphabet, c),
     }
 }

@@ -57,7 +57,7 @@ pub(crate) fn letter_b() -> &'static [Entry]
 }
 
 #[rattlefmt::skip]
-static LETTER_B: [Entry; 65] = [
+static LETTER_B: [Entry; 66] = [
     Entry { name: "backepsilon", key: 0x6261636b65707369, meaning: Meaning::Shows(Symbol::Sign(Class::Relation, '∍')) },
     Entry { name: "backprime", key: 0x6261636b7072696d, meaning: Meaning::Shows(Symbol::Sign(Class::Ordinary, '‵')) },
     Entry { name: "backsim", key: 0x6261636b73696d00, meaning: Meaning::Shows(Symbol::Sign(Class::Relation, '∽')) },
@@ -106,6 +106,7 @@ static LETTER_B: [Entry; 65] = [
     Entry { name: "blacktriangleright", key: 0x626c61636b747269, meaning: Meaning::Shows(Symbol::Sign(Class::Relation, '▶')) },
     Entry { name: "bm", key: 0x626d000000000000, meaning: Meaning::Styled(Alphabet::BoldItalic) },
     Entry { name: "bold", key: 0x626f6c6400000000, meaning: Meaning::Styled(Alphabet::Bold) },
+    Entry { name: "boldmath", key: 0x626f6c646d617468, meaning: Meaning::Changes(Change::ToAlphabet(Alphabet::BoldItalic)) },
     Entry { name: "boldsymbol", key: 0x626f6c6473796d62, meaning: Meaning::Styled(Alphabet::BoldItalic) },
     Entry { name: "bot", key: 0x626f740000000000, meaning: Meaning::Shows(Symbol::Sign(Class::Ordinary, '⊥')) },
     Entry { name: "bowtie", key: 0x626f777469650000, meaning: Meaning::Shows(Symbol::Sign(Class::Relation, '⋈')) },

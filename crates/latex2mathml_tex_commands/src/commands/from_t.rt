@@ -73,10 +73,11 @@ pub(crate) fn letter_u() -> &'static [Entry]
 }
 
 #[rattlefmt::skip]
-static LETTER_U: [Entry; 54] = [
+static LETTER_U: [Entry; 55] = [
     Entry { name: "uArr", key: 0x7541727200000000, meaning: Meaning::Shows(Symbol::Sign(Class::Relation, '⇑')) },
     Entry { name: "uarr", key: 0x7561727200000000, meaning: Meaning::Shows(Symbol::Sign(Class::Relation, '↑')) },
     Entry { name: "ulcorner", key: 0x756c636f726e6572, meaning: Meaning::Shows(Symbol::Sign(Class::Opening, '⌜')) },
+    Entry { name: "unboldmath", key: 0x756e626f6c646d61, meaning: Meaning::Changes(Change::ToAlphabet(Alphabet::Upright)) },
     Entry { name: "underbar", key: 0x756e646572626172, meaning: Meaning::Accent(Side::Below, '\u{332}', Stretch::Stretching) },
     Entry { name: "underbrace", key: 0x756e646572627261, meaning: Meaning::Brace(Side::Below, '⏟') },
     Entry { name: "underbracket", key: 0x756e646572627261, meaning: Meaning::Brace(Side::Below, '⎵') },

@@ -1,12 +1,12 @@
 //! Definitions of macros.
 ghost use Rattle.std.specs.Prelude.{◌≡◌, map, option_map};
-ghost use Rattle.latex2mathml_tex_grammar.specs.Definitions.{are_space, body, body_in_braces, command_definition, default_of, definition_of, delimiters_definition, is_delimited, name_in, name_of, number_of, operator_definition, parameters, plain_definition, word_named};
-ghost use Rattle.latex2mathml_tex_units.specs.{Bodies.parts_in, Defined.definition_in, Defined.word_of, Pending.Reads, Pending.pending_units, Taking.unit_of};
+ghost use Rattle.latex2mathml_tex_grammar.specs.Definitions.{alias_definition, any_piece, are_space, body, body_in_braces, command_definition, default_of, definition_of, delimiters_definition, is_delimited, name_in, name_of, number_of, operator_definition, parameters, plain_definition, word_named};
+ghost use Rattle.latex2mathml_tex_units.specs.{Bodies.parts_in, Defined.definition_in, Defined.word_of, Pending.Reads, Pending.pending_units, Taking.piece_of, Taking.unit_of};
 
 use crate::macros::halt::Halt;
 use crate::macros::part::{Macro, Part, operator_parts, parts_of};
 use crate::macros::pending::Pending;
-use crate::unit::{Fault, Piece, Unit};
+use crate::unit::{Fault, Next, Piece, Unit};
 use std::alloc::Global;
 
 /// The words that begin definitions.
@@ -22,6 +22,8 @@ pub(crate) enum Word {
     DeclareOperator,
     /// `\DeclarePairedDelimiter`.
     DeclareDelimiters,
+    /// `\let`.
+    Let,
 }
 
 /// Returns the word with this name.
@@ -38,6 +40,8 @@ pub(crate) fn word_named(name: &str) -> Option<Word>
         Some(Word::DeclareOperator)
     } else if name == "DeclarePairedDelimiter" {
         Some(Word::DeclareDelimiters)
+    } else if name == "let" {
+        Some(Word::Let)
     } else {
         None
     }
@@ -256,6 +260,31 @@ impl<'a> Pending<'a> {
         Ok(Definition { name, stands_for })
     }
 
+    /// Takes the piece that comes next, whatever it is.
+    fn take_any(&mut self, place: usize) -> Result<Piece<'a>, Halt>
+        ensures { Reads result piece_of (any_piece place) self.old self.new }
+    {
+        match self.take() {
+            Next::Unit(unit) => Ok(unit.piece),
+            Next::End(_) => Err(Halt::Refused(Fault::MissingArgument, place)),
+            Next::Fault(fault, at) => Err(Halt::Refused(fault, at)),
+        }
+    }
+
+    /// Takes what follows `\let`.
+    fn take_alias_definition(&mut self, alloc: Global, place: usize) -> Result<Definition<'a>, Halt>
+        ensures { Reads result definition_in (alias_definition place) self.old self.new }
+    {
+        let name = self.take_name(alloc, place)?;
+        self.take_sign('=');
+        self.skip_space();
+        let piece = self.take_any(place)?;
+        Ok(Definition {
+            name,
+            stands_for: Macro::of_alias(alloc, piece),
+        })
+    }
+
     /// Takes the definition that follows a word at this place.
     pub(crate) fn take_definition(
         &mut self,
@@ -271,6 +300,7 @@ impl<'a> Pending<'a> {
             Word::Def => self.take_plain_definition(alloc, place),
             Word::DeclareOperator => self.take_operator_definition(alloc, place),
             Word::DeclareDelimiters => self.take_delimiters_definition(alloc, place),
+            Word::Let => self.take_alias_definition(alloc, place),
         }
     }
 }

@@ -2,15 +2,15 @@
 ghost use Rattle.std.specs.Prelude.{◌≡◌, ℕ, IfOk, OnOk};
 ghost use Rattle.latex2mathml_tex_grammar.specs.{Expanding.expansion, Expansion.most_units, Expansion.most_uses, Macros.before};
 ghost use Rattle.latex2mathml_tex_grammar.specs.Units as units;
-ghost use Rattle.latex2mathml_tex_units.specs.{Expanded.IsHalted, Expanded.Turned, Expanded.expanded_left, Expanded.turn_of_name, Left.units_left, MacroTables.macros_in, Standing.Moves, Taking.Takes};
+ghost use Rattle.latex2mathml_tex_units.specs.{Expanded.IsHalted, Expanded.Turned, Expanded.expanded_left, Expanded.own_turn, Expanded.turn_of_name, Left.units_left, MacroTables.macros_in, Standing.Moves, Taking.Takes, Taking.piece_of};
 
 use crate::lexer::Lexer;
-use crate::macros::definitions::word_named;
 use crate::macros::halt::Halt;
 use crate::macros::pending::Pending;
 use crate::macros::scope::Scope;
 use crate::macros::standing::may_turn;
 use crate::macros::table::Macros;
+use crate::macros::texts::word_of;
 use crate::macros::usual::usual_macro;
 use crate::unit::{Fault, Next, Piece, Unit};
 use std::alloc::{AllocError, Global};
@@ -68,12 +68,10 @@ impl<'m, 'a> Expander<'m, 'a> {
             let Piece::Command(name) = unit.piece else {
                 return Ok(next);
             };
-            match self.turn(name, unit.place) {
-                Ok(turned) => {
-                    if !turned {
-                        return Ok(next);
-                    }
-                }
+            let place = unit.place;
+            match self.turn(name, place) {
+                Ok(Some(piece)) => return Ok(Next::Unit(Unit { piece, place })),
+                Ok(None) => {}
                 Err(halt) => return self.halted(halt),
             }
         }
@@ -107,31 +105,45 @@ impl<'m, 'a> Expander<'m, 'a> {
     }
 
     /// Replaces the macro with this name, which was taken at this place, or takes the definition that begins with this name.
-    /// Returns whether the name is one of the two.
+    /// Otherwise, returns the piece that the name means.
     #[inline(never)]
-    fn turn(&mut self, name: &'a str, place: usize) -> Result<bool, Halt>
+    fn turn(&mut self, name: &'a str, place: usize) -> Result<Option<Piece<'a>>, Halt>
         ensures turned { Turned result (turn_of_name self.old name.now place)
             self.old self.new }
         ensures refused { self.new.refused ≡ self.old.refused }
     {
+        let piece = Piece::Command(name);
         if let Some(found) = self.macros.defined(name) {
+            if let Some(piece) = found.alias {
+                return self.define(piece, place);
+            }
             self.pending
                 .replace(self.alloc, found, place, &mut self.uses, &mut self.room)?;
-            return Ok(true);
+            return Ok(None);
         }
         if !may_turn(name) {
-            return Ok(false);
+            return Ok(Some(piece));
         }
         if let Some(found) = usual_macro(self.alloc, name)? {
             self.pending
                 .replace(self.alloc, &found, place, &mut self.uses, &mut self.room)?;
-            return Ok(true);
+            return Ok(None);
         }
-        let Some(word) = word_named(name) else {
-            return Ok(false);
+        self.define(piece, place)
+    }
+
+    /// Takes the definition that begins with this piece at this place, whatever macros hold. Returns the piece if none does.
+    fn define(&mut self, piece: Piece<'a>, place: usize) -> Result<Option<Piece<'a>>, Halt>
+        ensures turned { (written : units.Piece) → Turned result
+            (own_turn self.old (piece_of piece.entry) (units.unit written place))
+            self.old self.new }
+        ensures refused { self.new.refused ≡ self.old.refused }
+    {
+        let Some(word) = word_of(piece) else {
+            return Ok(Some(piece));
         };
         let definition = self.pending.take_definition(self.alloc, word, place)?;
-        self.macros.define(word, definition)?;
-        Ok(true)
+        self.macros.define(self.alloc, word, definition)?;
+        Ok(None)
     }
 }

@@ -1,7 +1,7 @@
 //! The bodies of macros.
 ghost use Rattle.std.specs.Prelude.{◌≡◌, IfOk, map, option_map};
 ghost use Rattle.latex2mathml_tex_grammar.specs.Definitions.{delimiters_macro, digit_of, enclosed_parts, is_character, operator_parts, parameter_part, parts_of, stretched_parts};
-ghost use Rattle.latex2mathml_tex_grammar.specs.Macros.{macro_with_default};
+ghost use Rattle.latex2mathml_tex_grammar.specs.Macros.{alias, macro_with_default};
 ghost use Rattle.latex2mathml_tex_units.specs.{Bodies.default_of, Bodies.macro_of, Bodies.part_of, Bodies.parts_in, Taking.piece_of, Taking.unit_of};
 
 use crate::unit::{Piece, Unit};
@@ -29,6 +29,8 @@ pub(crate) enum Lead<'a> {
 /// What arguments a macro takes, and what replaces it.
 #[derive(Drop)]
 pub(crate) struct Macro<'a> {
+    /// The piece that its name means, if the name is only another one for this piece.
+    pub(crate) alias: Option<Piece<'a>>,
     pub(crate) lead: Lead<'a>,
     /// How many other arguments it takes.
     pub(crate) arity: usize,
@@ -47,11 +49,13 @@ impl<'a> Macro<'a> {
     {
         match default {
             Some(default) => Macro {
+                alias: None,
                 lead: Lead::Default(default),
                 arity: count.saturating_sub(1),
                 body,
             },
             None => Macro {
+                alias: None,
                 lead: Lead::Nothing,
                 arity: count,
                 body,
@@ -70,10 +74,23 @@ impl<'a> Macro<'a> {
             ≡ delimiters_macro (map part_of left.now) (map part_of right.now)) }
     {
         Ok(Macro {
+            alias: None,
             lead: Lead::Star(stretched_parts(alloc, left, right)?),
             arity: 1,
             body: enclosed_parts(alloc, left, right)?,
         })
+    }
+
+    /// Creates another name for this piece.
+    pub(crate) fn of_alias(alloc: Global, piece: Piece<'a>) -> Macro<'a>
+        ensures { macro_of result ≡ alias (piece_of piece.entry) }
+    {
+        Macro {
+            alias: Some(piece),
+            lead: Lead::Nothing,
+            arity: 0,
+            body: Vec::new(alloc),
+        }
     }
 
     /// Returns the default of the first argument, if that one can be left out.

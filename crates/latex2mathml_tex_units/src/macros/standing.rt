@@ -3,7 +3,7 @@ ghost use Rattle.std.specs.Prelude.{◌≡◌, ◌∷◌, ◌++◌, ℕ, IfSome,
 ghost use Rattle.std.specs.Str.{byte, chars};
 ghost use Rattle.latex2mathml_tex_grammar.specs.Units.{Spells};
 ghost use Rattle.latex2mathml_tex_grammar.specs.{Definitions.word_named, Expansion.Stands, Expansion.role_of, Macros.Table, UsualMacros.usual_macros};
-ghost use Rattle.latex2mathml_tex_units.specs.{Left.units_left, Taking.piece_of, TurningForms.is_like_mathbb, TurningForms.is_turning_form, TurningForms.turns_from_m, TurningForms.turns_up_to_l};
+ghost use Rattle.latex2mathml_tex_units.specs.{Left.units_left, Taking.piece_of, TurningForms.is_frequent, TurningForms.is_turning_form, TurningForms.turns_from_m, TurningForms.turns_up_to_l};
 ghost use Rattle.latex2mathml_tex_units.specs.Standing.{AreStanding, IsUsual, Moves};
 
 use crate::lexer::Lexer;
@@ -90,7 +90,7 @@ fn common_piece(usual: bool, text: &str) -> Option<(Piece<'_>, &str)>
         × (chars text.now ≡ w ++ chars found.1.now)
         × Spells w (chars found.1.now) (Some (piece_of found.0))) }
     ensures stays { IfSome result (λ found. (table : Table) → IsUsual usual table
-        → role_of table (piece_of found.0) ≡ Stands) }
+        → role_of table (piece_of found.0) ≡ Stands (piece_of found.0)) }
 {
     let (c, after) = first_ascii(text)?;
     match c {
@@ -109,7 +109,7 @@ fn common_command(usual: bool, text: &str) -> Option<(Piece<'_>, &str)>
         × (byte "\\" ∷ chars text.now ≡ w ++ chars found.1.now)
         × Spells w (chars found.1.now) (Some (piece_of found.0))) }
     ensures stays { IfSome result (λ found. (table : Table) → IsUsual usual table
-        → role_of table (piece_of found.0) ≡ Stands) }
+        → role_of table (piece_of found.0) ≡ Stands (piece_of found.0)) }
 {
     let Start::Piece(piece, behind) = command(text) else {
         return None;
@@ -124,7 +124,7 @@ fn common_command(usual: bool, text: &str) -> Option<(Piece<'_>, &str)>
 #[inline(always)]
 fn stands(usual: bool, piece: Piece) -> bool
     ensures { IsTrue result → (table : Table) → IsUsual usual table
-        → role_of table (piece_of piece.entry) ≡ Stands }
+        → role_of table (piece_of piece.entry) ≡ Stands (piece_of piece.entry) }
 {
     match piece {
         Piece::Command(name) => usual && !may_turn(name),
@@ -133,7 +133,7 @@ fn stands(usual: bool, piece: Piece) -> bool
 }
 
 /// Whether a usual macro or a word that begins definitions may have this name, by its first two bytes and its length. Those of
-/// `matrix` are also those of `mathbb` and the like, which are frequent.
+/// `matrix` are also those of `mathbb` and the like, and those of `let` are also those of `leq`, which are frequent.
 #[inline(always)]
 pub(crate) fn may_turn(name: &str) -> bool
     ensures usual { IsFalse result → usual_macros name.now ≡ None }
@@ -141,20 +141,22 @@ pub(crate) fn may_turn(name: &str) -> bool
 {
     match name.as_bytes() {
         [first, second, ..] => {
-            is_turning_form(*first, *second, name.len()) && !is_like_mathbb(name)
+            is_turning_form(*first, *second, name.len()) && !is_frequent(name)
         }
         [one] => matches!(*one, b'(' | b')' | b'*' | b'-' | b'/'),
         [] => false,
     }
 }
 
-/// Whether the name has six bytes, of which the first and the fourth are those of `mathbb`.
+/// Whether the name has six bytes, of which the first and the fourth are those of `mathbb`, or three, of which the first and the
+/// last are those of `leq`.
 #[inline(always)]
-fn is_like_mathbb(name: &str) -> bool
-    ensures { result ≡ is_like_mathbb name.now }
+fn is_frequent(name: &str) -> bool
+    ensures { result ≡ is_frequent name.now }
 {
     match name.as_bytes() {
         [first, _, _, fourth, _, _] => *first == b'm' && *fourth == b'h',
+        [first, _, last] => *first == b'l' && *last == b'q',
         _ => false,
     }
 }
@@ -261,7 +263,7 @@ fn turns_up_to_l(first: u8, second: u8, len: usize) -> bool
         b'k' => second == b'e' && matches!(len, 3 | 6),
         b'l' => match second {
             b'a' => len == 5,
-            b'e' => matches!(len, 5 | 7 | 8 | 10),
+            b'e' => matches!(len, 3 | 5 | 7 | 8 | 10),
             b'l' | b'o' => len == 4,
             b'q' => len == 2,
             _ => false,
@@ -277,7 +279,7 @@ fn turns_from_m(first: u8, second: u8, len: usize) -> bool
 {
     match first {
         b'm' => match second {
-            b'a' => matches!(len, 6 | 9 | 12),
+            b'a' => matches!(len, 6 | 9 | 11 | 12),
             b'd' => len == 8,
             b'i' => len == 15,
             b'o' => len == 3,

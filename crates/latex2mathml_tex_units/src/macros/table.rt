@@ -1,6 +1,6 @@
 //! Macros for formulas.
 ghost use Rattle.std.specs.Prelude.{◌≡◌, ℕ, IfOk, IsTrue, List, None, option_map};
-ghost use Rattle.std.specs.Str.{chars};
+ghost use Rattle.std.specs.{Arc.arc_value, Str.chars};
 ghost use Rattle.latex2mathml_tex_grammar.specs.{DefinitionTexts.AreRefused, DefinitionTexts.Defines, Macros.SameMacros, Macros.Table, UsualMacros.usual_macros};
 ghost use Rattle.latex2mathml_tex_units.specs.{Bodies.macro_of, Errors.IfRefused, MacroTables.AreDefined, MacroTables.defined_by, MacroTables.macros_in};
 
@@ -10,13 +10,14 @@ use crate::macros::part::Macro;
 use crate::macros::scope::Scope;
 use std::alloc::Global;
 use std::collections::BTreeMap;
+use std::sync::Arc;
 
 /// The macros that a formula may use: the usual ones of LaTeX, such as `\pmod` and `\bra`, and those of a text of definitions.
 ///
 /// A formula may define more, which hold from there to its end.
 #[derive(Drop)]
 pub struct Macros<'a> {
-    pub(crate) defined: BTreeMap<&'a str, Macro<'a>>,
+    pub(crate) defined: BTreeMap<&'a str, Arc<Macro<'a>>>,
 }
 
 impl<'a> Macros<'a> {
@@ -34,7 +35,7 @@ impl<'a> Macros<'a> {
     /// what its name meant before, except that `\providecommand` keeps it.
     ///
     /// The text consists of `\newcommand`, `\renewcommand`, `\providecommand`, `\DeclareRobustCommand`, `\def`, `\gdef`,
-    /// `\DeclareMathOperator` and `\DeclarePairedDelimiter`, each with what it defines, and of white space, comments, `\global` and `\long`.
+    /// `\let`, `\DeclareMathOperator` and `\DeclarePairedDelimiter`, each with what it defines, and of white space, comments, `\global` and `\long`.
     ///
     /// `\newcommand{\R}{\mathbb{R}} \def\norm#1{\lVert #1 \rVert}` defines two macros.
     ///
@@ -70,8 +71,8 @@ impl<'a> Macros<'a> {
     }
 
     /// Returns the macro that was defined with this name.
-    pub(crate) fn defined(&self, name: &str) -> Option<&Macro<'a>>
-        ensures { option_map (λ m. macro_of m.now) result ≡ defined_by self.now name.now }
+    pub(crate) fn defined(&self, name: &str) -> Option<&Arc<Macro<'a>>>
+        ensures { option_map (λ m. macro_of (arc_value m.now)) result ≡ defined_by self.now name.now }
     {
         self.defined.get(name)
     }

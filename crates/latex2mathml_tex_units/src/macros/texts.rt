@@ -14,7 +14,7 @@ use crate::unit::{Fault, Next, Piece};
 use std::alloc::Global;
 
 /// Returns the word that the piece is, if it begins a definition.
-fn word_of(piece: Piece) -> Option<Word>
+pub(crate) fn word_of(piece: Piece) -> Option<Word>
     ensures { option_map Defined.word_of result ≡ word_of (piece_of piece.entry) }
 {
     match piece {
@@ -69,7 +69,7 @@ impl<'m, 'a> Scope<'m, 'a> {
                         return Err(Halt::Refused(Fault::NoDefinition, unit.place));
                     };
                     let definition = pending.take_definition(alloc, word, unit.place)?;
-                    scope.define(word, definition)?;
+                    scope.define(alloc, word, definition)?;
                 }
             }
         }

@@ -30,7 +30,7 @@ fn entries() -> &'static [Usual]
 
 /// An entry for each macro, in the order of their names' bytes.
 #[rattlefmt::skip]
-static ENTRIES: [Usual; 166] = [
+static ENTRIES: [Usual; 167] = [
     Usual { name: "(", arity: 0, body: "$" },
     Usual { name: ")", arity: 0, body: "$" },
     Usual { name: "*", arity: 0, body: "" },
@@ -126,6 +126,7 @@ static ENTRIES: [Usual; 166] = [
     Usual { name: "llap", arity: 1, body: "\\mathllap{\\text{#1}}" },
     Usual { name: "long", arity: 0, body: "" },
     Usual { name: "lq", arity: 0, body: "`" },
+    Usual { name: "mathpalette", arity: 2, body: "\\mathchoice{#1\\displaystyle{#2}}{#1\\textstyle{#2}}{#1\\scriptstyle{#2}}{#1\\scriptscriptstyle{#2}}" },
     Usual { name: "mathstrut", arity: 0, body: "\\vphantom{(}" },
     Usual { name: "mathtoolsset", arity: 1, body: "" },
     Usual { name: "matrix", arity: 1, body: "\\begin{matrix}#1\\end{matrix}" },

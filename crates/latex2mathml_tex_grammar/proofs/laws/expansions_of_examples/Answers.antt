@@ -8,6 +8,8 @@ unfolding units_of units_within encode parameters expansion expansion_within usu
 returns c = record {
   defined = is_expanded usual_macros 4 12 _;
   again = is_expanded usual_macros 4 12 _;
+  kept = is_expanded usual_macros 4 12 _;
+  another = is_expanded usual_macros 4 12 _;
   endless = is_expanded usual_macros 4 12 _;
   lacking = is_expanded usual_macros 4 12 _;
   starred = is_expanded usual_macros 4 12 _;

@@ -13,7 +13,7 @@ returns-in_default-2-clause-usual c = λ none. no_usual c.args.name.now (turns_o
 
 pub returns-then-is_turning_form-clause-usual : goal.returns-then-is_turning_form-clause-usual
 returns-then-is_turning_form-clause-usual c = λ none.
-    no_usual c.args.name.now (turns_more c.args.name.now _ c.as_bytes.ensures.value c.in-len2-up.len_at_least ∙ no_second _ _ (ap not (sym c.is_like_mathbb.ensures) ∙ none))
+    no_usual c.args.name.now (turns_more c.args.name.now _ c.as_bytes.ensures.value c.in-len2-up.len_at_least ∙ no_second _ _ (ap not (sym c.is_frequent.ensures) ∙ none))
 
 pub returns-else-is_turning_form-clause-usual : goal.returns-else-is_turning_form-clause-usual
 returns-else-is_turning_form-clause-usual c = λ none.
