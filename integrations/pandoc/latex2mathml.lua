@@ -6,7 +6,6 @@
 -- converts all formulas in one run; it runs once more if a definition is refused. The second walk inserts the results.
 
 local re = require 're'
-
 -- groups may be nested more deeply than the default of a few hundred levels allows
 require('lpeg').setmaxstack(1000000)
 
@@ -47,6 +46,9 @@ local RAW_TEX = re.compile([=[
 local function is_tex(raw)
   return raw.format == 'tex' or raw.format == 'latex'
 end
+
+--- Whether pandoc expands macros. It has then carried out each `\let`: once more, the old name could mean the new definition.
+local IS_EXPANDED = pandoc.List(PANDOC_READER_OPTIONS.extensions):includes('latex_macros')
 
 --- The command that a definition defines.
 local function defined_name(definition)
@@ -222,8 +224,7 @@ end
 
 -- The first walk -----------------------------------------------------------------------------------------------------
 
---- Gathers the formulas of a document (each with the number of definitions before it), the definitions, the numbers of labels, and
---- the references in raw TeX.
+--- Gathers formulas (each with the number of definitions before it), definitions, the numbers of labels, and references in raw TeX.
 local function gather(document, definitions)
   local formulas, numbers, last_number, references = {}, {}, 0, {}
 
@@ -241,11 +242,11 @@ local function gather(document, definitions)
 
   local function add_raw(raw)
     for _, part in ipairs(is_tex(raw) and RAW_TEX:match(raw.text) or {}) do
-      if part.kind == 'definition' then
+      if part.kind == 'definition' and not (IS_EXPANDED and part.text:match('^\\let')) then
         definitions[#definitions + 1] = {name = defined_name(part.text), text = part.text}
       elseif part.kind == 'formula' then
         add_formula(part.text, true)
-      else
+      elseif part.kind == 'reference' then
         references[#references + 1] = part
       end
     end
@@ -320,8 +321,7 @@ local function is_empty(markup)
   return markup:match('^<math[^>]*></math>$') or markup:match('^<math[^>]*><semantics><mrow></mrow><annotation')
 end
 
---- Keeps the definitions that define something and do nothing else, and reports what is wrong with the others. Returns whether all
---- are kept.
+--- Keeps the definitions that only define something, and reports what is wrong with the others. Returns whether all are kept.
 local function check_definitions(options, definitions, replies)
   local all = true
   for i, definition in ipairs(definitions) do
