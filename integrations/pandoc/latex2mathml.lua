@@ -47,7 +47,7 @@ local function is_tex(raw)
   return raw.format == 'tex' or raw.format == 'latex'
 end
 
---- Whether pandoc expands macros. It has then carried out each `\let`: once more, the old name could mean the new definition.
+--- Whether pandoc expands macros. It has then carried out each `\let`: if that were done again, the name could mean something else.
 local IS_EXPANDED = pandoc.List(PANDOC_READER_OPTIONS.extensions):includes('latex_macros')
 
 --- The command that a definition defines.
@@ -93,8 +93,7 @@ local function only_element(value)
   return only
 end
 
---- The TeX that a value of the metadata represents, or nil if pandoc has not kept it as it was written. Pandoc reads metadata as
---- Markdown, where a backslash before a comma disappears.
+--- The TeX that a value of the metadata represents, or nil if pandoc, to which it is Markdown, has not kept it as it was written.
 local function tex_of(value)
   if type_of(value) == 'string' then
     return value
@@ -227,7 +226,7 @@ end
 --- Gathers formulas (each with the number of definitions before it), definitions, the numbers of labels, and references in raw TeX.
 local function gather(document, definitions)
   local formulas, numbers, last_number, references = {}, {}, 0, {}
-
+  local is_done = false -- whether pandoc has carried out the definitions that follow
   local function add_formula(source, is_block)
     local formula = {source = source, is_block = is_block, definitions = #definitions, labels = {}}
     for _, label in ipairs(is_block and labels_of(source) or {}) do
@@ -242,7 +241,8 @@ local function gather(document, definitions)
 
   local function add_raw(raw)
     for _, part in ipairs(is_tex(raw) and RAW_TEX:match(raw.text) or {}) do
-      if part.kind == 'definition' and not (IS_EXPANDED and part.text:match('^\\let')) then
+      is_done = is_done or IS_EXPANDED and part.kind == 'definition' and part.text:match('^\\let')
+      if part.kind == 'definition' and (not is_done or part.text:match('^\\DeclarePaired')) then
         definitions[#definitions + 1] = {name = defined_name(part.text), text = part.text}
       elseif part.kind == 'formula' then
         add_formula(part.text, true)
