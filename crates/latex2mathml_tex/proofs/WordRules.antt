@@ -81,7 +81,7 @@ unequal m n h = grind (arith, nat_tests)
 
 -- the characters that cannot appear in words
 abbrev pub no_word : ℕ → Bool
-no_word c = c == byte "_" || c == byte "^" || c == byte "&" || c == byte "#"
+no_word c = c == byte "^" || c == byte "&" || c == byte "#"
 
 module _ (a : Option Alphabet) (c : ℕ) where
   pub dollar_rule : c ≡ byte "$" → word_rule a (Character c) ≡ BeginsFormula

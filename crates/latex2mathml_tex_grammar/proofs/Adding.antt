@@ -1,16 +1,17 @@
 -- What expansion adds to units: nothing but what is in them and in macros.
-use Rattle.std.proofs.Common.{ℕ, zero, suc, ◌+◌, ◌≡◌, Bool, true, false, List, [], ◌∷◌, ◌++◌, length, codes, Option, Some, None, refl, subst}
+use Rattle.std.proofs.Common.{ℕ, zero, suc, ◌≡◌, Bool, true, false, List, [], ◌∷◌, ◌++◌, length, codes, Option, Some, None, refl, subst}
 use Rattle.std.specs.Prelude.{◌-◌, take, drop, IsTrue, ⊤, nat_lt, if◌then◌else◌}
 use Rattle.std.specs.{Option.unwrap_or, Str.byte, Str.bytes_eq}
 use Rattle.std.specs.List.{AllByRecursion}
-use Rattle.latex2mathml_tex_grammar.specs.Arguments.{Brace, Opening, Closing, NoBrace, brace_of, and_then, with_first, in_group, group, argument_of, argument_here, argument, arguments, ends_brackets, in_brackets, between_brackets, is_group, without_braces, bracket_here, bracket, behind_bracket, optional, or_default, arguments_with, macro_arguments}
-use Rattle.latex2mathml_tex_grammar.specs.Definitions.{DeclareDelimiters, Let, any_piece, alias_definition, meaning_now, resolved, delimiters_definition, stretched_parts, enclosed_parts, sized_parts, Word, NewCommand, ProvideCommand, Def, DeclareOperator, Definition, is_character, sign_here, sign, digit_of, digit_found, digit_here, digit, name_in, name_read, name_of, number_closed, number_in, number_opened, number_of, numbered, parameter, parameters, argument_part, parameter_part, part_before, parts_behind, parts_of, body_read, body, default_read, default_given, default_of, is_delimited, body_in_braces, command_definition, plain_definition, operator_definition, definition_of, operator_parts, provided, behind_definition}
+use Rattle.latex2mathml_tex_grammar.specs.Arguments.{Brace, Opening, Closing, NoBrace, brace_of, and_then, with_first, in_group, group, argument_of, argument_here, argument, is_sign, is_end, before_sign, up_to, is_group, without_braces, behind_first, between_brackets, bracket_here, bracket, behind_bracket, optional, first_sign, argument_before, the_sign, arguments, or_default, arguments_with, macro_arguments}
+use Rattle.latex2mathml_tex_grammar.specs.Definitions.{DeclareDelimiters, Let, any_piece, alias_definition, meaning_now, resolved, delimiters_definition, stretched_parts, enclosed_parts, sized_parts, Word, NewCommand, ProvideCommand, Def, DeclareOperator, Definition, is_character, sign_here, sign, digit_of, digit_found, digit_here, digit, name_in, name_read, name_of, number_closed, number_in, number_opened, number_of, is_number, is_brace, in_parameter_text, number_due, parameters_behind, parameter_text, parameter_count, argument_part, parameter_part, part_before, parts_behind, parts_of, body_read, body, default_read, default_given, default_of, command_definition, plain_definition, operator_definition, definition_of, operator_parts, provided, behind_definition}
 use Rattle.latex2mathml_tex_grammar.specs.Expansion.{form_of, used_form, form_with, starred_form, found_role, macro_role, role_of, word_role, Turn, Stays, Turns, Fails, with_arguments, used, defined, turn_of, Expands, at_end, at_stop, stays, turns, fails}
 use Rattle.latex2mathml_tex_grammar.specs.ExpansionLaws.{added_pieces, EachPiece, EachFixed, EachIfSome, IfPiece, EachInMacro, EachInTable, AddsNothing}
-use Rattle.latex2mathml_tex_grammar.specs.Macros.{Part, Fixed, Argument, Macro, alias, macro_of, macro_with_default, Table, with_macro, argument_at, put, before}
-use Rattle.latex2mathml_tex_grammar.specs.{Next.is_space_piece, Next.past_space, Reading.Outcome, Reading.Read, Reading.Refused, Refusal.Refusal}
-use Rattle.latex2mathml_tex_grammar.specs.Units.{Piece, Space, Open, Close, Command, Character, Unit, Units, Next, End, Stop}
-use Rattle.latex2mathml_tex_grammar.proofs.Choices.{of_either}
+use Rattle.latex2mathml_tex_grammar.specs.Macros.{Part, Fixed, Argument, Taken, Parameter, Sign, Macro, alias, macro_of, macro_with_default, Table, with_macro, argument_at, put, before}
+use Rattle.latex2mathml_tex_grammar.specs.{Next.is_space_piece, Next.past_space, Reading.Outcome, Reading.Read, Reading.Refused}
+use Rattle.latex2mathml_tex_grammar.specs.Refusal.{Refusal, UnclosedBracket, WrongUse, refusal_at}
+use Rattle.latex2mathml_tex_grammar.specs.Units.{Piece, Open, Close, Command, Character, Unit, Units, Next, End, Stop}
+use Rattle.latex2mathml_tex_grammar.proofs.{Choices.of_either, Choices.of_found, MacrosUsed.of_used_macro}
 
 module _ (P : Piece → Type 0) where
   abbrev pub EachOf : List Unit → Type 0
@@ -70,23 +71,23 @@ module _ (P : Piece → Type 0) where
   of_argument : (place : ℕ) (l : Units) → EachPiece P l → Passes EachOf (argument place l)
   of_argument place l h = of_here place (past_space l) (past l h)
 
-  of_arguments : (place n : ℕ) (l : Units) → EachPiece P l → Passes EachList (arguments place n l)
-  of_arguments place zero l h = (tt, h)
-  of_arguments place (suc n) l h = after EachOf EachList (argument place l) (λ arg rest. with_first arg (arguments place n rest)) (of_argument place l h)
-      (λ arg rest p q. first_list arg (arguments place n rest) p (of_arguments place n rest q))
+  -- What ends before a sign
 
-  -- What can be left out
+  of_before_sign : (b : Brace) (sign : Piece) (r : Refusal) (u : Unit) (l : Units) (depth : ℕ) (more : ℕ → Outcome (List Unit)) → P u.piece → EachPiece P l → ((d : ℕ) → Passes EachOf (more d)) → Passes EachOf (before_sign b sign r u l depth more)
+  of_before_sign Opening sign r u l depth more p k h = first u (more (suc depth)) p (h (suc depth))
+  of_before_sign Closing sign r u l zero more p k h = tt
+  of_before_sign Closing sign r u l (suc depth) more p k h = first u (more depth) p (h depth)
+  of_before_sign NoBrace sign r u l depth more p k h = of_either (Passes EachOf) (is_end sign depth u.piece) (tt, (p, k)) (first u (more depth) p (h depth))
 
-  of_in_brackets : (b : Brace) (place : ℕ) (u : Unit) (l : Units) (depth : ℕ) (more : ℕ → Outcome (List Unit)) → P u.piece → EachPiece P l → ((d : ℕ) → Passes EachOf (more d)) → Passes EachOf (in_brackets b place u l depth more)
-  of_in_brackets Opening place u l depth more p k h = first u (more (suc depth)) p (h (suc depth))
-  of_in_brackets Closing place u l zero more p k h = tt
-  of_in_brackets Closing place u l (suc depth) more p k h = first u (more depth) p (h depth)
-  of_in_brackets NoBrace place u l depth more p k h = of_either (Passes EachOf) (ends_brackets depth u.piece) (tt, k) (first u (more depth) p (h depth))
+  of_up_to : (sign : Piece) (r : Refusal) (l : Units) (depth : ℕ) → EachPiece P l → Passes EachOf (up_to sign r l depth)
+  of_up_to sign r (Next u l) depth h = of_before_sign (brace_of u.piece) sign r u l depth (up_to sign r l) h.0 h.1 (λ d. of_up_to sign r l d h.1)
+  of_up_to sign r (End place) depth h = tt
+  of_up_to sign r (Stop q) depth h = tt
 
-  of_brackets : (place : ℕ) (l : Units) (depth : ℕ) → EachPiece P l → Passes EachOf (between_brackets place l depth)
-  of_brackets place (Next u l) depth h = of_in_brackets (brace_of u.piece) place u l depth (between_brackets place l) h.0 h.1 (λ d. of_brackets place l d h.1)
-  of_brackets place (End at) depth h = tt
-  of_brackets place (Stop r) depth h = tt
+  of_behind_first : (l : Units) → EachPiece P l → EachPiece P (behind_first l)
+  of_behind_first (Next u l) h = h.1
+  of_behind_first (End place) h = h
+  of_behind_first (Stop r) h = h
 
   of_taken : (n : ℕ) (us : List Unit) → EachOf us → EachOf (take n us)
   of_taken zero us h = tt
@@ -100,6 +101,31 @@ module _ (P : Piece → Type 0) where
   of_unbraced : (us : List Unit) → EachOf us → EachOf (without_braces us)
   of_unbraced us h = of_either EachOf (is_group us) (of_taken (length us - 2) (drop 1 us) (of_dropped us h)) h
 
+  -- The other arguments, and signs between them
+
+  of_argument_before : (sign : Option Piece) (place : ℕ) (l : Units) → EachPiece P l → Passes EachOf (argument_before sign place l)
+  of_argument_before (Some sign) place l h =
+      after EachOf EachOf (up_to sign (refusal_at WrongUse place) l 0) (λ us m. Read (without_braces us) m) (of_up_to sign (refusal_at WrongUse place) l 0 h) (λ us m p q. (of_unbraced us p, q))
+  of_argument_before None place l h = of_argument place l h
+
+  of_the_sign : (sign : Piece) (place : ℕ) (l : Units) → EachPiece P l → Passes Anything (the_sign sign place l)
+  of_the_sign sign place (Next u l) h = of_either (Passes (λ (found : ⊤). ⊤)) (is_sign sign u.piece) (tt, h.1) tt
+  of_the_sign sign place (End at) h = tt
+  of_the_sign sign place (Stop r) h = tt
+
+  of_arguments : (place : ℕ) (takes : List Taken) (l : Units) → EachPiece P l → Passes EachList (arguments place takes l)
+  of_arguments place [] l h = (tt, h)
+  of_arguments place (Parameter ∷ takes) l h = after EachOf EachList (argument_before (first_sign takes) place l) (λ arg rest. with_first arg (arguments place takes rest)) (of_argument_before (first_sign takes) place l h)
+      (λ arg rest p q. first_list arg (arguments place takes rest) p (of_arguments place takes rest q))
+  of_arguments place (Sign sign ∷ takes) l h = after Anything EachList (the_sign sign place l) (λ found rest. arguments place takes rest) (of_the_sign sign place l h) (λ found rest p q. of_arguments place takes rest q)
+
+  -- What can be left out
+
+  of_brackets : (place : ℕ) (l : Units) → EachPiece P l → Passes EachOf (between_brackets place l)
+  of_brackets place l h =
+      after EachOf EachOf (up_to (Character (byte "]")) (refusal_at UnclosedBracket place) l 0) (λ us m. Read (without_braces us) (behind_first m))
+      (of_up_to (Character (byte "]")) (refusal_at UnclosedBracket place) l 0 h) (λ us m p q. (of_unbraced us p, of_behind_first m q))
+
   -- units, where there are some
   abbrev IfUnits : Option (List Unit) → Type 0
   IfUnits (Some us) = EachOf us
@@ -111,7 +137,7 @@ module _ (P : Piece → Type 0) where
   of_bracket_here (Stop r) h = h
 
   of_behind_bracket : (p : Option ℕ × Units) → EachPiece P p.1 → Passes IfUnits (behind_bracket p)
-  of_behind_bracket (Some place, l) h = after EachOf IfUnits (between_brackets place l 0) (λ us m. Read (Some (without_braces us)) m) (of_brackets place l 0 h) (λ us m p q. (of_unbraced us p, q))
+  of_behind_bracket (Some place, l) h = after EachOf IfUnits (between_brackets place l) (λ us m. Read (Some us) m) (of_brackets place l h) (λ us m p q. (p, q))
   of_behind_bracket (None, l) h = (tt, h)
 
   of_optional : (l : Units) → EachPiece P l → Passes IfUnits (optional l)
@@ -161,18 +187,23 @@ module _ (P : Piece → Type 0) where
   of_number : (place : ℕ) (l : Units) → EachPiece P l → Passes Anything (number_of place l)
   of_number place l h = of_opened place (sign (byte "[") l) (of_sign (byte "[") l h)
 
-  of_numbered : (place : ℕ) (p : Bool × Units) (more : Units → Outcome ℕ) → EachPiece P p.1 → ((l : Units) → EachPiece P l → Passes Anything (more l)) → Passes Anything (numbered place p more)
-  of_numbered place (true, l) more h f = f l h
-  of_numbered place (false, l) more h f = tt
+  first_taken : (x : Taken) (o : Outcome (List Taken)) → Passes Anything o → Passes Anything (with_first x o)
+  first_taken x (Read xs l) h = h
+  first_taken x (Refused r) h = tt
 
-  of_parameter : (place n : ℕ) (p : Bool × Units) (more : Units → Outcome ℕ) → EachPiece P p.1 → ((l : Units) → EachPiece P l → Passes Anything (more l)) → Passes Anything (parameter place n p more)
-  of_parameter place n (true, l) more h f = of_numbered place (sign (byte "1" + n) l) more (of_sign (byte "1" + n) l h) f
-  of_parameter place n (false, l) more h f = (tt, h)
+  of_in_text : (behind : Bool) (place n : ℕ) (u : Unit) (l : Units) (more : Bool → ℕ → Outcome (List Taken)) → EachPiece P (Next u l) → ((b : Bool) (k : ℕ) → Passes Anything (more b k)) → Passes Anything (in_parameter_text behind place n u l more)
+  of_in_text true place n u l more h p = of_either (Passes (λ (takes : List Taken). ⊤)) (is_number n u.piece) (first_taken Parameter (more false (suc n)) (p false (suc n))) tt
+  of_in_text false place n u l more h p = of_either (Passes (λ (takes : List Taken). ⊤)) (is_character (byte "#") u.piece) (p true n)
+      (of_either (Passes (λ (takes : List Taken). ⊤)) (is_brace u.piece) (tt, h) (first_taken (Sign u.piece) (more false n) (p false n)))
 
-  of_parameters : (place more n : ℕ) (l : Units) → EachPiece P l → Passes Anything (parameters place more n l)
-  unfolding parameters
-  of_parameters place zero n l h = (tt, h)
-  of_parameters place (suc more) n l h = of_parameter place n (sign (byte "#") l) (parameters place more (suc n)) (of_sign (byte "#") l h) (of_parameters place more (suc n))
+  of_number_due : (behind : Bool) (place : ℕ) (l : Units) → EachPiece P l → Passes Anything (number_due behind place l)
+  of_number_due true place l h = tt
+  of_number_due false place l h = (tt, h)
+
+  of_parameters : (place : ℕ) (l : Units) (behind : Bool) (n : ℕ) → EachPiece P l → Passes Anything (parameters_behind place l behind n)
+  of_parameters place (Next u l) behind n h = of_in_text behind place n u l (parameters_behind place l) h (λ b k. of_parameters place l b k h.1)
+  of_parameters place (End at) behind n h = of_number_due behind place (End at) h
+  of_parameters place (Stop r) behind n h = of_number_due behind place (Stop r) h
 
   -- parts, where there are some
   abbrev pub IfParts : Option (List Part) → Type 0
@@ -208,9 +239,6 @@ module _ (P : Piece → Type 0) where
   of_body : (place n : ℕ) (l : Units) → EachPiece P l → Passes (EachFixed P) (body place n l)
   of_body place n l h = after EachOf (EachFixed P) (argument place l) (λ us m. body_read place (parts_of n us) m) (of_argument place l h) (λ us m p q. of_body_read place (parts_of n us) m (of_parts false n us p) q)
 
-  of_braces : (place n : ℕ) (l : Units) → EachPiece P l → Passes (EachFixed P) (body_in_braces place n l)
-  of_braces place n l h = of_either (Passes (EachFixed P)) (is_delimited (past_space l)) tt (of_body place n l h)
-
   of_default_read : (place : ℕ) (parts : Option (List Part)) (l : Units) → IfParts parts → EachPiece P l → Passes (EachIfSome P) (default_read place parts l)
   of_default_read place (Some parts) l h k = (h, k)
   of_default_read place None l h k = tt
@@ -241,8 +269,8 @@ module _ (P : Piece → Type 0) where
   of_plain : (place : ℕ) (l : Units) → EachPiece P l → Passes IsPassed (plain_definition place l)
   of_plain place l h =
       after Anything IsPassed (name_of place l) _ (of_name place l h) (λ name m t k.
-      after Anything IsPassed (parameters place 9 0 m) _ (of_parameters place 9 0 m k) (λ n j s i.
-      after (EachFixed P) IsPassed (body_in_braces place n j) _ (of_braces place n j i) (λ parts rest p q. ((p, tt, tt, tt), q))))
+      after Anything IsPassed (parameter_text place m) _ (of_parameters place m false 0 k) (λ takes j s i.
+      after (EachFixed P) IsPassed (body place (parameter_count takes) j) _ (of_body place (parameter_count takes) j i) (λ parts rest p q. ((p, tt, tt, tt), q))))
 
   of_any : (place : ℕ) (l : Units) → EachPiece P l → Passes P (any_piece place l)
   of_any place (Next u l) h = h
@@ -253,19 +281,6 @@ module _ (P : Piece → Type 0) where
   of_alias place l h =
       after Anything IsPassed (name_of place l) _ (of_name place l h) (λ name m t k.
       after P IsPassed (any_piece place (past_space (sign (byte "=") m).1)) _ (of_any place (past_space (sign (byte "=") m).1) (past (sign (byte "=") m).1 (of_sign (byte "=") m k))) (λ piece rest p q. ((tt, tt, tt, p), q)))
-
-  -- of the macro that is found, whichever it is
-  pub of_found : (b : Bool) (m found : Macro) (x : Option Macro) → EachInMacro P m → ((y : Macro) → x ≡ Some y → EachInMacro P y) → (if b then Some m else x) ≡ Some found → EachInMacro P found
-  of_found true m found x h t e = (let same : m ≡ found = cc in subst (EachInMacro P) same h)
-  of_found false m found x h t e = t found e
-
-  -- of the macro that a piece uses, if it uses one
-  in_macro_of : (piece : Piece) (table : Table) → EachInTable P table → (m : Macro) → macro_of table piece ≡ Some m → EachInMacro P m
-  in_macro_of (Command name) table t m e = t name m e
-  in_macro_of Space table t m e = cc
-  in_macro_of Open table t m e = cc
-  in_macro_of Close table t m e = cc
-  in_macro_of (Character c) table t m e = cc
 
   fixed_both : (xs ys : List Part) → EachFixed P xs → EachFixed P ys → EachFixed P (xs ++ ys)
   fixed_both [] ys h k = k
@@ -349,7 +364,7 @@ module _ (P : Piece → Type 0) where
     of_definition Let place l h = of_alias place l h
 
     in_table : (name : List ℕ) (m : Macro) (table : Table) → EachInMacro P m → EachInTable P table → EachInTable P (with_macro name m table)
-    in_table name m table h t other found e = of_found (bytes_eq name other) m found (table other) h (t other) e
+    in_table name m table h t other found e = of_found (EachInMacro P) (bytes_eq name other) m found (table other) h (t other) e
 
     of_provided : (d : Definition) (found : Option Macro) (table : Table) → IsPassed d → EachInTable P table → EachInTable P (provided d found table)
     of_provided d (Some m) table h t = t
@@ -360,7 +375,7 @@ module _ (P : Piece → Type 0) where
     of_found_macro piece None p h = (tt, tt, tt, p)
 
     of_meaning : (piece : Piece) (table : Table) → P piece → EachInTable P table → EachInMacro P (meaning_now table piece)
-    of_meaning piece table p t = of_found_macro piece (macro_of table piece) p (in_macro_of piece table t)
+    of_meaning piece table p t = of_found_macro piece (macro_of table piece) p (of_used_macro (EachInMacro P) piece table t)
 
     of_resolved : (m : Macro) (piece : Option Piece) (table : Table) → EachInMacro P m → IfPiece P piece → EachInTable P table → EachInMacro P (resolved table m piece)
     of_resolved m (Some piece) table h p t = of_meaning piece table p t
@@ -403,11 +418,11 @@ module _ (P : Piece → Type 0) where
     of_or_default place default (Some us) h k = k
     of_or_default place default None h k = of_put [] place default tt h
 
-    of_arguments_with : (default : Option (List Part)) (place n : ℕ) (l : Units) → EachIfSome P default → EachPiece P l → Passes EachList (arguments_with default place n l)
-    of_arguments_with None place n l d h = of_arguments place n l h
-    of_arguments_with (Some default) place n l d h =
-        after IfUnits EachList (optional l) (λ given m. with_first (or_default place default given) (arguments place n m)) (of_optional l h)
-        (λ given m p q. first_list (or_default place default given) (arguments place n m) (of_or_default place default given d p) (of_arguments place n m q))
+    of_arguments_with : (default : Option (List Part)) (place : ℕ) (takes : List Taken) (l : Units) → EachIfSome P default → EachPiece P l → Passes EachList (arguments_with default place takes l)
+    of_arguments_with None place takes l d h = of_arguments place takes l h
+    of_arguments_with (Some default) place takes l d h =
+        after IfUnits EachList (optional l) (λ given m. with_first (or_default place default given) (arguments place takes m)) (of_optional l h)
+        (λ given m p q. first_list (or_default place default given) (arguments place takes m) (of_or_default place default given d p) (of_arguments place takes m q))
 
     of_arguments_read : (table : Table) (uses room : ℕ) (u : Unit) (parts : List Part) (x : Outcome (List (List Unit))) → EachInTable P table → EachFixed P parts → Passes EachList x → TurnPasses (with_arguments table uses room u parts x)
     of_arguments_read table uses room u parts (Read args l) t b h = either (nat_lt room (length (put args u.place parts))) _ _ _ table (before (put args u.place parts) l) (t, of_units_before (put args u.place parts) l (of_put args u.place parts h.0 b) h.1)
@@ -428,7 +443,7 @@ module _ (P : Piece → Type 0) where
     of_form_with m None l b s h = (b, h)
 
     of_used_form : (table : Table) (uses room : ℕ) (u : Unit) (f : Macro × Units) → EachInTable P table → EachInMacro P f.0 × EachPiece P f.1 → TurnPasses (used_form table uses room u f)
-    of_used_form table uses room u (m, l) t (b, h) = of_arguments_read table uses room u m.body (macro_arguments m u.place l) t b.0 (of_arguments_with m.default u.place m.arity l b.1 h)
+    of_used_form table uses room u (m, l) t (b, h) = of_arguments_read table uses room u m.body (macro_arguments m u.place l) t b.0 (of_arguments_with m.default u.place m.takes l b.1 h)
 
     of_used : (table : Table) (uses room : ℕ) (u : Unit) (m : Macro) (l : Units) → EachInTable P table → EachInMacro P m → EachPiece P l → TurnPasses (used table uses room u m l)
     of_used table zero room u m l t b h = tt
@@ -451,7 +466,7 @@ module _ (P : Piece → Type 0) where
     of_found_turn table uses room u l piece None p b t h = of_word table uses room u l _ piece p t h
 
     of_turn : (piece : Piece) (table : Table) (uses room : ℕ) (u : Unit) (l : Units) → P piece → EachInTable P table → EachPiece P l → TurnPasses (turn_of (role_of table piece) table uses room u l)
-    of_turn piece table uses room u l p t h = of_found_turn table uses room u l piece (macro_of table piece) p (in_macro_of piece table t) t h
+    of_turn piece table uses room u l p t h = of_found_turn table uses room u l piece (macro_of table piece) p (of_used_macro (EachInMacro P) piece table t) t h
 
     pub pieces_of : {table : Table} {uses room : ℕ} {l m : Units} → Expands table uses room l m → EachInTable P table → EachPiece P l → EachPiece P m
     pieces_of at_end t h = h

@@ -6,12 +6,12 @@ use Rattle.latex2mathml_elements.proofs.Characters.{allowed_plain}
 use Rattle.latex2mathml_tex_grammar.specs.DefinitionTexts.{is_prefix, past_prefixes, ReadsDefinitions, no_more, stopped, defines, no_definition, definition_refused, Defines}
 use Rattle.latex2mathml_tex_grammar.specs.Definitions.{Word, definition_of, parts_of}
 use Rattle.latex2mathml_tex_grammar.specs.ExpansionLaws.{EachFixed, EachInMacro, EachInTable, added_pieces}
-use Rattle.latex2mathml_tex_grammar.specs.{Cutting.units_of, Next.is_space_piece, Expansion.Expands, Macros.Part, Macros.Table}
+use Rattle.latex2mathml_tex_grammar.specs.{Cutting.units_of, Next.is_space_piece, Expansion.Expands, Macros.Macro, Macros.Part, Macros.Table}
 use Rattle.latex2mathml_tex_grammar.specs.{Reading.Outcome, Reading.Read, Reading.Refused}
 use Rattle.latex2mathml_tex_grammar.specs.Units.{Unit, Units, Next, End, Stop}
-use Rattle.latex2mathml_tex_grammar.specs.UsualMacros.{entry_macro, listed, macro_with, usual_entries, usual_macros}
-use Rattle.latex2mathml_tex_grammar.proofs.Adding.{EachOf, IfParts, IsPassed, Passes, behind, of_definition, of_found, of_parts, pieces_of}
-use Rattle.latex2mathml_tex_grammar.proofs.{Allowed.AreAllowedUnits, Allowed.IsAllowedPiece, AllowedUnits.units_allowed, Choices.of_either, OneList.has_units}
+use Rattle.latex2mathml_tex_grammar.specs.UsualMacros.{Other, Divided, Starred, body_with, entry_macro, listed, macro_with, other_macro, other_named, other_or, usual_entries, usual_macros}
+use Rattle.latex2mathml_tex_grammar.proofs.Adding.{EachOf, IfParts, IsPassed, Passes, behind, of_definition, of_parts, pieces_of}
+use Rattle.latex2mathml_tex_grammar.proofs.{Allowed.AreAllowedUnits, Allowed.IsAllowedPiece, AllowedUnits.units_allowed, Choices.of_either, Choices.of_found, OneList.has_units}
 
 -- The usual macros
 
@@ -24,20 +24,28 @@ parts_allowed : (parts : Option (List Part)) → IfParts IsAllowedPiece parts �
 parts_allowed (Some parts) h = h
 parts_allowed None h = tt
 
-body_allowed : (arity : ℕ) (text : List ℕ) → EachInMacro IsAllowedPiece (macro_with arity text)
-body_allowed arity text =
+body_allowed : (n : ℕ) (text : List ℕ) → EachFixed IsAllowedPiece (body_with n text)
+body_allowed n text =
     let units = units_of 0 (chars text) in
     let each = listed_allowed units (units_allowed (has_units 0 (chars text))) in
-    (parts_allowed (parts_of arity (listed units)) (of_parts IsAllowedPiece false arity (listed units) each), tt, tt, tt)
+    parts_allowed (parts_of n (listed units)) (of_parts IsAllowedPiece false n (listed units) each)
 
 entries_allowed : (entries : List (List ℕ × ℕ × List ℕ)) → EachInTable IsAllowedPiece (entry_macro entries)
 entries_allowed [] name m e = cc
 entries_allowed (entry ∷ entries) name m e =
-    of_found IsAllowedPiece (bytes_eq entry.0 name) (macro_with entry.1 entry.2) m (entry_macro entries name) (body_allowed entry.1 entry.2) (entries_allowed entries name) e
+    of_found (EachInMacro IsAllowedPiece) (bytes_eq entry.0 name) (macro_with entry.1 entry.2) m (entry_macro entries name) (body_allowed entry.1 entry.2, tt, tt, tt) (entries_allowed entries name) e
+
+other_allowed : (other : Other) → EachInMacro IsAllowedPiece (other_macro other)
+other_allowed (Divided command text) = (body_allowed 2 text, tt, tt, tt)
+other_allowed (Starred starred text) = (body_allowed 1 text, tt, body_allowed 1 starred, tt)
+
+either_allowed : (other : Option Other) (found : Option Macro) → ((m : Macro) → found ≡ Some m → EachInMacro IsAllowedPiece m) → (m : Macro) → other_or other found ≡ Some m → EachInMacro IsAllowedPiece m
+either_allowed (Some other) found h m e = (let same : other_macro other ≡ m = cc in subst (EachInMacro IsAllowedPiece) same (other_allowed other))
+either_allowed None found h m e = h m e
 
 usual_allowed : EachInTable IsAllowedPiece usual_macros
 unfolding usual_macros
-usual_allowed = entries_allowed usual_entries
+usual_allowed name m e = either_allowed (other_named name) (entry_macro usual_entries name) (entries_allowed usual_entries name) m e
 
 -- What a text defines
 

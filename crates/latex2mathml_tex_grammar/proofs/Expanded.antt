@@ -1,8 +1,9 @@
 -- What is in an expansion.
 use Rattle.std.proofs.Common.{ℕ, zero, suc, ◌+◌, ◌-◌, ◌≤◌, ◌≡◌, Bool, true, false, List, length, Option, Some, None, refl, ap, subst, ◌∙◌, arith}
+use Rattle.std.proofs.lemmas.Slice.Eq.{bytes_eq-Decides}
 use Rattle.std.specs.Prelude.{⊤, nat_lt, if◌then◌else◌}
 use Rattle.std.specs.{Option.unwrap_or, Str.byte, Str.bytes_eq}
-use Rattle.latex2mathml_tex_grammar.specs.Definitions.{Word, NewCommand, ProvideCommand, Def, DeclareOperator, DeclareDelimiters, Let, Definition, any_piece, body, body_in_braces, command_definition, default_of, definition_of, name_of, number_of, parameters, provided, resolved, sign, word_of, behind_definition}
+use Rattle.latex2mathml_tex_grammar.specs.Definitions.{Word, NewCommand, ProvideCommand, Def, DeclareOperator, DeclareDelimiters, Let, Definition, any_piece, body, command_definition, default_of, definition_of, meaning_now, name_of, number_of, parameter_count, parameter_text, provided, resolved, sign, word_of, behind_definition}
 use Rattle.latex2mathml_tex_grammar.specs.Arguments.{and_then, macro_arguments}
 use Rattle.latex2mathml_tex_grammar.specs.Expansion.{form_of, used_form, Role, Uses, Defines, Stands, word_role, own_role, macro_role, found_role, role_of, Turn, Stays, Turns, Fails, replaced, with_arguments, used, defined, turn_of, turn, Expands, at_end, at_stop, stays, turns, fails}
 use Rattle.latex2mathml_tex_grammar.specs.Expanding.{expansion}
@@ -10,6 +11,7 @@ use Rattle.latex2mathml_tex_grammar.specs.ExpansionLaws.{AliasesStand, AllStand,
 use Rattle.latex2mathml_tex_grammar.specs.Macros.{Part, Macro, Table, alias, macro_of, macro_with_default, with_macro, put, before, count}
 use Rattle.latex2mathml_tex_grammar.specs.{Next.past_space, Reading.Outcome, Reading.Read, Reading.Refused, Refusal.Refusal, Refusal.TooManyExpansions, Refusal.refusal_at}
 use Rattle.latex2mathml_tex_grammar.specs.Units.{Piece, Space, Open, Close, Command, Character, Unit, Units, Next, End, Stop}
+use Rattle.latex2mathml_tex_grammar.proofs.{Choices.of_found, MacrosUsed.of_used_macro}
 use Rattle.latex2mathml_tex_grammar.proofs.Expanding.{expands_once, is_expanded, Shrinks, turn_shrinks}
 
 stays_standing : (table : Table) (uses room : ℕ) (u : Unit) (l : Units) → role_of table u.piece ≡ Stands u.piece → turn table uses room u l ≡ Stays u.piece
@@ -20,7 +22,7 @@ own table uses room (Next u l) h = stays (stays_standing table uses room u l h.0
 own table uses room (End place) h = at_end
 own table uses room (Stop r) h = at_stop
 
--- what stays is neither a macro nor a definition, here in place of the piece p
+-- what stays is neither a macro nor a definition, here as the piece p
 
 no_stay_either : (b : Bool) (r : Refusal) (table : Table) (uses room : ℕ) (l : Units) {p : Piece} → (if b then Fails r else Turns table uses room l) ≡ Stays p → ⊥
 no_stay_either true r table uses room l e = cc
@@ -82,14 +84,10 @@ record Later (first table : Table) : Type 0 where
   grows : Grows first table
   no_names : AreNoNames first table
 
-found_either : (first : Table) (b : Bool) (m found : Macro) (x : Option Macro) → IsNoName first m → ((y : Macro) → x ≡ Some y → IsNoName first y) → (if b then Some m else x) ≡ Some found → IsNoName first found
-found_either first true m found x h t e = (let same : m ≡ found = cc in subst (IsNoName first) same h)
-found_either first false m found x h t e = t found e
-
 later_macro : (name : List ℕ) (m : Macro) (first table : Table) → IsNoName first m → Later first table → Later first (with_macro name m table)
 later_macro name m first table h t = record {
   grows = with_macro_grows name m first table t.grows;
-  no_names = λ other found e. found_either first (bytes_eq name other) m found (table other) h (t.no_names other) e;
+  no_names = λ other found e. of_found (IsNoName first) (bytes_eq name other) m found (table other) h (t.no_names other) e;
 }
 
 -- what is read passes
@@ -117,7 +115,7 @@ command_names place l =
 definition_names : (word : Word) (place : ℕ) (l : Units) → IfRead (IsNameByLet word) (definition_of word place l)
 definition_names NewCommand place l = command_names place l
 definition_names ProvideCommand place l = command_names place l
-definition_names Def place l = read_then _ (name_of place l) _ (λ name m. read_then _ (parameters place 9 0 m) _ (λ n k. read_then _ (body_in_braces place n k) _ (λ parts rest. refl)))
+definition_names Def place l = read_then _ (name_of place l) _ (λ name m. read_then _ (parameter_text place m) _ (λ takes k. read_then _ (body place (parameter_count takes) k) _ (λ parts rest. refl)))
 definition_names DeclareOperator place l = read_then _ (name_of place (sign (byte "*") l).1) _ (λ name m. read_then _ (body place 0 m) _ (λ parts rest. refl))
 definition_names DeclareDelimiters place l = read_then _ (name_of place l) _ (λ name m. read_then _ (body place 0 m) _ (λ left k. read_then _ (body place 0 k) _ (λ right rest. refl)))
 definition_names Let place l = read_then _ (name_of place l) _ (λ name m. read_then _ (any_piece place (past_space (sign (byte "=") m).1)) _ (λ piece rest. tt))
@@ -125,19 +123,12 @@ definition_names Let place l = read_then _ (name_of place l) _ (λ name m. read_
 no_name : (first : Table) (m : Macro) → m.alias ≡ None → IsNoName first m
 no_name first m e piece f = absurd (cc)
 
-in_table : (piece : Piece) (first table : Table) → AreNoNames first table → (m : Macro) → macro_of table piece ≡ Some m → IsNoName first m
-in_table (Command name) first table t m e = t name m e
-in_table Space first table t m e = cc
-in_table Open first table t m e = cc
-in_table Close first table t m e = cc
-in_table (Character c) first table t m e = cc
-
 found_now : (first : Table) (piece : Piece) (found : Option Macro) → (found ≡ None → macro_of first piece ≡ None) → ((m : Macro) → found ≡ Some m → IsNoName first m) → IsNoName first (unwrap_or found (alias piece))
 found_now first piece (Some m) none some = some m refl
 found_now first piece None none some = λ other e. (let same : piece ≡ other = cc in subst (λ p. macro_of first p ≡ None) same (none refl))
 
 resolved_now : (first table : Table) (m : Macro) (named : Option Piece) → m.alias ≡ named → Later first table → IsNoName first (resolved table m named)
-resolved_now first table m (Some piece) e t = found_now first piece (macro_of table piece) (piece_grows first table piece t.grows) (in_table piece first table t.no_names)
+resolved_now first table m (Some piece) e t = found_now first piece (macro_of table piece) (piece_grows first table piece t.grows) (of_used_macro (IsNoName first) piece table t.no_names)
 resolved_now first table m None e t = no_name first m e
 
 later_provided : (d : Definition) (found : Option Macro) (first table : Table) → d.stands_for.alias ≡ None → Later first table → Later first (provided d found table)
@@ -203,7 +194,7 @@ done : {table : Table} {uses room : ℕ} {l m : Units} (first : Table) → Later
 done first t at_end = tt
 done first t at_stop = tt
 done first t (stays {table = table} {uses = uses} {room = room} {u = u} {piece = piece} {l = l} e d) =
-    (found_stands first (macro_of table u.piece) u.piece piece (piece_grows first table u.piece t.grows) (in_table u.piece first table t.no_names) (stands_staying (role_of table u.piece) table uses room u l e), done first t d)
+    (found_stands first (macro_of table u.piece) u.piece piece (piece_grows first table u.piece t.grows) (of_used_macro (IsNoName first) u.piece table t.no_names) (stands_staying (role_of table u.piece) table uses room u l e), done first t d)
 done first t (turns {table = table} {next = next} {uses = uses} {room = room} {u = u} {l = l} e d) =
     done first (subst (LaterBy first) e (turn_later (role_of table u.piece) first table uses room u l t)) d
 done first t (fails e) = tt
@@ -225,6 +216,17 @@ most (turns {table = table} {uses = uses} {room = room} {u = u} {l = l} e d) =
     omega (arith, less, most d)
 most (fails e) = omega arith
 
+-- another name
+
+now_role : (found : Option Macro) (piece other : Piece) → found_role (Some (unwrap_or found (alias piece))) other ≡ found_role found piece
+now_role (Some m) piece other = refl
+now_role None piece other = refl
+
+named : (table : Table) (name : List ℕ) (piece : Piece) → role_of (with_macro name (meaning_now table piece) table) (Command name) ≡ role_of table piece
+named table name piece =
+    let found : with_macro name (meaning_now table piece) table name ≡ Some (meaning_now table piece) = rw ((bytes_eq-Decides name name).1 refl) refl in
+    ap (λ m. found_role m (Command name)) found ∙ now_role (macro_of table piece) piece (Command name)
+
 pub have_one : HaveOneExpansion
 have_one = λ table uses room l. record { some = (_, is_expanded table uses room l); one = λ m n d e. expands_once d e }
 
@@ -235,10 +237,11 @@ are_expanded = record {
   behind = behind;
   again = λ table uses room l m h d. own table uses room m (done table (now table h) d);
   most = λ table uses room l m d. most d;
+  named = named;
 }
 
 pub space_passed : IsSpacePassed
-space_passed = record { behind_word = passed; before_argument = λ place n u l e. rw e refl }
+space_passed = record { behind_word = passed; before_argument = λ place takes u l e none. rw (none, e) refl }
   where
     passed : (word : Word) (place : ℕ) (u : Unit) (l : Units) → u.piece ≡ Space → definition_of word place (Next u l) ≡ definition_of word place l
     passed NewCommand place u l e = rw e refl

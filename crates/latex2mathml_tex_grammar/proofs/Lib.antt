@@ -18,6 +18,7 @@ pub mod DefinitionsOnce
 pub mod Expanded
 pub mod Expanding
 pub mod Following
+pub mod MacrosUsed
 pub mod OneList
 pub mod Plain
 pub mod Readings

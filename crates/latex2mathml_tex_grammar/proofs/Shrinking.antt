@@ -2,11 +2,12 @@
 use Rattle.std.proofs.Common.{ℕ, zero, suc, ◌+◌, ◌≤◌, ◌≡◌, Bool, true, false, List, [], ◌∷◌, length, Option, Some, None, arith}
 use Rattle.std.specs.Prelude.{⊤}
 use Rattle.std.specs.Str.{byte}
-use Rattle.latex2mathml_tex_grammar.specs.Arguments.{Brace, Opening, Closing, NoBrace, brace_of, and_then, with_first, in_group, group, argument_of, argument_here, argument, arguments, is_character, ends_brackets, in_brackets, between_brackets, without_braces, bracket_here, bracket, behind_bracket, optional, or_default, arguments_with, macro_arguments}
-use Rattle.latex2mathml_tex_grammar.specs.Definitions.{DeclareDelimiters, Let, any_piece, alias_definition, delimiters_definition, Word, NewCommand, ProvideCommand, Def, DeclareOperator, sign_here, sign, digit_of, digit_found, digit_here, digit, name_in, name_read, name_of, number_closed, number_in, number_opened, number_of, numbered, parameter, parameters, parts_of, body_read, body, default_read, default_given, default_of, is_delimited, body_in_braces, command_definition, plain_definition, operator_definition, definition_of}
-use Rattle.latex2mathml_tex_grammar.specs.Macros.{Part, Macro, count, before}
+use Rattle.latex2mathml_tex_grammar.specs.Arguments.{Brace, Opening, Closing, NoBrace, brace_of, and_then, with_first, in_group, group, argument_of, argument_here, argument, is_character, is_sign, is_end, before_sign, up_to, without_braces, behind_first, between_brackets, bracket_here, bracket, behind_bracket, optional, first_sign, argument_before, the_sign, arguments, or_default, arguments_with, macro_arguments}
+use Rattle.latex2mathml_tex_grammar.specs.Definitions.{DeclareDelimiters, Let, any_piece, alias_definition, delimiters_definition, Word, NewCommand, ProvideCommand, Def, DeclareOperator, sign_here, sign, digit_of, digit_found, digit_here, digit, name_in, name_read, name_of, number_closed, number_in, number_opened, number_of, is_number, is_brace, in_parameter_text, number_due, parameters_behind, parameter_text, parameter_count, parts_of, body_read, body, default_read, default_given, default_of, command_definition, plain_definition, operator_definition, definition_of}
+use Rattle.latex2mathml_tex_grammar.specs.Macros.{Part, Taken, Parameter, Sign, Macro, count, before}
 use Rattle.latex2mathml_tex_grammar.specs.{Next.is_space_piece, Next.past_space, Reading.Outcome, Reading.Read, Reading.Refused}
-use Rattle.latex2mathml_tex_grammar.specs.Units.{Unit, Units, Next, End, Stop}
+use Rattle.latex2mathml_tex_grammar.specs.Refusal.{Refusal, UnclosedBracket, WrongUse, refusal_at}
+use Rattle.latex2mathml_tex_grammar.specs.Units.{Piece, Character, Unit, Units, Next, End, Stop}
 use Rattle.latex2mathml_tex_grammar.proofs.Choices.{of_either}
 use Rattle.latex2mathml_tex_grammar.specs.Expansion.{starred_form, form_with, form_of}
 
@@ -56,24 +57,31 @@ argument_here_leaves place (Stop r) = tt
 pub argument_leaves : (place : ℕ) (l : Units) → Leaves (count l) (argument place l)
 argument_leaves place l = leaves_more (count (past_space l)) _ (argument place l) (count-past_space l) (argument_here_leaves place (past_space l))
 
-pub arguments_leave : (place n : ℕ) (l : Units) → Leaves (count l) (arguments place n l)
-arguments_leave place zero l = omega arith
-arguments_leave place (suc n) l = leaves_after (count l) (argument place l) (λ arg rest. with_first arg (arguments place n rest)) (argument_leaves place l)
-    (λ arg rest h. leaves_first _ arg (arguments place n rest) (leaves_more (count rest) _ (arguments place n rest) h (arguments_leave place n rest)))
+-- What ends before a sign
+
+before_sign_leaves : (b : Brace) (sign : Piece) (r : Refusal) (u : Unit) (l : Units) (depth : ℕ) (more : ℕ → Outcome (List Unit)) → ((d : ℕ) → Leaves (count l) (more d)) → Leaves (suc (count l)) (before_sign b sign r u l depth more)
+before_sign_leaves Opening sign r u l depth more h = leaves_first _ u (more (suc depth)) (leaves_more (count l) _ (more (suc depth)) (omega arith) (h (suc depth)))
+before_sign_leaves Closing sign r u l zero more h = tt
+before_sign_leaves Closing sign r u l (suc depth) more h = leaves_first _ u (more depth) (leaves_more (count l) _ (more depth) (omega arith) (h depth))
+before_sign_leaves NoBrace sign r u l depth more h =
+    of_either (λ (o : Outcome (List Unit)). Leaves (suc (count l)) o) (is_end sign depth u.piece) (omega arith) (leaves_first _ u (more depth) (leaves_more (count l) _ (more depth) (omega arith) (h depth)))
+
+up_to_leaves : (sign : Piece) (r : Refusal) (l : Units) (depth : ℕ) → Leaves (count l) (up_to sign r l depth)
+up_to_leaves sign r (Next u l) depth = before_sign_leaves (brace_of u.piece) sign r u l depth (up_to sign r l) (up_to_leaves sign r l)
+up_to_leaves sign r (End place) depth = tt
+up_to_leaves sign r (Stop q) depth = tt
+
+count-behind_first : (l : Units) → count (behind_first l) ≤ count l
+count-behind_first (Next u l) = omega arith
+count-behind_first (End place) = omega arith
+count-behind_first (Stop r) = omega arith
 
 -- What can be left out
 
-in_brackets_leaves : (b : Brace) (place : ℕ) (u : Unit) (l : Units) (depth : ℕ) (more : ℕ → Outcome (List Unit)) → ((d : ℕ) → Leaves (count l) (more d)) → Leaves (suc (count l)) (in_brackets b place u l depth more)
-in_brackets_leaves Opening place u l depth more h = leaves_first _ u (more (suc depth)) (leaves_more (count l) _ (more (suc depth)) (omega arith) (h (suc depth)))
-in_brackets_leaves Closing place u l zero more h = tt
-in_brackets_leaves Closing place u l (suc depth) more h = leaves_first _ u (more depth) (leaves_more (count l) _ (more depth) (omega arith) (h depth))
-in_brackets_leaves NoBrace place u l depth more h =
-    of_either (λ (o : Outcome (List Unit)). Leaves (suc (count l)) o) (ends_brackets depth u.piece) (omega arith) (leaves_first _ u (more depth) (leaves_more (count l) _ (more depth) (omega arith) (h depth)))
-
-brackets_leave : (place : ℕ) (l : Units) (depth : ℕ) → Leaves (count l) (between_brackets place l depth)
-brackets_leave place (Next u l) depth = in_brackets_leaves (brace_of u.piece) place u l depth (between_brackets place l) (brackets_leave place l)
-brackets_leave place (End at) depth = tt
-brackets_leave place (Stop r) depth = tt
+brackets_leave : (place : ℕ) (l : Units) → Leaves (count l) (between_brackets place l)
+brackets_leave place l =
+    leaves_after (count l) (up_to (Character (byte "]")) (refusal_at UnclosedBracket place) l 0) (λ us m. Read (without_braces us) (behind_first m))
+    (up_to_leaves (Character (byte "]")) (refusal_at UnclosedBracket place) l 0) (λ us m h. omega (arith, h, count-behind_first m))
 
 bracket_here_leaves : (l : Units) → count (bracket_here l).1 ≤ count l
 bracket_here_leaves (Next u l) = of_either (λ (p : Option ℕ × Units). count p.1 ≤ suc (count l)) (is_character (byte "[") u.piece) (omega arith) (omega arith)
@@ -82,20 +90,39 @@ bracket_here_leaves (Stop r) = omega arith
 
 behind_bracket_leaves : (k : ℕ) (p : Option ℕ × Units) → count p.1 ≤ k → Leaves k (behind_bracket p)
 behind_bracket_leaves k (Some place, l) h =
-    leaves_after k (between_brackets place l 0) (λ us m. Read (Some (without_braces us)) m) (leaves_more (count l) k (between_brackets place l 0) h (brackets_leave place l 0)) (λ us m i. i)
+    leaves_after k (between_brackets place l) (λ us m. Read (Some us) m) (leaves_more (count l) k (between_brackets place l) h (brackets_leave place l)) (λ us m i. i)
 behind_bracket_leaves k (None, l) h = h
 
 optional_leaves : (l : Units) → Leaves (count l) (optional l)
 optional_leaves l = behind_bracket_leaves (count l) (bracket l) (omega (arith, bracket_here_leaves (past_space l), count-past_space l))
 
-arguments_with_leave : (default : Option (List Part)) (place n : ℕ) (l : Units) → Leaves (count l) (arguments_with default place n l)
-arguments_with_leave None place n l = arguments_leave place n l
-arguments_with_leave (Some default) place n l =
-    leaves_after (count l) (optional l) (λ given m. with_first (or_default place default given) (arguments place n m)) (optional_leaves l)
-    (λ given m h. leaves_first _ (or_default place default given) (arguments place n m) (leaves_more (count m) _ (arguments place n m) h (arguments_leave place n m)))
+-- The other arguments, and signs between them
+
+argument_before_leaves : (sign : Option Piece) (place : ℕ) (l : Units) → Leaves (count l) (argument_before sign place l)
+argument_before_leaves (Some sign) place l =
+    leaves_after (count l) (up_to sign (refusal_at WrongUse place) l 0) (λ us m. Read (without_braces us) m) (up_to_leaves sign (refusal_at WrongUse place) l 0) (λ us m h. h)
+argument_before_leaves None place l = argument_leaves place l
+
+the_sign_leaves : (sign : Piece) (place : ℕ) (l : Units) → Leaves (count l) (the_sign sign place l)
+the_sign_leaves sign place (Next u l) = of_either (λ (o : Outcome ⊤). Leaves (suc (count l)) o) (is_sign sign u.piece) (omega arith) tt
+the_sign_leaves sign place (End at) = tt
+the_sign_leaves sign place (Stop r) = tt
+
+arguments_leave : (place : ℕ) (takes : List Taken) (l : Units) → Leaves (count l) (arguments place takes l)
+arguments_leave place [] l = omega arith
+arguments_leave place (Parameter ∷ takes) l = leaves_after (count l) (argument_before (first_sign takes) place l) (λ arg rest. with_first arg (arguments place takes rest)) (argument_before_leaves (first_sign takes) place l)
+    (λ arg rest h. leaves_first _ arg (arguments place takes rest) (leaves_more (count rest) _ (arguments place takes rest) h (arguments_leave place takes rest)))
+arguments_leave place (Sign sign ∷ takes) l = leaves_after (count l) (the_sign sign place l) (λ found rest. arguments place takes rest) (the_sign_leaves sign place l)
+    (λ found rest h. leaves_more (count rest) _ (arguments place takes rest) h (arguments_leave place takes rest))
+
+arguments_with_leave : (default : Option (List Part)) (place : ℕ) (takes : List Taken) (l : Units) → Leaves (count l) (arguments_with default place takes l)
+arguments_with_leave None place takes l = arguments_leave place takes l
+arguments_with_leave (Some default) place takes l =
+    leaves_after (count l) (optional l) (λ given m. with_first (or_default place default given) (arguments place takes m)) (optional_leaves l)
+    (λ given m h. leaves_first _ (or_default place default given) (arguments place takes m) (leaves_more (count m) _ (arguments place takes m) h (arguments_leave place takes m)))
 
 pub macro_arguments_leave : (m : Macro) (place : ℕ) (l : Units) → Leaves (count l) (macro_arguments m place l)
-macro_arguments_leave m place l = arguments_with_leave m.default place m.arity l
+macro_arguments_leave m place l = arguments_with_leave m.default place m.takes l
 
 -- Definitions
 
@@ -152,18 +179,19 @@ number_opened_leaves k place (false, l) h = h
 number_leaves : (place : ℕ) (l : Units) → Leaves (count l) (number_of place l)
 number_leaves place l = number_opened_leaves (count l) place (sign (byte "[") l) (sign_leaves (byte "[") l)
 
-numbered_leaves : (k place : ℕ) (p : Bool × Units) (more : Units → Outcome ℕ) → count p.1 ≤ k → ((l : Units) → count l ≤ k → Leaves k (more l)) → Leaves k (numbered place p more)
-numbered_leaves k place (true, l) more h f = f l h
-numbered_leaves k place (false, l) more h f = tt
+in_text_leaves : (behind : Bool) (place n : ℕ) (u : Unit) (l : Units) (more : Bool → ℕ → Outcome (List Taken)) → ((b : Bool) (k : ℕ) → Leaves (count l) (more b k)) → Leaves (suc (count l)) (in_parameter_text behind place n u l more)
+in_text_leaves true place n u l more h = of_either (λ (o : Outcome (List Taken)). Leaves (suc (count l)) o) (is_number n u.piece) (leaves_first _ Parameter (more false (suc n)) (leaves_more (count l) _ (more false (suc n)) (omega arith) (h false (suc n)))) tt
+in_text_leaves false place n u l more h = of_either (λ (o : Outcome (List Taken)). Leaves (suc (count l)) o) (is_character (byte "#") u.piece) (leaves_more (count l) _ (more true n) (omega arith) (h true n))
+    (of_either (λ (o : Outcome (List Taken)). Leaves (suc (count l)) o) (is_brace u.piece) (omega arith) (leaves_first _ (Sign u.piece) (more false n) (leaves_more (count l) _ (more false n) (omega arith) (h false n))))
 
-parameter_leaves : (k place n : ℕ) (p : Bool × Units) (more : Units → Outcome ℕ) → count p.1 ≤ k → ((l : Units) → count l ≤ k → Leaves k (more l)) → Leaves k (parameter place n p more)
-parameter_leaves k place n (true, l) more h f = numbered_leaves k place (sign (byte "1" + n) l) more (omega (arith, h, sign_leaves (byte "1" + n) l)) f
-parameter_leaves k place n (false, l) more h f = h
+number_due_leaves : (behind : Bool) (place : ℕ) (l : Units) → Leaves (count l) (number_due behind place l)
+number_due_leaves true place l = tt
+number_due_leaves false place l = omega arith
 
-parameters_leave : (k place more n : ℕ) (l : Units) → count l ≤ k → Leaves k (parameters place more n l)
-unfolding parameters
-parameters_leave k place zero n l h = h
-parameters_leave k place (suc more) n l h = parameter_leaves k place n (sign (byte "#") l) (parameters place more (suc n)) (omega (arith, h, sign_leaves (byte "#") l)) (parameters_leave k place more (suc n))
+parameters_leave : (place : ℕ) (l : Units) (behind : Bool) (n : ℕ) → Leaves (count l) (parameters_behind place l behind n)
+parameters_leave place (Next u l) behind n = in_text_leaves behind place n u l (parameters_behind place l) (parameters_leave place l)
+parameters_leave place (End at) behind n = number_due_leaves behind place (End at)
+parameters_leave place (Stop r) behind n = number_due_leaves behind place (Stop r)
 
 body_read_leaves : (k place : ℕ) (parts : Option (List Part)) (l : Units) → count l ≤ k → Leaves k (body_read place parts l)
 body_read_leaves k place (Some parts) l h = h
@@ -184,9 +212,6 @@ default_given_leaves k place (suc n) (Some us) l h = default_read_leaves k place
 default_leaves : (place n : ℕ) (l : Units) → Leaves (count l) (default_of place n l)
 default_leaves place n l = leaves_after (count l) (optional l) (default_given place n) (optional_leaves l) (λ given m h. default_given_leaves (count l) place n given m h)
 
-body_in_braces_leaves : (place n : ℕ) (l : Units) → Leaves (count l) (body_in_braces place n l)
-body_in_braces_leaves place n l = of_either (λ (o : Outcome (List Part)). Leaves (count l) o) (is_delimited (past_space l)) tt (body_leaves place n l)
-
 command_leaves : (place : ℕ) (l : Units) → Leaves (count l) (command_definition place l)
 command_leaves place l =
     let starred = sign_leaves (byte "*") l in
@@ -198,8 +223,8 @@ command_leaves place l =
 plain_leaves : (place : ℕ) (l : Units) → Leaves (count l) (plain_definition place l)
 plain_leaves place l =
     leaves_after (count l) (name_of place l) _ (name_leaves place l) (λ name m h.
-    leaves_after (count l) (parameters place 9 0 m) _ (parameters_leave (count l) place 9 0 m h) (λ n k i.
-    leaves_after (count l) (body_in_braces place n k) _ (leaves_more (count k) _ (body_in_braces place n k) i (body_in_braces_leaves place n k)) (λ parts rest j. j)))
+    leaves_after (count l) (parameter_text place m) _ (leaves_more (count m) _ (parameter_text place m) h (parameters_leave place m false 0)) (λ takes k i.
+    leaves_after (count l) (body place (parameter_count takes) k) _ (leaves_more (count k) _ (body place (parameter_count takes) k) i (body_leaves place (parameter_count takes) k)) (λ parts rest j. j)))
 
 delimiters_leave : (place : ℕ) (l : Units) → Leaves (count l) (delimiters_definition place l)
 delimiters_leave place l =

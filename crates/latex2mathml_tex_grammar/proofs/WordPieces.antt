@@ -104,7 +104,7 @@ in_a_word a Close = closes
 in_a_word a (Character c) =
     either (c == byte "$") a_formula (λ h.
     either (c == byte "~") (λ e. a_word (character_ends c h)) (λ e.
-    either (c == byte "_" || c == byte "^" || c == byte "&" || c == byte "#") (λ e. no_word_here) (λ e. a_word (character_ends c h))))
+    either (c == byte "^" || c == byte "&" || c == byte "#") (λ e. no_word_here) (λ e. a_word (character_ends c h))))
 in_a_word a (Command name) = by_entry (font_in a) name (entry_of_name text_commands name) refl
 
 word_is : {piece : Piece} {r : WordRule} {w : Word} → InAWord piece r → r ≡ IsWord w → EndsWord piece

@@ -1,13 +1,13 @@
 -- Definitions, which are part of the text. Each is a word, a name, how many arguments the macro takes, and its body. What
 -- is not one is refused: at the word, at a brace that is not closed, or where there is no unit. White space between the
--- parts is ignored.
+-- parts is ignored, but among parameters it is a sign.
 use Rattle.std.specs.Prelude.{ℕ, zero, suc, ◌+◌, ◌-◌, Bool, true, false, ◌&&◌, nat_lt, List, [], ◌∷◌, ◌++◌, codes, Option, Some, None, if◌then◌else◌}
 use Rattle.std.specs.{Char.is_ascii_digit, Option.unwrap_or, Str.byte, Str.bytes_eq}
 pub use Rattle.latex2mathml_tex_grammar.specs.Arguments.{is_character}
-use Rattle.latex2mathml_tex_grammar.specs.Arguments.{NoBrace, Brace, brace_of, argument, optional, and_then}
-use Rattle.latex2mathml_tex_grammar.specs.Macros.{Part, Fixed, Argument, Macro, alias, macro, macro_of, macro_of_parts, macro_with_default, Table, with_macro}
+use Rattle.latex2mathml_tex_grammar.specs.Arguments.{argument, optional, and_then, with_first}
+use Rattle.latex2mathml_tex_grammar.specs.Macros.{Part, Fixed, Argument, Taken, Parameter, Sign, Macro, alias, macro, macro_of, macro_of_parts, macro_taking, macro_with_default, parameters, Table, with_macro}
 use Rattle.latex2mathml_tex_grammar.specs.{Next.is_space_piece, Next.past_space, Reading.Outcome, Reading.Read, Reading.Refused}
-use Rattle.latex2mathml_tex_grammar.specs.Refusal.{MissingArgument, MissingMacroName, WrongParameters, DelimitedArgument, UnknownParameter, refusal_at}
+use Rattle.latex2mathml_tex_grammar.specs.Refusal.{MissingArgument, MissingMacroName, WrongParameters, UnknownParameter, refusal_at}
 use Rattle.latex2mathml_tex_grammar.specs.Units.{Piece, Open, Close, Command, Character, Unit, Units, Next, End, Stop}
 
 -- the words that define
@@ -127,22 +127,48 @@ number_opened place (false, l) = Read 0 l
 abbrev pub number_of : ℕ → Units → Outcome ℕ
 number_of place l = number_opened place (sign (byte "[") l)
 
--- How many arguments, given as `#1`, `#2` and so on, in this order
+-- The text of the parameters: at most nine, given as `#1`, `#2` and so on, in this order, and signs, up to a brace. White space
+-- is a sign as well.
 
--- what follows a parameter, if its own number comes after the `#`, or else its refusal
-abbrev pub numbered : ℕ → Bool × Units → (Units → Outcome ℕ) → Outcome ℕ
-numbered place (true, l) more = more l
-numbered place (false, l) more = Refused (refusal_at WrongParameters place)
+-- whether a piece is the number of the parameter after n others
+abbrev pub is_number : ℕ → Piece → Bool
+is_number n piece = nat_lt n 9 && is_character (byte "1" + n) piece
 
--- the number of parameters, once it is known whether the `#` of the one after n others comes next
-abbrev pub parameter : ℕ → ℕ → Bool × Units → (Units → Outcome ℕ) → Outcome ℕ
-parameter place n (true, l) more = numbered place (sign (byte "1" + n) l) more
-parameter place n (false, l) more = Read n l
+-- whether a piece is a brace, which ends the text
+abbrev pub is_brace : Piece → Bool
+is_brace Open = true
+is_brace Close = true
+is_brace piece = false
 
--- the parameters after n others, where the number before n is how many more there can be
-unfoldable pub parameters : ℕ → ℕ → ℕ → Units → Outcome ℕ
-parameters place zero n l = Read n l
-parameters place (suc more) n l = parameter place n (sign (byte "#") l) (parameters place more (suc n))
+-- a piece after n parameters, and after the `#` of another one or not
+abbrev pub in_parameter_text : Bool → ℕ → ℕ → Unit → Units → (Bool → ℕ → Outcome (List Taken)) → Outcome (List Taken)
+in_parameter_text true place n u l more =
+    if is_number n u.piece then with_first Parameter (more false (suc n)) else Refused (refusal_at WrongParameters place)
+in_parameter_text false place n u l more =
+    if is_character (byte "#") u.piece then more true n
+    else if is_brace u.piece then Read [] (Next u l)
+    else with_first (Sign u.piece) (more false n)
+
+-- the end of the units, which a number should precede after a `#`
+abbrev pub number_due : Bool → ℕ → Units → Outcome (List Taken)
+number_due true place l = Refused (refusal_at WrongParameters place)
+number_due false place l = Read [] l
+
+-- the rest of the text
+abbrev pub parameters_behind : ℕ → Units → Bool → ℕ → Outcome (List Taken)
+parameters_behind place (Next u l) behind n = in_parameter_text behind place n u l (parameters_behind place l)
+parameters_behind place (End at) behind n = number_due behind place (End at)
+parameters_behind place (Stop r) behind n = number_due behind place (Stop r)
+
+-- the text of the parameters of a definition at this place
+abbrev pub parameter_text : ℕ → Units → Outcome (List Taken)
+parameter_text place l = parameters_behind place l false 0
+
+-- how many parameters there are
+abbrev pub parameter_count : List Taken → ℕ
+parameter_count [] = 0
+parameter_count (Parameter ∷ takes) = suc (parameter_count takes)
+parameter_count (Sign sign ∷ takes) = parameter_count takes
 
 -- The body
 
@@ -202,20 +228,6 @@ default_given place (suc n) (Some us) l = default_read place (parts_of 0 us) l
 abbrev pub default_of : ℕ → ℕ → Units → Outcome (Option (List Part))
 default_of place n l = and_then (optional l) (default_given place n)
 
--- the first unit is something other than a brace
-abbrev pub is_delimited : Units → Bool
-is_delimited (Next u l) = is_no_brace (brace_of u.piece)
-  where
-    is_no_brace : Brace → Bool
-    is_no_brace NoBrace = true
-    is_no_brace brace = false
-is_delimited l = false
-
--- the body of a macro with n arguments, which must be between braces
-abbrev pub body_in_braces : ℕ → ℕ → Units → Outcome (List Part)
-body_in_braces place n l =
-    if is_delimited (past_space l) then Refused (refusal_at DelimitedArgument place) else body place n l
-
 -- what the name of an operator means; with a star it has limits
 abbrev pub operator_parts : Bool → List Part → List Part
 operator_parts star parts =
@@ -242,7 +254,7 @@ stretched_parts left right =
 -- what the name of a pair of delimiters means: with a star they stretch, and without one they have the usual size, or the one
 -- that is given in brackets
 abbrev pub delimiters_macro : List Part → List Part → Macro
-delimiters_macro left right = macro_of_parts (Some (stretched_parts left right)) (Some []) 1 (enclosed_parts left right)
+delimiters_macro left right = macro_of_parts (Some (stretched_parts left right)) (Some []) (parameters 1) (enclosed_parts left right)
 
 -- the word that a piece is
 abbrev pub word_of : Piece → Option Word
@@ -259,12 +271,12 @@ command_definition place l =
     and_then (default_of place n k) (λ default j.
     and_then (body place n j) (λ parts rest. Read (definition name (macro_with_default default n parts)) rest))))
 
--- what follows `\def`: a name, its parameters, and a body in braces
+-- what follows `\def`: a name, the text of its parameters, and a body, which is in braces since nothing else ends this text
 abbrev pub plain_definition : ℕ → Units → Outcome Definition
 plain_definition place l =
     and_then (name_of place l) (λ name m.
-    and_then (parameters place 9 0 m) (λ n k.
-    and_then (body_in_braces place n k) (λ parts rest. Read (definition name (macro n parts)) rest)))
+    and_then (parameter_text place m) (λ takes k.
+    and_then (body place (parameter_count takes) k) (λ parts rest. Read (definition name (macro_taking takes parts)) rest)))
 
 -- what follows `\DeclareMathOperator`: a star, which asks for limits, a name, and a body
 abbrev pub operator_definition : ℕ → Units → Outcome Definition

@@ -4,7 +4,7 @@ use Rattle.std.specs.Prelude.{◌≡◌, ℕ, zero, suc, ◌-◌, Bool, true, fa
 use Rattle.std.specs.Str.{byte}
 use Rattle.latex2mathml_tex_grammar.specs.Arguments.{macro_arguments}
 use Rattle.latex2mathml_tex_grammar.specs.Definitions.{Word, word_of, Definition, sign, definition_of, behind_definition}
-use Rattle.latex2mathml_tex_grammar.specs.Macros.{Part, Macro, macro, macro_of, Table, put, before}
+use Rattle.latex2mathml_tex_grammar.specs.Macros.{Part, Macro, macro_taking, macro_of, Table, put, before}
 use Rattle.latex2mathml_tex_grammar.specs.Reading.{Outcome, Read, Refused}
 use Rattle.latex2mathml_tex_grammar.specs.Refusal.{TooManyExpansions, Refusal, refusal_at}
 use Rattle.latex2mathml_tex_grammar.specs.Units.{Piece, Unit, unit, Units, Next, End, Stop}
@@ -69,7 +69,7 @@ replaced table uses room u us l =
 
 -- what is used, and the units after it: with this body, if a star was found
 abbrev pub starred_form : Macro → List Part → Bool × Units → Macro × Units
-starred_form m body (true, l) = (macro m.arity body, l)
+starred_form m body (true, l) = (macro_taking m.takes body, l)
 starred_form m body (false, l) = (m, l)
 
 -- the same before these units, of a macro that has this body with a star, if it takes one

@@ -1,10 +1,10 @@
 -- Laws of expansion.
 use Rattle.std.specs.{List.AllByRecursion, Str.byte}
-use Rattle.std.specs.Prelude.{Bool, IsTrue, Option, Some, None, codes, ◌≡◌, ℕ, suc, ◌+◌, ◌≤◌, List, [], ◌∷◌, ◌++◌, ⊤}
-use Rattle.latex2mathml_tex_grammar.specs.Arguments.{Opening, Closing, NoBrace, brace_of, group, arguments}
-use Rattle.latex2mathml_tex_grammar.specs.Definitions.{Word, definition_of}
+use Rattle.std.specs.Prelude.{Bool, IsTrue, Option, Some, None, codes, ◌≡◌, ℕ, ◌+◌, ◌≤◌, List, [], ◌∷◌, ◌++◌, ⊤}
+use Rattle.latex2mathml_tex_grammar.specs.Arguments.{Opening, Closing, NoBrace, brace_of, group, first_sign, arguments}
+use Rattle.latex2mathml_tex_grammar.specs.Definitions.{Word, definition_of, meaning_now}
 use Rattle.latex2mathml_tex_grammar.specs.{DefinitionTexts.ReadsDefinitions, Reading.Outcome, Reading.Read}
-use Rattle.latex2mathml_tex_grammar.specs.{Expansion.Expands, Expansion.Stands, Expansion.Turns, Expansion.role_of, Expansion.turn, Macros.Part, Macros.Fixed, Macros.Argument, Macros.Macro, Macros.macro_of, Macros.Table, Macros.before, Macros.count}
+use Rattle.latex2mathml_tex_grammar.specs.{Expansion.Expands, Expansion.Stands, Expansion.Turns, Expansion.role_of, Expansion.turn, Macros.Part, Macros.Fixed, Macros.Argument, Macros.Taken, Macros.Parameter, Macros.Macro, Macros.macro_of, Macros.Table, Macros.with_macro, Macros.before, Macros.count}
 use Rattle.latex2mathml_tex_grammar.specs.Units.{Piece, Space, Open, Close, Command, Character, Unit, Units, Next}
 
 -- among the units no macro is used, and no definition begins
@@ -50,6 +50,9 @@ pub record AreExpanded : Type 0 where
   pub again : (table : Table) (uses room : ℕ) (l m : Units) → AliasesStand table → Expands table uses room l m → Expands table uses room m m
   -- it has no more units than there were before, plus those that can be put
   pub most : (table : Table) (uses room : ℕ) (l m : Units) → Expands table uses room l m → count m ≤ count l + room
+  -- after `\let`, the new name is to a text what the piece was
+  pub named : (table : Table) (name : List ℕ) (piece : Piece)
+      → role_of (with_macro name (meaning_now table piece) table) (Command name) ≡ role_of table piece
 
 -- each piece of the units passes
 abbrev pub EachPiece : (Piece → Type 0) → Units → Type 0
@@ -120,7 +123,8 @@ pub record AreBetweenBraces : Type 0 where
       → IsBalanced us
       → group place (before us (Next c m)) 0 ≡ Read us m
 
--- White space is ignored after the word of a definition, and before the arguments of a macro.
+-- White space is ignored after the word of a definition, and before an argument that ends before no sign.
 pub record IsSpacePassed : Type 0 where
   pub behind_word : (word : Word) (place : ℕ) (u : Unit) (l : Units) → u.piece ≡ Space → definition_of word place (Next u l) ≡ definition_of word place l
-  pub before_argument : (place n : ℕ) (u : Unit) (l : Units) → u.piece ≡ Space → arguments place (suc n) (Next u l) ≡ arguments place (suc n) l
+  pub before_argument : (place : ℕ) (takes : List Taken) (u : Unit) (l : Units) → u.piece ≡ Space → first_sign takes ≡ None
+      → arguments place (Parameter ∷ takes) (Next u l) ≡ arguments place (Parameter ∷ takes) l

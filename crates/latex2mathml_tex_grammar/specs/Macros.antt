@@ -10,7 +10,14 @@ pub data Part : Type 0 where
   -- an argument, by its number, counted from 0
   Argument : ℕ → Part
 
--- what arguments a macro takes, and what replaces it
+-- what a macro takes: the text of the parameters in its definition, part by part
+pub data Taken : Type 0 where
+  -- a parameter, for which an argument is given. If a sign follows the parameter, the argument ends before this sign.
+  Parameter : Taken
+  -- a sign, which must be there: a command, a character or white space
+  Sign : Piece → Taken
+
+-- what a macro takes, and what replaces it
 pub record Macro : Type 0 where
   -- the piece that its name means, if the name is only another one for this piece. Then it takes nothing, and nothing replaces it.
   pub alias : Option Piece
@@ -18,26 +25,35 @@ pub record Macro : Type 0 where
   pub starred : Option (List Part)
   -- the default of its first argument, if that one can be left out. With a star, there is no such argument.
   pub default : Option (List Part)
-  -- how many other arguments it takes
-  pub arity : ℕ
+  -- all else that it takes
+  pub takes : List Taken
   pub body : List Part
 
+-- this many parameters, with no sign between them
+abbrev pub parameters : ℕ → List Taken
+parameters zero = []
+parameters (suc n) = Parameter ∷ parameters n
+
 -- a macro of its four parts, whose name is not only another name
-abbrev pub macro_of_parts : Option (List Part) → Option (List Part) → ℕ → List Part → Macro
-macro_of_parts starred default arity body = record { alias = None; starred = starred; default = default; arity = arity; body = body }
+abbrev pub macro_of_parts : Option (List Part) → Option (List Part) → List Taken → List Part → Macro
+macro_of_parts starred default takes body = record { alias = None; starred = starred; default = default; takes = takes; body = body }
 
 -- another name for this piece
 abbrev pub alias : Piece → Macro
-alias piece = record { alias = Some piece; starred = None; default = None; arity = 0; body = [] }
+alias piece = record { alias = Some piece; starred = None; default = None; takes = []; body = [] }
 
 -- a macro of which no argument can be left out, and which takes no star
+abbrev pub macro_taking : List Taken → List Part → Macro
+macro_taking takes body = macro_of_parts None None takes body
+
+-- such a macro of this many arguments
 abbrev pub macro : ℕ → List Part → Macro
-macro arity body = macro_of_parts None None arity body
+macro arity body = macro_taking (parameters arity) body
 
 -- a macro of this many arguments, the first of which can be left out if it has a default
 abbrev pub macro_with_default : Option (List Part) → ℕ → List Part → Macro
 macro_with_default None n body = macro n body
-macro_with_default (Some default) n body = macro_of_parts None (Some default) (n - 1) body
+macro_with_default (Some default) n body = macro_of_parts None (Some default) (parameters (n - 1)) body
 
 -- the macros that hold: what each name means, where it is the name of one. A name is its bytes, without the backslash.
 abbrev pub Table : Type 0

@@ -63,8 +63,8 @@ pub data Kind : Type 0 where
   MissingMacroName : Kind
   -- what precedes the body of a definition does not say how many arguments there are
   WrongParameters : Kind
-  -- an argument that ends before some sign
-  DelimitedArgument : Kind
+  -- a sign that is a part of the use of a macro is not there
+  WrongUse : Kind
   -- a body asks for an argument that does not exist
   UnknownParameter : Kind
   -- what is among definitions is not a definition

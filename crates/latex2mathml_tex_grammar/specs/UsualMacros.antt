@@ -1,9 +1,10 @@
 -- The usual macros, which hold in every text, in the order of their names' bytes. A name and a body are their bytes, a name
 -- without its backslash. A definition by the author takes precedence.
-use Rattle.std.specs.Prelude.{ℕ, List, [], ◌∷◌, Some, None, codes, if◌then◌else◌}
+use Rattle.std.specs.Prelude.{ℕ, List, [], ◌∷◌, Option, Some, None, codes, if◌then◌else◌}
 use Rattle.std.specs.{Option.unwrap_or, Str.bytes_eq, Str.chars}
-use Rattle.latex2mathml_tex_grammar.specs.{Cutting.units_of, Definitions.parts_of, Macros.Macro, Macros.macro, Macros.Table}
-use Rattle.latex2mathml_tex_grammar.specs.Units.{Unit, Units, Next}
+use Rattle.latex2mathml_tex_grammar.specs.{Cutting.units_of, Definitions.parts_of}
+use Rattle.latex2mathml_tex_grammar.specs.Macros.{Part, Parameter, Sign, Macro, macro, macro_of_parts, macro_taking, parameters, Table}
+use Rattle.latex2mathml_tex_grammar.specs.Units.{Command, Unit, Units, Next}
 
 -- the name, how many arguments the macro takes, and the text of its body
 unfoldable pub usual_entries : List (List ℕ × ℕ × List ℕ)
@@ -132,6 +133,7 @@ usual_entries =
     (codes "rlap", 1, codes "\\mathrlap{\\text{#1}}") ∷
     (codes "rmfamily", 0, codes "\\rm") ∷
     (codes "rq", 0, codes "'") ∷
+    (codes "sb", 0, codes "_") ∷
     (codes "scriptsize", 0, codes "") ∷
     (codes "scshape", 0, codes "") ∷
     (codes "setlength", 2, codes "") ∷
@@ -146,10 +148,10 @@ usual_entries =
     (codes "slash", 0, codes "/") ∷
     (codes "slshape", 0, codes "\\it") ∷
     (codes "small", 0, codes "") ∷
+    (codes "sp", 0, codes "^") ∷
     (codes "splitdfrac", 2, codes "\\genfrac{}{}{0pt}{0}{#1\\quad}{\\quad #2}") ∷
     (codes "splitfrac", 2, codes "\\genfrac{}{}{0pt}{1}{#1\\quad}{\\quad #2}") ∷
     (codes "strut", 0, codes "\\vphantom{(}") ∷
-    (codes "tag", 1, codes "\\qquad\\text{(#1)}") ∷
     (codes "textsubscript", 1, codes "\\mbox{$_{\\mbox{#1}}$}") ∷
     (codes "textsuperscript", 1, codes "\\mbox{$^{\\mbox{#1}}$}") ∷
     (codes "tiny", 0, codes "") ∷
@@ -182,15 +184,46 @@ abbrev pub listed : Units → List Unit
 listed (Next u l) = u ∷ listed l
 listed l = []
 
+-- the body with this text, where there are n arguments
+abbrev pub body_with : ℕ → List ℕ → List Part
+body_with n text = unwrap_or (parts_of n (listed (units_of 0 (chars text)))) []
+
 -- the macro with this many arguments, whose body has this text
 abbrev pub macro_with : ℕ → List ℕ → Macro
-macro_with arity text = macro arity (unwrap_or (parts_of arity (listed (units_of 0 (chars text)))) [])
+macro_with arity text = macro arity (body_with arity text)
 
 -- the macro of the first entry of this name
 abbrev pub entry_macro : List (List ℕ × ℕ × List ℕ) → Table
 entry_macro [] name = None
 entry_macro (entry ∷ entries) name = if bytes_eq entry.0 name then Some (macro_with entry.1 entry.2) else entry_macro entries name
 
+-- a usual macro that takes more than arguments
+pub data Other : Type 0 where
+  -- two arguments, the first of which ends before this command, with the text of the body
+  Divided : List ℕ → List ℕ → Other
+  -- one argument, and a star if one comes next, with the text of the body after a star, and without one
+  Starred : List ℕ → List ℕ → Other
+
+-- the one that has this name, if one does
+abbrev pub other_named : List ℕ → Option Other
+other_named name =
+    if bytes_eq name (codes "buildrel") then Some (Divided (codes "over") (codes "\\stackrel{#1}{#2}"))
+    else if bytes_eq name (codes "lower") then Some (Divided (codes "hbox") (codes "\\raisebox{-#1}{#2}"))
+    else if bytes_eq name (codes "raise") then Some (Divided (codes "hbox") (codes "\\raisebox{#1}{#2}"))
+    else if bytes_eq name (codes "root") then Some (Divided (codes "of") (codes "\\sqrt[{#1}]{#2}"))
+    else if bytes_eq name (codes "tag") then Some (Starred (codes "\\qquad\\text{#1}") (codes "\\qquad\\text{(#1)}"))
+    else None
+
+-- its macro
+abbrev pub other_macro : Other → Macro
+other_macro (Divided command text) = macro_taking (Parameter ∷ Sign (Command command) ∷ Parameter ∷ []) (body_with 2 text)
+other_macro (Starred starred text) = macro_of_parts (Some (body_with 1 starred)) None (parameters 1) (body_with 1 text)
+
+-- the macro of this one, if there is one, or else the one that was found
+abbrev pub other_or : Option Other → Option Macro → Option Macro
+other_or (Some other) found = Some (other_macro other)
+other_or None found = found
+
 -- what a name means among the usual macros, if it is one of theirs
 unfoldable pub usual_macros : Table
-usual_macros name = entry_macro usual_entries name
+usual_macros name = other_or (other_named name) (entry_macro usual_entries name)

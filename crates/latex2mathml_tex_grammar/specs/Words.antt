@@ -66,7 +66,7 @@ abbrev pub character_rule : Option Alphabet → ℕ → WordRule
 character_rule alphabet c =
     if c == byte "$" then BeginsFormula
     else if c == byte "~" then IsWord (word_space (font_in alphabet))
-    else if c == byte "_" || c == byte "^" || c == byte "&" || c == byte "#" then NoWord (CharacterInWords c)
+    else if c == byte "^" || c == byte "&" || c == byte "#" then NoWord (CharacterInWords c)
     else IsWord (Shown (font_in alphabet) (text (word_character alphabet c)))
 
 -- what a command is in words in this font, by its meaning

@@ -76,12 +76,13 @@ fn uses(rt: HostRuntime) -> Result<(), Fail> {
 }
 
 /// Definitions in texts of definitions and in formulas.
-static DEFINITIONS: [(&str, &str, &str); 6] = [
+static DEFINITIONS: [(&str, &str, &str); 7] = [
     ("\\def\\a{x} \\newcommand{\\b}{\\a\\a}", "\\b", "xx"),
     ("\\def\\a{x}\\renewcommand{\\a}{y}", "\\a", "y"),
     ("\\def\\a{x}\\providecommand{\\a}{y}", "\\a", "x"),
     ("\\def\\a{x}", "\\a\\def\\a{y}\\a", "xy"),
     ("\\def\\alpha{z}", "\\alpha", "z"),
+    ("\\def\\p(#1,#2){#2#1}", "\\p(x+1,y)", "yx+1"),
     ("", "\\def\\sq#1{#1^2}\\sq x+\\sq{ab}", "x^2+ab^2"),
 ];
 
@@ -103,10 +104,7 @@ static REFUSALS: [(&str, &str); 7] = [
         "a body has no such argument at 0",
     ),
     ("\\newcommand{\\a}[1][x{#1}", "[ is not closed at 18"),
-    (
-        "\\def\\a#1,{#1}",
-        "an argument up to a sign is not read at 0",
-    ),
+    ("\\def\\a#1#{x}", "wrong parameters of a definition at 0"),
     ("\\def\\a#2{x}", "wrong parameters of a definition at 0"),
 ];
 

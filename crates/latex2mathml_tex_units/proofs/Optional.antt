@@ -1,41 +1,79 @@
--- Arguments in brackets, one unit after another.
-use Rattle.std.proofs.Common.{◌≡◌, ◌==◌, ℕ, zero, suc, ◌+◌, ◌-◌, ◌<◌, ◌≤◌, Bool, true, false, List, [], ◌∷◌, ◌++◌, map, drop, take, get_or, length, refl, sym, ap, ◌∙◌, arith}
+-- Arguments that end before a sign, and those in brackets, one unit after another.
+use Rattle.std.proofs.Common.{◌≡◌, ◌==◌, ℕ, zero, suc, ◌+◌, ◌-◌, ◌<◌, ◌≤◌, Bool, true, false, Some, None, List, [], ◌∷◌, ◌++◌, map, drop, take, get_or, length, refl, sym, ap, ◌∙◌, arith}
 use Rattle.std.proofs.lemmas.Bool.Decides.{nat_tests}
 use Rattle.std.proofs.lemmas.List.{drop_more, length-map, map-append}
 use Rattle.std.specs.Prelude.{if◌then◌else◌}
-use Rattle.std.specs.Str.{byte}
-use Rattle.latex2mathml_tex_grammar.specs.Arguments.{between_brackets, closes_last, ends_brackets, is_character, is_group, with_first, without_braces}
+use Rattle.latex2mathml_tex_grammar.specs.Arguments.{NoBrace, brace_of, closes_last, is_end, is_group, is_sign, up_to, with_first, without_braces}
+use Rattle.latex2mathml_tex_grammar.specs.{Next.begins_with, Reading.Read, Refusal.Refusal}
 use Rattle.latex2mathml_tex_grammar.specs.Units as units
 use Rattle.latex2mathml_tex_grammar.specs.Units.{Units, Next}
-use Rattle.latex2mathml_tex_units.specs.{Taking.piece_of, Taking.unit_of, declared.unit.Unit.Unit}
+use Rattle.latex2mathml_tex_units.specs.{Pending.next_piece, Taking.piece_of, Taking.unit_of, declared.unit.Unit.Unit}
 use Rattle.latex2mathml_tex_units.specs.declared.unit.Piece.TheVariants as piece
 use Rattle.latex2mathml_tex_units.proofs.Grouping.{no_brace, with_all, with_all-push}
 
--- Units between brackets
+-- Units before a sign
 
-pub bracket_open : (place depth depth' : ℕ) (l m : Units) (u : Unit) → l ≡ Next (unit_of u) m → u.piece ≡ piece.Open → depth' ≡ suc depth → between_brackets place l depth ≡ with_first (unit_of u) (between_brackets place m depth')
-bracket_open place depth depth' l m u e o d = rw (e, o, d) refl
+sign_no_brace : (sign p : units.Piece) → is_sign sign p ≡ true → brace_of p ≡ NoBrace
+sign_no_brace (units.Command name) (units.Command other) h = refl
+sign_no_brace (units.Command name) (units.Character c) h = refl
+sign_no_brace (units.Command name) units.Space h = refl
+sign_no_brace (units.Command name) units.Open h = cc
+sign_no_brace (units.Command name) units.Close h = cc
+sign_no_brace (units.Character d) (units.Command other) h = refl
+sign_no_brace (units.Character d) (units.Character c) h = refl
+sign_no_brace (units.Character d) units.Space h = refl
+sign_no_brace (units.Character d) units.Open h = cc
+sign_no_brace (units.Character d) units.Close h = cc
+sign_no_brace units.Space units.Space h = refl
+sign_no_brace units.Space units.Open h = cc
+sign_no_brace units.Space units.Close h = cc
+sign_no_brace units.Space (units.Command other) h = cc
+sign_no_brace units.Space (units.Character c) h = cc
+sign_no_brace units.Open p h = cc
+sign_no_brace units.Close p h = cc
 
-pub bracket_close : (place depth depth' : ℕ) (l m : Units) (u : Unit) → l ≡ Next (unit_of u) m → u.piece ≡ piece.Close → depth ≡ suc depth' → between_brackets place l depth ≡ with_first (unit_of u) (between_brackets place m depth')
-bracket_close place depth depth' l m u e o d = rw (e, o, d) refl
+end_no_brace : (sign : units.Piece) (depth : ℕ) (p : units.Piece) → is_end sign depth p ≡ true → brace_of p ≡ NoBrace
+end_no_brace sign zero p h = sign_no_brace sign p h
+end_no_brace sign (suc depth) p h = cc
 
--- whether a bracket ends the argument, where this many groups are open
-ends_here : (depth : ℕ) (p : units.Piece) → (depth ≡ 0 → is_character (byte "]") p ≡ false) → ends_brackets depth p ≡ false
-ends_here zero p h = h refl
-ends_here (suc depth) p h = refl
+-- the next piece passes a test
+pub next_passes : (test : units.Piece → Bool) (l : Units) (p : units.Piece) → Some p ≡ next_piece l → begins_with test l ≡ test p
+next_passes test (Next u l) p e = (let same : p ≡ u.piece = cc in ap test (sym same))
+next_passes test (units.End place) p e = cc
+next_passes test (units.Stop r) p e = cc
 
-pub bracket_other : (place depth depth' : ℕ) (l m : Units) (u : Unit) → l ≡ Next (unit_of u) m → (u.piece ≡ piece.Open → ⊥) → (u.piece ≡ piece.Close → ⊥) → (depth ≡ 0 → is_character (byte "]") (piece_of u.piece) ≡ false) → depth' ≡ depth → between_brackets place l depth ≡ with_first (unit_of u) (between_brackets place m depth')
-bracket_other place depth depth' l m u e o c h d = rw (e, no_brace u.piece o c, ends_here depth (piece_of u.piece) h, d) refl
+pub none_passes : (test : units.Piece → Bool) (l : Units) → None ≡ next_piece l → begins_with test l ≡ false
+none_passes test (Next u l) e = cc
+none_passes test (units.End place) e = refl
+none_passes test (units.Stop r) e = refl
 
--- one more unit between brackets
-pub brackets_on : (place depth depth' : ℕ) (start l m : Units) (inside inside' : List Unit) (u : Unit)
-    → between_brackets place start 0 ≡ with_all (map unit_of inside) (between_brackets place l depth)
-    → between_brackets place l depth ≡ with_first (unit_of u) (between_brackets place m depth')
-    → inside' ≡ inside ++ u ∷ []
-    → between_brackets place start 0 ≡ with_all (map unit_of inside') (between_brackets place m depth')
-brackets_on place depth depth' start l m inside inside' u h step e =
-    let units : map unit_of inside' ≡ map unit_of inside ++ unit_of u ∷ [] = ap (map unit_of) e ∙ map-append unit_of inside (u ∷ []) in
-    h ∙ ap (with_all (map unit_of inside)) step ∙ sym (ap (λ xs. with_all xs (between_brackets place m depth')) units ∙ with_all-push (map unit_of inside) (unit_of u) (between_brackets place m depth'))
+module _ (sign : units.Piece) (r : Refusal) where
+  -- the sign comes next
+  pub up_to_end : (depth : ℕ) (l : Units) → begins_with (is_end sign depth) l ≡ true → up_to sign r l depth ≡ Read [] l
+  up_to_end depth (Next u l) h = rw (end_no_brace sign depth u.piece h, h) refl
+  up_to_end depth (units.End place) h = cc
+  up_to_end depth (units.Stop q) h = cc
+
+  pub before_open : (depth depth' : ℕ) (l m : Units) (u : Unit) → l ≡ Next (unit_of u) m → u.piece ≡ piece.Open → depth' ≡ suc depth → up_to sign r l depth ≡ with_first (unit_of u) (up_to sign r m depth')
+  before_open depth depth' l m u e o d = rw (e, o, d) refl
+
+  pub before_close : (depth depth' : ℕ) (l m : Units) (u : Unit) → l ≡ Next (unit_of u) m → u.piece ≡ piece.Close → depth ≡ suc depth' → up_to sign r l depth ≡ with_first (unit_of u) (up_to sign r m depth')
+  before_close depth depth' l m u e o d = rw (e, o, d) refl
+
+  pub before_other : (depth depth' : ℕ) (l m : Units) (u : Unit) → l ≡ Next (unit_of u) m → (u.piece ≡ piece.Open → ⊥) → (u.piece ≡ piece.Close → ⊥) → begins_with (is_end sign depth) l ≡ false → depth' ≡ depth → up_to sign r l depth ≡ with_first (unit_of u) (up_to sign r m depth')
+  before_other depth depth' l m u e o c h d =
+      let other : is_end sign depth (piece_of u.piece) ≡ false = sym (ap (begins_with (is_end sign depth)) e) ∙ h in
+      rw (e, no_brace u.piece o c, other, d) refl
+
+  -- one more unit before the sign
+  pub up_to_on : (depth depth' : ℕ) (start l m : Units) (inside inside' : List Unit) (u : Unit)
+      → up_to sign r start 0 ≡ with_all (map unit_of inside) (up_to sign r l depth)
+      → up_to sign r l depth ≡ with_first (unit_of u) (up_to sign r m depth')
+      → inside' ≡ inside ++ u ∷ []
+      → up_to sign r start 0 ≡ with_all (map unit_of inside') (up_to sign r m depth')
+  up_to_on depth depth' start l m inside inside' u h step e =
+      let units : map unit_of inside' ≡ map unit_of inside ++ unit_of u ∷ [] = ap (map unit_of) e ∙ map-append unit_of inside (u ∷ []) in
+      h ∙ ap (with_all (map unit_of inside)) step ∙ sym (ap (λ xs. with_all xs (up_to sign r m depth')) units ∙ with_all-push (map unit_of inside) (unit_of u) (up_to sign r m depth'))
 
 -- A group that is all of an argument
 

@@ -1,32 +1,78 @@
--- The parameters of a definition, one after another.
-use Rattle.std.proofs.Common.{◌≡◌, ℕ, suc, ◌+◌, ◌<◌, Bool, true, false, sym, ap, ◌∙◌, arith}
+-- The text of the parameters of a definition, one unit after another.
+use Rattle.std.proofs.Common.{◌≡◌, ◌∙◌, ℕ, suc, ◌+◌, ◌<◌, arith, Bool, true, false, List, [], ◌∷◌, ◌++◌, Some, None, map, refl, subst, sym, ap}
+use Rattle.std.proofs.lemmas.{Bool.and_parts, List.map-append}
+use Rattle.std.proofs.lemmas.Bool.Decides.{nat_tests}
+use Rattle.std.specs.Prelude.{nat_lt}
 use Rattle.std.specs.Str.{byte}
-use Rattle.latex2mathml_tex_grammar.specs.Definitions.{numbered, parameter, parameters, sign}
-use Rattle.latex2mathml_tex_grammar.specs.{Reading.Outcome, Reading.Read, Reading.Refused, Refusal.WrongParameters, Refusal.refusal_at}
-use Rattle.latex2mathml_tex_grammar.specs.Units.{Units}
+use Rattle.latex2mathml_tex_grammar.specs.Arguments.{is_character, with_first}
+use Rattle.latex2mathml_tex_grammar.specs.Definitions.{is_brace, is_number, number_due, parameters_behind}
+use Rattle.latex2mathml_tex_grammar.specs.Macros as macros
+use Rattle.latex2mathml_tex_grammar.specs.{Reading.Outcome, Reading.Read}
+use Rattle.latex2mathml_tex_grammar.specs.Units.{Piece, Space, Open, Close, Command, Character, Units, Unit, Next, End, Stop}
+use Rattle.latex2mathml_tex_units.specs.{Bodies.taken_of, Pending.next_piece, Taking.Takes, Taking.piece_of, Taking.unit_of, declared.macros.part.Taken.Taken}
+use Rattle.latex2mathml_tex_units.specs.declared.unit.Next.{Next as CodeNext}
+use Rattle.latex2mathml_tex_units.specs.declared.unit.Piece.{Piece as CodePiece}
+use Rattle.latex2mathml_tex_units.specs.declared.macros.part.Taken.TheVariants as taken
+use Rattle.latex2mathml_tex_units.specs.declared.unit.Next.TheVariants as next
+use Rattle.latex2mathml_tex_units.proofs.Grouping.{with_all, with_all-push}
 
-opened : (place left n : ℕ) (r : Bool) (l m : Units) → 0 < left → (r, m) ≡ sign (byte "#") l → (left' : ℕ) → left ≡ suc left' → parameters place left n l ≡ parameter place n (r, m) (parameters place left' (suc n))
-unfolding parameters
-opened place left n r l m some s left' e = ap (λ k. parameters place k n l) e ∙ ap (λ p. parameter place n p (parameters place left' (suc n))) (sym s)
+-- a brace is no number sign
+number_apart : (p : Piece) → is_brace p ≡ true → is_character (byte "#") p ≡ false
+number_apart Open h = refl
+number_apart Close h = refl
+number_apart Space h = cc
+number_apart (Command name) h = cc
+number_apart (Character c) h = cc
 
-pub parameters_end : (place left left' n : ℕ) (start : Outcome ℕ) (r : Bool) (l m : Units)
-    → start ≡ parameters place left n l → left ≡ suc left' → (r, m) ≡ sign (byte "#") l → r ≡ false → start ≡ Read n m
-parameters_end place left left' n start r l m h e s f =
-    h ∙ opened place left n r l m (omega (arith, e)) s left' e ∙ ap (λ b. parameter place n (b, m) (parameters place left' (suc n))) f
+-- one more part of the text
+pub taken_on : (o : Outcome (List macros.Taken)) (rest more : Outcome (List macros.Taken)) (takes takes' : List Taken) (t : Taken)
+    → o ≡ with_all (map taken_of takes) rest
+    → rest ≡ with_first (taken_of t) more
+    → takes' ≡ takes ++ t ∷ []
+    → o ≡ with_all (map taken_of takes') more
+taken_on o rest more takes takes' t h step e =
+    let parts : map taken_of takes' ≡ map taken_of takes ++ taken_of t ∷ [] = ap (map taken_of) e ∙ map-append taken_of takes (t ∷ []) in
+    h ∙ ap (with_all (map taken_of takes)) step ∙ sym (ap (λ xs. with_all xs more) parts ∙ with_all-push (map taken_of takes) (taken_of t) more)
 
-pub parameters_wrong : (place left left' n wanted : ℕ) (start : Outcome ℕ) (r q : Bool) (l m k : Units)
-    → start ≡ parameters place left n l → left ≡ suc left' → (r, m) ≡ sign (byte "#") l → r ≡ true → (q, k) ≡ sign wanted m → q ≡ false → wanted ≡ byte "1" + n → start ≡ Refused (refusal_at WrongParameters place)
-parameters_wrong place left left' n wanted start r q l m k h e s t s' f w =
-    h ∙ opened place left n r l m (omega (arith, e)) s left' e ∙ ap (λ b. parameter place n (b, m) (parameters place left' (suc n))) t
-    ∙ ap (λ p. numbered place p (parameters place left' (suc n))) (ap (λ c. sign c m) (sym w) ∙ sym s' ∙ ap (λ b. (b, k)) f)
+module _ (place : ℕ) (start : Outcome (List macros.Taken)) (l m : Units) (u : Unit) (here : l ≡ Next u m) (takes : List Taken) (behind : Bool) (n : ℕ)
+    (so_far : start ≡ with_all (map taken_of takes) (parameters_behind place l behind n)) where
+  pub past_number_sign : (b : Bool) (k : ℕ) → behind ≡ false → is_character (byte "#") u.piece ≡ true → b ≡ true → k ≡ n
+      → start ≡ with_all (map taken_of takes) (parameters_behind place m b k)
+  past_number_sign b k apart number e f = so_far ∙ ap (with_all (map taken_of takes)) (rw (apart, here, number, e, f) refl)
 
-pub parameters_more : (place left left' n n' wanted : ℕ) (start : Outcome ℕ) (r q : Bool) (l m k : Units)
-    → start ≡ parameters place left n l → left ≡ suc left' → (r, m) ≡ sign (byte "#") l → r ≡ true → (q, k) ≡ sign wanted m → q ≡ true → wanted ≡ byte "1" + n → n' ≡ suc n → start ≡ parameters place left' n' k
-parameters_more place left left' n n' wanted start r q l m k h e s t s' f w next =
-    h ∙ opened place left n r l m (omega (arith, e)) s left' e ∙ ap (λ b. parameter place n (b, m) (parameters place left' (suc n))) t
-    ∙ ap (λ p. numbered place p (parameters place left' (suc n))) (ap (λ c. sign c m) (sym w) ∙ sym s' ∙ ap (λ b. (b, k)) f)
-    ∙ ap (λ j. parameters place left' j k) (sym next)
+  pub past_number : (takes' : List Taken) (b : Bool) (k : ℕ) → behind ≡ true → is_number n u.piece ≡ true
+      → takes' ≡ takes ++ taken.Parameter ∷ [] → b ≡ false → k ≡ suc n
+      → start ≡ with_all (map taken_of takes') (parameters_behind place m b k)
+  past_number takes' b k due number more e f = taken_on start _ _ takes takes' taken.Parameter so_far (rw (due, here, number, e, f) refl) more
 
-pub parameters_all : (place left n : ℕ) (start : Outcome ℕ) (l : Units) → start ≡ parameters place left n l → left ≡ 0 → n ≡ 9 → start ≡ Read 9 l
-unfolding parameters
-parameters_all place left n start l h e nine = h ∙ ap (λ k. parameters place k n l) e ∙ ap (λ j. Read j l) nine
+  pub past_sign : (sign : CodePiece) (takes' : List Taken) (b : Bool) (k : ℕ) → behind ≡ false → is_character (byte "#") u.piece ≡ false → is_brace u.piece ≡ false
+      → u.piece ≡ piece_of sign → takes' ≡ takes ++ taken.Sign sign ∷ [] → b ≡ false → k ≡ n
+      → start ≡ with_all (map taken_of takes') (parameters_behind place m b k)
+  past_sign sign takes' b k apart number brace same more e f = taken_on start _ _ takes takes' (taken.Sign sign) so_far (rw (apart, here, number, brace, ← same, e, f) refl) more
+
+-- the unit that was taken is the piece that was seen
+pub taken_unit : (n : CodeNext) (l m : Units) (p : CodePiece) → Some (piece_of p) ≡ next_piece l → Takes n l m → (u : Unit) × (l ≡ Next u m) × (u.piece ≡ piece_of p)
+taken_unit (next.Unit u) l m p e t =
+    let same : piece_of p ≡ piece_of u.piece = (let found = e ∙ ap next_piece t in cc) in
+    (unit_of u, t, sym same)
+taken_unit (next.End place) l m p e t = (let found = e ∙ ap next_piece t.0 in cc)
+taken_unit (next.Fault fault place) l m p e t = (let found = e ∙ ap next_piece t.0 in cc)
+
+-- no more than nine parameters have a number
+pub few : (n : ℕ) (p : Piece) → is_number n p ≡ true → n < 9
+few n p e = (let parts = and_parts (nat_lt n 9) (is_character (byte "1" + n) p) e in let less = parts.0 in grind (arith, nat_tests))
+
+-- the text ends with a brace, or with the units
+
+pub at_brace : (place n : ℕ) (l : Units) (p : Piece) → Some p ≡ next_piece l → is_brace p ≡ true → parameters_behind place l false n ≡ Read [] l
+at_brace place n (Next u m) p e h = (let same : p ≡ u.piece = cc in brace_first u m (subst (λ q. is_brace q ≡ true) same h))
+  where
+    brace_first : (u : Unit) (m : Units) → is_brace u.piece ≡ true → parameters_behind place (Next u m) false n ≡ Read [] (Next u m)
+    brace_first u m h = rw (number_apart u.piece h, h) refl
+at_brace place n (End at) p e h = cc
+at_brace place n (Stop r) p e h = cc
+
+pub at_end : (place n : ℕ) (behind : Bool) (l : Units) → None ≡ next_piece l → parameters_behind place l behind n ≡ number_due behind place l
+at_end place n behind (Next u l) e = cc
+at_end place n behind (End at) e = refl
+at_end place n behind (Stop r) e = refl

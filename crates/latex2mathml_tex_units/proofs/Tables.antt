@@ -1,26 +1,30 @@
 -- The macros that hold, in the code and in the grammar.
-use Rattle.std.proofs.Common.{◌≡◌, ◌∙◌, ℕ, Bool, true, false, List, [], ◌∷◌, Option, Some, None, refl, sym, ap}
+use Rattle.std.proofs.Common.{◌≡◌, ◌∙◌, ℕ, Bool, true, false, List, [], ◌∷◌, Option, Some, None, refl, ap}
 use Rattle.std.specs.Prelude.{option_map, if◌then◌else◌}
 use Rattle.std.specs.{Option.is_some, Str.bytes_eq}
 use Rattle.latex2mathml_tex_grammar.specs.{Definitions.Definition, Definitions.behind_definition, Definitions.provided, Macros.Macro, Macros.Table, Macros.with_macro, UsualMacros.entry_macro, UsualMacros.macro_with, UsualMacros.usual_entries, UsualMacros.usual_macros}
+use Rattle.latex2mathml_tex_grammar.specs.UsualMacros.{Other, Divided, Starred, other_named, other_or}
+use Rattle.latex2mathml_tex_grammar.proofs.Choices.{of_found}
 use Rattle.latex2mathml_tex_units.specs.{Defined.word_of, MacroTables.or_else, MacroTables.or_usual, declared.macros.definitions.Word.Word}
 use Rattle.latex2mathml_tex_units.specs.declared.macros.definitions.Word.TheVariants as word
 
-pub usual_is : (entries : List (List ℕ × ℕ × List ℕ)) (name : List ℕ) → entries ≡ usual_entries → entry_macro entries name ≡ usual_macros name
+pub usual_is : (name : List ℕ) → other_or (other_named name) (entry_macro usual_entries name) ≡ usual_macros name
 unfolding usual_macros
-usual_is entries name e = ap (λ es. entry_macro es name) e
+usual_is name = refl
 
 -- no usual macro is only another name
-found_no_name : (b : Bool) (m found : Macro) (x : Option Macro) → m.alias ≡ None → ((y : Macro) → x ≡ Some y → y.alias ≡ None) → (if b then Some m else x) ≡ Some found → found.alias ≡ None
-found_no_name true m found x none more e = (let same : m ≡ found = cc in ap (λ y. y.alias) (sym same) ∙ none)
-found_no_name false m found x none more e = more found e
 
 entry_no_name : (entries : List (List ℕ × ℕ × List ℕ)) (name : List ℕ) (m : Macro) → entry_macro entries name ≡ Some m → m.alias ≡ None
 entry_no_name [] name m e = cc
-entry_no_name (entry ∷ entries) name m e = found_no_name (bytes_eq entry.0 name) (macro_with entry.1 entry.2) m (entry_macro entries name) refl (entry_no_name entries name) e
+entry_no_name (entry ∷ entries) name m e = of_found (λ y. y.alias ≡ None) (bytes_eq entry.0 name) (macro_with entry.1 entry.2) m (entry_macro entries name) refl (entry_no_name entries name) e
+
+other_no_name : (other : Option Other) (found : Option Macro) (m : Macro) → ((y : Macro) → found ≡ Some y → y.alias ≡ None) → other_or other found ≡ Some m → m.alias ≡ None
+other_no_name (Some (Divided command text)) found m h e = cc
+other_no_name (Some (Starred starred text)) found m h e = cc
+other_no_name None found m h e = h m e
 
 pub usual_no_name : (name : List ℕ) (m : Macro) → usual_macros name ≡ Some m → m.alias ≡ None
-usual_no_name name m e = entry_no_name usual_entries name m (usual_is usual_entries name refl ∙ e)
+usual_no_name name m e = other_no_name (other_named name) (entry_macro usual_entries name) m (entry_no_name usual_entries name) (usual_is name ∙ e)
 
 pub is_some-map : {A B : Type 0} (f : A → B) (x : Option A) → is_some (option_map f x) ≡ is_some x
 is_some-map f (Some x) = refl

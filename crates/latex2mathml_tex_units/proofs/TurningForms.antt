@@ -3,7 +3,7 @@ use Rattle.std.proofs.Common.{◌≡◌, ◌==◌, ◌∙◌, inl, inr, ℕ, ◌
 use Rattle.std.proofs.lemmas.Bool.{and_parts, cases_Bool}
 use Rattle.std.proofs.lemmas.Slice.Eq.{bytes_eq-Decides}
 use Rattle.std.specs.Str.{byte, bytes_eq}
-use Rattle.latex2mathml_tex_grammar.specs.UsualMacros.{entry_macro, usual_entries, usual_macros}
+use Rattle.latex2mathml_tex_grammar.specs.UsualMacros.{entry_macro, other_named, other_or, usual_entries, usual_macros}
 use Rattle.latex2mathml_tex_grammar.specs.Definitions.{word_named}
 use Rattle.latex2mathml_tex_units.specs.TurningForms.{is_frequent, is_turning_form}
 use Rattle.latex2mathml_tex_units.proofs.Tables.{usual_is}
@@ -34,14 +34,18 @@ none_named (e ∷ es) name all none = elim (cases_Bool (bytes_eq e.0 name)) [
   | inr h ↦ (let parts = and_parts (may_turn e.0) (all_may_be es) all in rw h (none_named es name parts.1 none))
 ]
 
-pub no_usual : (name : List ℕ) → may_turn name ≡ false → usual_macros name ≡ None
-no_usual name none = sym (usual_is usual_entries name refl) ∙ none_named usual_entries name all_usual none
-
 apart : (name word : List ℕ) → may_turn name ≡ false → may_turn word ≡ true → bytes_eq name word ≡ false
 apart name word none may = elim (cases_Bool (bytes_eq name word)) [
   | inl h ↦ (let same : may_turn name ≡ true = ap may_turn ((bytes_eq-Decides name word).0 h) ∙ may in absurd (cc (same, none)))
   | inr h ↦ h
 ]
+
+no_other : (name : List ℕ) → may_turn name ≡ false → other_named name ≡ None
+no_other name none =
+    rw (apart name (codes "buildrel") none refl, apart name (codes "lower") none refl, apart name (codes "raise") none refl, apart name (codes "root") none refl, apart name (codes "tag") none refl) refl
+
+pub no_usual : (name : List ℕ) → may_turn name ≡ false → usual_macros name ≡ None
+no_usual name none = sym (usual_is name) ∙ ap (λ other. other_or other (entry_macro usual_entries name)) (no_other name none) ∙ none_named usual_entries name all_usual none
 
 pub no_word : (name : List ℕ) → may_turn name ≡ false → word_named name ≡ None
 no_word name none =

@@ -46,7 +46,7 @@ kind_text (kind.CharacterInWords c) = encode_utf8 c ++ codes " in words"
 kind_text kind.TooManyExpansions = codes "too many macros are expanded"
 kind_text kind.MissingMacroName = codes "no name to define"
 kind_text kind.WrongParameters = codes "wrong parameters of a definition"
-kind_text kind.DelimitedArgument = codes "an argument up to a sign is not read"
+kind_text kind.WrongUse = codes "the use of a macro does not match its definition"
 kind_text kind.UnknownParameter = codes "a body has no such argument"
 kind_text kind.NoDefinition = codes "not a definition"
 

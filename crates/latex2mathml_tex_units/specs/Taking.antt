@@ -33,7 +33,7 @@ kind_of fault.UnclosedBracket = refusal.UnclosedBracket
 kind_of fault.TooManyExpansions = refusal.TooManyExpansions
 kind_of fault.MissingMacroName = refusal.MissingMacroName
 kind_of fault.WrongParameters = refusal.WrongParameters
-kind_of fault.DelimitedArgument = refusal.DelimitedArgument
+kind_of fault.WrongUse = refusal.WrongUse
 kind_of fault.UnknownParameter = refusal.UnknownParameter
 kind_of fault.NoDefinition = refusal.NoDefinition
 

@@ -77,8 +77,8 @@ pub enum TexErrorKind {
     MissingMacroName,
     /// What precedes the body of a definition does not say how many arguments there are.
     WrongParameters,
-    /// An argument that is delimited by a sign.
-    DelimitedArgument,
+    /// A sign that is a part of the use of a macro is not there: after `\def\pair(#1,#2){..}`, for example, one of `(`, `,` and `)`.
+    WrongUse,
     /// The body of a definition refers to an argument that does not exist.
     UnknownParameter,
     /// Something among definitions that is not a definition.
@@ -144,7 +144,7 @@ impl fmt::Display for TexErrorKind {
             TexErrorKind::TooManyExpansions => "too many macros are expanded",
             TexErrorKind::MissingMacroName => "no name to define",
             TexErrorKind::WrongParameters => "wrong parameters of a definition",
-            TexErrorKind::DelimitedArgument => "an argument up to a sign is not read",
+            TexErrorKind::WrongUse => "the use of a macro does not match its definition",
             TexErrorKind::UnknownParameter => "a body has no such argument",
             TexErrorKind::NoDefinition => "not a definition",
             TexErrorKind::OutOfMemory => "out of memory",
@@ -214,7 +214,7 @@ impl TexErrorKind {
             Fault::TooManyExpansions => TexErrorKind::TooManyExpansions,
             Fault::MissingMacroName => TexErrorKind::MissingMacroName,
             Fault::WrongParameters => TexErrorKind::WrongParameters,
-            Fault::DelimitedArgument => TexErrorKind::DelimitedArgument,
+            Fault::WrongUse => TexErrorKind::WrongUse,
             Fault::UnknownParameter => TexErrorKind::UnknownParameter,
             Fault::NoDefinition => TexErrorKind::NoDefinition,
         }

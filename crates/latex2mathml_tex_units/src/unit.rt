@@ -41,8 +41,8 @@ pub enum Fault {
     MissingMacroName,
     /// What precedes the body of a definition does not say how many arguments there are.
     WrongParameters,
-    /// An argument that is delimited by a sign.
-    DelimitedArgument,
+    /// A sign that is a part of the use of a macro is not there.
+    WrongUse,
     /// A body refers to an argument that does not exist.
     UnknownParameter,
     /// Something among definitions that is not a definition.

@@ -339,9 +339,9 @@ fn alphabet_change(piece: Piece) -> Option<Alphabet>
 
 /// Whether the character cannot appear in words.
 fn is_no_word(c: char) -> bool
-    ensures { result ≡ (c == byte "_" || c == byte "^" || c == byte "&" || c == byte "#") }
+    ensures { result ≡ (c == byte "^" || c == byte "&" || c == byte "#") }
 {
-    matches!(c, '_' | '^' | '&' | '#')
+    matches!(c, '^' | '&' | '#')
 }
 
 /// Returns a character of words in an alphabet, if there is one. Quotation marks are as in print.

@@ -1,10 +1,10 @@
 //! Definitions of macros.
 ghost use Rattle.std.specs.Prelude.{◌≡◌, map, option_map};
-ghost use Rattle.latex2mathml_tex_grammar.specs.Definitions.{alias_definition, any_piece, are_space, body, body_in_braces, command_definition, default_of, definition_of, delimiters_definition, is_delimited, name_in, name_of, number_of, operator_definition, parameters, plain_definition, word_named};
-ghost use Rattle.latex2mathml_tex_units.specs.{Bodies.parts_in, Defined.definition_in, Defined.word_of, Pending.Reads, Pending.pending_units, Taking.piece_of, Taking.unit_of};
+ghost use Rattle.latex2mathml_tex_grammar.specs.Definitions.{alias_definition, any_piece, are_space, body, command_definition, default_of, definition_of, delimiters_definition, is_brace, is_number, name_in, name_of, number_of, operator_definition, parameter_count, parameter_text, plain_definition, word_named};
+ghost use Rattle.latex2mathml_tex_units.specs.{Bodies.parts_in, Bodies.taken_of, Bodies.taken_in, Defined.definition_in, Defined.word_of, Pending.Reads, Taking.piece_of, Taking.unit_of};
 
 use crate::macros::halt::Halt;
-use crate::macros::part::{Macro, Part, operator_parts, parts_of};
+use crate::macros::part::{Macro, Part, Taken, is_character, operator_parts, parts_of};
 use crate::macros::pending::Pending;
 use crate::unit::{Fault, Next, Piece, Unit};
 use std::alloc::Global;
@@ -86,6 +86,36 @@ fn name_in<'a>(units: &[Unit<'a>]) -> Option<&'a str>
     None
 }
 
+/// Whether the piece is a brace.
+fn is_brace(piece: Piece) -> bool
+    ensures { result ≡ is_brace (piece_of piece.entry) }
+{
+    match piece {
+        Piece::Open | Piece::Close => true,
+        _ => false,
+    }
+}
+
+/// Whether the piece is the number of the parameter after `count` others.
+fn is_number(count: u8, piece: Piece) -> bool
+    ensures { result ≡ is_number count (piece_of piece.entry) }
+{
+    count < 9 && is_character(char::from(b'1' + count), piece)
+}
+
+/// Returns how many parameters there are.
+fn parameter_count(takes: &[Taken]) -> usize
+    ensures { result ≡ parameter_count (map taken_of takes.now) }
+{
+    let mut count = 0;
+    for taken in takes {
+        if let Taken::Parameter = taken {
+            count += 1;
+        }
+    }
+    count
+}
+
 impl<'a> Pending<'a> {
     /// Takes the name that a definition at this place defines.
     fn take_name(&mut self, alloc: Global, place: usize) -> Result<&'a str, Halt>
@@ -136,21 +166,34 @@ impl<'a> Pending<'a> {
         }
     }
 
-    /// Takes `#1`, `#2` and so on. Returns how many there are.
-    fn take_parameters(&mut self, place: usize) -> Result<usize, Halt>
-        ensures { Reads result (λ n. n) (parameters place 9 0) self.old self.new }
+    /// Takes the text of the parameters: `#1`, `#2` and so on, and signs, up to a brace.
+    fn take_parameter_text(&mut self, alloc: Global, place: usize) -> Result<Vec<Taken<'a>>, Halt>
+        ensures { Reads result taken_in (parameter_text place) self.old self.new }
     {
+        let mut takes = Vec::new(alloc);
         let mut count: u8 = 0;
-        'count: while count < 9 {
-            if !self.take_sign('#') {
-                return Ok(usize::from(count));
+        let mut behind_sign = false;
+        'units: while let Some(piece) = self.peek() {
+            if behind_sign {
+                if !is_number(count, piece) {
+                    return Err(Halt::Refused(Fault::WrongParameters, place));
+                }
+                takes.push(Taken::Parameter)?;
+                count += 1;
+                behind_sign = false;
+            } else if is_character('#', piece) {
+                behind_sign = true;
+            } else if is_brace(piece) {
+                return Ok(takes);
+            } else {
+                takes.push(Taken::Sign(piece))?;
             }
-            if !self.take_sign(char::from(b'1' + count)) {
-                return Err(Halt::Refused(Fault::WrongParameters, place));
-            }
-            count += 1;
+            self.take();
         }
-        Ok(9)
+        if behind_sign {
+            return Err(Halt::Refused(Fault::WrongParameters, place));
+        }
+        Ok(takes)
     }
 
     /// Takes the body of a macro with `arity` arguments.
@@ -167,32 +210,6 @@ impl<'a> Pending<'a> {
             Some(parts) => Ok(parts),
             None => Err(Halt::Refused(Fault::UnknownParameter, place)),
         }
-    }
-
-    /// Whether a sign other than a brace comes next.
-    fn is_delimited(&self) -> bool
-        ensures { result ≡ is_delimited (pending_units self.now) }
-    {
-        match self.peek() {
-            None | Some(Piece::Open) | Some(Piece::Close) => false,
-            _ => true,
-        }
-    }
-
-    /// Takes the body of a macro with `arity` arguments, which is in braces.
-    fn take_body_in_braces(
-        &mut self,
-        alloc: Global,
-        place: usize,
-        arity: usize,
-    ) -> Result<Vec<Part<'a>>, Halt>
-        ensures { Reads result parts_in (body_in_braces place arity) self.old self.new }
-    {
-        self.skip_space();
-        if self.is_delimited() {
-            return Err(Halt::Refused(Fault::DelimitedArgument, place));
-        }
-        self.take_body(alloc, place, arity)
     }
 
     /// Takes what follows `\newcommand` and the like.
@@ -219,11 +236,11 @@ impl<'a> Pending<'a> {
         ensures { Reads result definition_in (plain_definition place) self.old self.new }
     {
         let name = self.take_name(alloc, place)?;
-        let arity = self.take_parameters(place)?;
-        let body = self.take_body_in_braces(alloc, place, arity)?;
+        let takes = self.take_parameter_text(alloc, place)?;
+        let body = self.take_body(alloc, place, parameter_count(&takes))?;
         Ok(Definition {
             name,
-            stands_for: Macro::new(None, arity, body),
+            stands_for: Macro::taking(takes, body),
         })
     }
 

@@ -1,8 +1,10 @@
 //! The bodies of macros.
 ghost use Rattle.std.specs.Prelude.{◌≡◌, IfOk, map, option_map};
 ghost use Rattle.latex2mathml_tex_grammar.specs.Definitions.{delimiters_macro, digit_of, enclosed_parts, is_character, operator_parts, parameter_part, parts_of, stretched_parts};
-ghost use Rattle.latex2mathml_tex_grammar.specs.Macros.{alias, macro_with_default};
-ghost use Rattle.latex2mathml_tex_units.specs.{Bodies.default_of, Bodies.macro_of, Bodies.part_of, Bodies.parts_in, Taking.piece_of, Taking.unit_of};
+ghost use Rattle.latex2mathml_tex_grammar.specs.Arguments.{is_sign};
+ghost use Rattle.latex2mathml_tex_grammar.specs.Macros.{alias, macro_taking, macro_with_default};
+ghost use Rattle.latex2mathml_tex_grammar.specs.UsualMacros.{other_macro};
+ghost use Rattle.latex2mathml_tex_units.specs.{Bodies.default_of, Bodies.macro_of, Bodies.part_of, Bodies.parts_in, Bodies.taken_of, Taking.piece_of, Taking.unit_of};
 
 use crate::unit::{Piece, Unit};
 use std::alloc::{AllocError, Global};
@@ -16,14 +18,34 @@ pub(crate) enum Part<'a> {
     Argument(usize),
 }
 
-/// What a macro takes before the arguments that must be there.
+/// What a macro takes first, if it comes next.
 #[derive(Drop)]
 pub(crate) enum Lead<'a> {
     Nothing,
     /// An argument that can be left out, with its default.
     Default(Vec<Part<'a>>),
-    /// A star, with which this replaces the macro. Without one, an argument that can be left out, whose default is empty.
+    /// A star, with which this replaces the macro.
     Star(Vec<Part<'a>>),
+    /// The same. Without a star, an argument that can be left out, whose default is empty.
+    StarOrDefault(Vec<Part<'a>>),
+}
+
+/// A part of what a macro takes after that.
+#[derive(Clone, Copy)]
+pub(crate) enum Taken<'a> {
+    /// An argument. If a sign follows, the argument ends before it.
+    Parameter,
+    /// A sign, which must be there: a command, a character or white space.
+    Sign(Piece<'a>),
+}
+
+/// All that a macro takes after that.
+#[derive(Drop)]
+pub(crate) enum Takes<'a> {
+    /// This many arguments.
+    Arguments(usize),
+    /// Arguments, and signs between them.
+    Mixed(Vec<Taken<'a>>),
 }
 
 /// What arguments a macro takes, and what replaces it.
@@ -32,8 +54,7 @@ pub(crate) struct Macro<'a> {
     /// The piece that its name means, if the name is only another one for this piece.
     pub(crate) alias: Option<Piece<'a>>,
     pub(crate) lead: Lead<'a>,
-    /// How many other arguments it takes.
-    pub(crate) arity: usize,
+    pub(crate) takes: Takes<'a>,
     pub(crate) body: Vec<Part<'a>>,
 }
 
@@ -51,13 +72,13 @@ impl<'a> Macro<'a> {
             Some(default) => Macro {
                 alias: None,
                 lead: Lead::Default(default),
-                arity: count.saturating_sub(1),
+                takes: Takes::Arguments(count.saturating_sub(1)),
                 body,
             },
             None => Macro {
                 alias: None,
                 lead: Lead::Nothing,
-                arity: count,
+                takes: Takes::Arguments(count),
                 body,
             },
         }
@@ -75,10 +96,22 @@ impl<'a> Macro<'a> {
     {
         Ok(Macro {
             alias: None,
-            lead: Lead::Star(stretched_parts(alloc, left, right)?),
-            arity: 1,
+            lead: Lead::StarOrDefault(stretched_parts(alloc, left, right)?),
+            takes: Takes::Arguments(1),
             body: enclosed_parts(alloc, left, right)?,
         })
+    }
+
+    /// Creates a macro that takes this, and nothing that can be left out.
+    pub(crate) fn taking(takes: Vec<Taken<'a>>, body: Vec<Part<'a>>) -> Macro<'a>
+        ensures { macro_of result ≡ macro_taking (map taken_of takes.entry.items) (parts_in body.entry) }
+    {
+        Macro {
+            alias: None,
+            lead: Lead::Nothing,
+            takes: Takes::Mixed(takes),
+            body,
+        }
     }
 
     /// Creates another name for this piece.
@@ -88,7 +121,7 @@ impl<'a> Macro<'a> {
         Macro {
             alias: Some(piece),
             lead: Lead::Nothing,
-            arity: 0,
+            takes: Takes::Arguments(0),
             body: Vec::new(alloc),
         }
     }
@@ -98,9 +131,9 @@ impl<'a> Macro<'a> {
         ensures { option_map (λ parts. map part_of parts.now) result ≡ default_of self.now.lead }
     {
         match &self.lead {
-            Lead::Nothing => None,
+            Lead::Nothing | Lead::Star(_) => None,
             Lead::Default(default) => Some(default),
-            Lead::Star(starred) => Some(&starred[..0]),
+            Lead::StarOrDefault(starred) => Some(&starred[..0]),
         }
     }
 }
@@ -111,6 +144,18 @@ pub(crate) fn is_character(wanted: char, piece: Piece) -> bool
 {
     match piece {
         Piece::Character(c) => c == wanted,
+        _ => false,
+    }
+}
+
+/// Whether the piece is this sign, which is a command, a character or white space.
+pub(crate) fn is_sign(sign: Piece, piece: Piece) -> bool
+    ensures { result ≡ is_sign (piece_of sign.entry) (piece_of piece.entry) }
+{
+    match (sign, piece) {
+        (Piece::Command(name), Piece::Command(other)) => name == other,
+        (Piece::Character(c), _) => is_character(c, piece),
+        (Piece::Space, Piece::Space) => true,
         _ => false,
     }
 }

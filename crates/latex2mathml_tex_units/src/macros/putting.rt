@@ -161,13 +161,11 @@ impl<'a> Pending<'a> {
         ensures { (form_in found.now (option_map (λ body. body.now) result), pending_units self.new)
             ≡ form_of (macro_of found.now) (pending_units self.old) }
     {
-        let Lead::Star(starred) = &found.lead else {
-            return None;
-        };
-        if self.take_sign('*') {
-            Some(starred)
-        } else {
-            None
+        match &found.lead {
+            Lead::Star(starred) | Lead::StarOrDefault(starred) if self.take_sign('*') => {
+                Some(starred)
+            }
+            _ => None,
         }
     }
 
@@ -193,7 +191,7 @@ impl<'a> Pending<'a> {
             let arguments = self.take_macro_arguments(alloc, found, place)?;
             return self.put_replacement(room, &found.body, &arguments, place);
         };
-        let given = self.take_arguments(alloc, place, found.arity)?;
+        let given = self.take_arguments(alloc, place, &found.takes)?;
         let arguments = Arguments {
             default: None,
             given,

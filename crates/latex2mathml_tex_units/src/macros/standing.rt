@@ -211,6 +211,7 @@ fn turns_up_to_l(first: u8, second: u8, len: usize) -> bool
             b'g' => len == 6,
             b'm' => len == 4,
             b'r' => matches!(len, 3 | 6),
+            b'u' => len == 8,
             _ => false,
         },
         b'c' => match second {
@@ -264,7 +265,8 @@ fn turns_up_to_l(first: u8, second: u8, len: usize) -> bool
         b'l' => match second {
             b'a' => len == 5,
             b'e' => matches!(len, 3 | 5 | 7 | 8 | 10),
-            b'l' | b'o' => len == 4,
+            b'l' => len == 4,
+            b'o' => matches!(len, 4 | 5),
             b'q' => len == 2,
             _ => false,
         },
@@ -305,13 +307,15 @@ fn turns_from_m(first: u8, second: u8, len: usize) -> bool
         },
         b'q' => second == b'e' && matches!(len, 3 | 7),
         b'r' => match second {
-            b'a' | b'm' => len == 8,
+            b'a' => matches!(len, 5 | 8),
             b'e' => matches!(len, 5 | 12),
-            b'l' => len == 4,
+            b'l' | b'o' => len == 4,
+            b'm' => len == 8,
             b'q' => len == 2,
             _ => false,
         },
         b's' => match second {
+            b'b' => len == 2,
             b'c' => matches!(len, 7 | 10),
             b'e' => len == 9,
             b'f' => matches!(len, 5 | 8),
@@ -319,7 +323,7 @@ fn turns_from_m(first: u8, second: u8, len: usize) -> bool
             b'i' => matches!(len, 7 | 8 | 9 | 13),
             b'l' => matches!(len, 5 | 7),
             b'm' | b't' => len == 5,
-            b'p' => matches!(len, 9 | 10),
+            b'p' => matches!(len, 2 | 9 | 10),
             _ => false,
         },
         b't' => match second {

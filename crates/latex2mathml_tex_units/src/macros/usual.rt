@@ -1,13 +1,14 @@
 //! The usual macros.
 ghost use Rattle.std.specs.Prelude.{◌≡◌, ◌<◌, IfOk, IsTrue, [], length, map, option_map};
-ghost use Rattle.std.specs.Option.{is_some, unwrap_or};
+ghost use Rattle.std.specs.Option.{is_some};
 ghost use Rattle.std.specs.Str.{chars};
-ghost use Rattle.latex2mathml_tex_grammar.specs.{Cutting.units_of, Definitions.parts_of, Sorted.ascending, UsualMacros.entry_macro, UsualMacros.listed, UsualMacros.macro_with, UsualMacros.usual_entries, UsualMacros.usual_macros};
-ghost use Rattle.latex2mathml_tex_units.specs.{Bodies.entry_of, Bodies.macro_of, Bodies.named_entry, Bodies.parts_in, Taking.unit_of};
+ghost use Rattle.latex2mathml_tex_grammar.specs.{Cutting.units_of, Sorted.ascending};
+ghost use Rattle.latex2mathml_tex_grammar.specs.UsualMacros.{body_with, entry_macro, listed, macro_with, other_macro, other_named, usual_entries, usual_macros};
+ghost use Rattle.latex2mathml_tex_units.specs.{Bodies.entry_of, Bodies.macro_of, Bodies.named_entry, Bodies.other_of, Bodies.parts_in, Taking.unit_of};
 
 use crate::lexer::Lexer;
-use crate::macros::part::{Macro, Part, parts_of};
-use crate::unit::{Next, Unit};
+use crate::macros::part::{Lead, Macro, Part, Taken, Takes, parts_of};
+use crate::unit::{Next, Piece, Unit};
 use latex2mathml_tex_commands::commands::order;
 use std::alloc::{AllocError, Global};
 use std::cmp::Ordering;
@@ -30,7 +31,7 @@ fn entries() -> &'static [Usual]
 
 /// An entry for each macro, in the order of their names' bytes.
 #[rattlefmt::skip]
-static ENTRIES: [Usual; 167] = [
+static ENTRIES: [Usual; 168] = [
     Usual { name: "(", arity: 0, body: "$" },
     Usual { name: ")", arity: 0, body: "$" },
     Usual { name: "*", arity: 0, body: "" },
@@ -155,6 +156,7 @@ static ENTRIES: [Usual; 167] = [
     Usual { name: "rlap", arity: 1, body: "\\mathrlap{\\text{#1}}" },
     Usual { name: "rmfamily", arity: 0, body: "\\rm" },
     Usual { name: "rq", arity: 0, body: "'" },
+    Usual { name: "sb", arity: 0, body: "_" },
     Usual { name: "scriptsize", arity: 0, body: "" },
     Usual { name: "scshape", arity: 0, body: "" },
     Usual { name: "setlength", arity: 2, body: "" },
@@ -169,10 +171,10 @@ static ENTRIES: [Usual; 167] = [
     Usual { name: "slash", arity: 0, body: "/" },
     Usual { name: "slshape", arity: 0, body: "\\it" },
     Usual { name: "small", arity: 0, body: "" },
+    Usual { name: "sp", arity: 0, body: "^" },
     Usual { name: "splitdfrac", arity: 2, body: "\\genfrac{}{}{0pt}{0}{#1\\quad}{\\quad #2}" },
     Usual { name: "splitfrac", arity: 2, body: "\\genfrac{}{}{0pt}{1}{#1\\quad}{\\quad #2}" },
     Usual { name: "strut", arity: 0, body: "\\vphantom{(}" },
-    Usual { name: "tag", arity: 1, body: "\\qquad\\text{(#1)}" },
     Usual { name: "textsubscript", arity: 1, body: "\\mbox{$_{\\mbox{#1}}$}" },
     Usual { name: "textsuperscript", arity: 1, body: "\\mbox{$^{\\mbox{#1}}$}" },
     Usual { name: "tiny", arity: 0, body: "" },
@@ -200,6 +202,80 @@ static ENTRIES: [Usual; 167] = [
     Usual { name: "xspace", arity: 0, body: "" },
 ];
 
+/// A usual macro that takes more than arguments, with the text of its body.
+#[derive(Clone, Copy)]
+enum Other {
+    /// It takes two arguments, the first of which ends before this command.
+    Divided {
+        command: &'static str,
+        body: &'static str,
+    },
+    /// It takes one argument, and a star if one comes next, which changes the body.
+    Starred {
+        starred: &'static str,
+        body: &'static str,
+    },
+}
+
+/// Returns the one with this name.
+fn other_named(name: &str) -> Option<Other>
+    ensures { option_map other_of result ≡ other_named name.now }
+{
+    if name == "buildrel" {
+        Some(Other::Divided {
+            command: "over",
+            body: "\\stackrel{#1}{#2}",
+        })
+    } else if name == "lower" {
+        Some(Other::Divided {
+            command: "hbox",
+            body: "\\raisebox{-#1}{#2}",
+        })
+    } else if name == "raise" {
+        Some(Other::Divided {
+            command: "hbox",
+            body: "\\raisebox{#1}{#2}",
+        })
+    } else if name == "root" {
+        Some(Other::Divided {
+            command: "of",
+            body: "\\sqrt[{#1}]{#2}",
+        })
+    } else if name == "tag" {
+        Some(Other::Starred {
+            starred: "\\qquad\\text{#1}",
+            body: "\\qquad\\text{(#1)}",
+        })
+    } else {
+        None
+    }
+}
+
+impl Other {
+    /// Returns its macro.
+    fn into_macro<'a>(self, alloc: Global) -> Result<Macro<'a>, AllocError>
+        ensures { IfOk result (λ found. macro_of found ≡ other_macro (other_of self)) }
+    {
+        match self {
+            Other::Divided { command, body } => {
+                let mut takes = Vec::new(alloc);
+                takes.extend_from_slice(&[
+                    Taken::Parameter,
+                    Taken::Sign(Piece::Command(command)),
+                    Taken::Parameter,
+                ])?;
+                Ok(Macro::taking(takes, body_of(alloc, 2, body)?))
+            }
+            Other::Starred { starred, body } => Ok(Macro {
+                alias: None,
+                lead: Lead::Star(body_of(alloc, 1, starred)?),
+                takes: Takes::Arguments(1),
+                body: body_of(alloc, 1, body)?,
+            }),
+        }
+    }
+}
+
 /// Returns the entry with this name, if the sorted entries have one. Each comparison halves the entries that are left.
 fn find(table: &[Usual], name: &str) -> Option<Usual>
     requires ordered { IsTrue (ascending (map named_entry table.now)) }
@@ -220,18 +296,31 @@ fn find(table: &[Usual], name: &str) -> Option<Usual>
     None
 }
 
+/// Returns the entry with this name, if there is one.
+fn entry_named(name: &str) -> Option<Usual>
+    ensures { option_map (λ entry. macro_with entry.arity entry.body.now) result
+        ≡ entry_macro usual_entries name.now }
+{
+    find(entries(), name)
+}
+
 /// Whether a usual macro has this name.
+#[tactic(auto, unfolding(latex2mathml_tex_grammar::specs::UsualMacros::usual_macros))]
 pub(crate) fn is_usual(name: &str) -> bool
     ensures { result ≡ is_some (usual_macros name.now) }
 {
-    find(entries(), name).is_some()
+    other_named(name).is_some() || entry_named(name).is_some()
 }
 
 /// Returns the usual macro with this name, if there is one.
+#[tactic(auto, unfolding(latex2mathml_tex_grammar::specs::UsualMacros::usual_macros))]
 pub(crate) fn usual_macro<'a>(alloc: Global, name: &str) -> Result<Option<Macro<'a>>, AllocError>
     ensures { IfOk result (λ found. option_map macro_of found ≡ usual_macros name.now) }
 {
-    let Some(entry) = find(entries(), name) else {
+    if let Some(other) = other_named(name) {
+        return Ok(Some(other.into_macro(alloc)?));
+    }
+    let Some(entry) = entry_named(name) else {
         return Ok(None);
     };
     let body = body_of(alloc, entry.arity, entry.body)?;
@@ -240,8 +329,7 @@ pub(crate) fn usual_macro<'a>(alloc: Global, name: &str) -> Result<Option<Macro<
 
 /// Returns the body with this text, of a macro with `arity` arguments.
 fn body_of<'a>(alloc: Global, arity: usize, text: &'a str) -> Result<Vec<Part<'a>>, AllocError>
-    ensures { IfOk result (λ parts. parts_in parts
-        ≡ unwrap_or (parts_of arity (listed (units_of 0 (chars text.now)))) []) }
+    ensures { IfOk result (λ parts. parts_in parts ≡ body_with arity text.now) }
 {
     let units = units_of(alloc, text)?;
     match parts_of(alloc, arity, &units)? {
