@@ -16,6 +16,8 @@ pytestmark = [pytest.mark.long, pytest.mark.timeout(1800)]
 # A search among four times the names takes a few steps more.
 FEW, MANY = 10_000, 40_000
 MOST_TIMES = 4.1 * math.log(MANY) / math.log(FEW)
+# what it takes to compare a name with all of a node, which are at most eleven
+OF_A_NODE = 11 * 60
 # what a run takes at most, whatever it expands
 MOST_INSTRUCTIONS = 150_000_000
 MOST_BYTES = 32 << 20
@@ -78,7 +80,8 @@ class Definitions(support.Case):
 
     @support.requires("valgrind")
     def test_formulas(self):
-        """A formula takes hardly more if there are four times as many macros."""
+        """A formula takes hardly more if there are four times as many macros: what a search among one more node of names takes, for
+        each of its two names."""
         counts = []
         for count in (FEW, MANY):
             defined, formula = definitions(count)
@@ -86,4 +89,4 @@ class Definitions(support.Case):
             command = [support.tex_program(), "--null", *words]
             one, many = (instructions(command, stdin=given * formulas) for formulas in (1, 1001))
             counts.append((many - one) / 1000)
-        self.assertLessEqual(counts[1], MOST_TIMES / 4 * counts[0])
+        self.assertLessEqual(counts[1] - counts[0], 2 * OF_A_NODE)

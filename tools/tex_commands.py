@@ -8,7 +8,7 @@ import tomllib
 import unicodedata
 
 from tools.listing import code, item, order, shown, table
-from tools.tables import LITERAL, WrongForm, answers, arms, entries, value
+from tools.tables import LITERAL, TEXT, WrongForm, answers, arms, entries, function, value
 
 COMMANDS, UNITS = "latex2mathml_tex_commands/src", "latex2mathml_tex_units/src"
 SECTIONS = tomllib.loads((pathlib.Path(__file__).parent / "tex_commands.toml").read_text(encoding="utf-8"))
@@ -46,6 +46,22 @@ def macros():
     return entries(f"{UNITS}/macros/usual.rt", "ENTRIES", "name", "arity", "body")
 
 
+def other_macros():
+    """The usual macros that take more than arguments: the name, the form, what else it has, and the body."""
+    written = " ".join(function(f"{UNITS}/macros/usual.rt", "other_named").split())
+    found = re.findall(rf"name == ({TEXT}) {{ Some\(Other::(\w+) {{ \w+: ({TEXT}), body: ({TEXT}), }}\)", written)
+    if len(found) != written.count("Some(Other::"):
+        raise WrongForm(f"{len(found)} of {written.count('Some(Other::')} usual macros that take more than arguments can be read")
+    return found
+
+
+def uses_of(name, form, other, body):
+    """How such a macro is used, and what it expands to."""
+    if form == "Divided":
+        return [(f"\\{value(name)} #1\\{value(other)}{{#2}}", body)]
+    return [(f"\\{value(name)}{{#1}}", body), (f"\\{value(name)}*{{#1}}", other)]
+
+
 def forms():
     """Everything that is listed, and how the code writes what it is."""
     yield from ((f"\\{value(name)}", meaning) for name, meaning in commands())
@@ -60,6 +76,7 @@ def forms():
         yield value(name), f'Environment("{"".join(map(value, re.findall(LITERAL, delimiters)))}", {", ".join(others)})'
     for name, arity, body in macros():
         yield f"\\{value(name)}" + "".join(f"{{#{number + 1}}}" for number in range(int(arity))), f"Usual({body})"
+    yield from ((use, f"Usual({body})") for it in other_macros() for use, body in uses_of(*it))
     yield from ((f"\\{name}", word) for name, word in answers(f"{UNITS}/macros/definitions.rt", "word_named", r"Word::(\w+)"))
     yield from ((f"\\{name}", "Line") for name, _ in answers(f"{UNITS}/row_lines.rt", "is_line", r"(\))"))
 
@@ -84,7 +101,7 @@ def entry_of(name, written):
 
 def lines():
     yield (f"It reads {len(commands())} commands, {len(environments())} environments, {len(characters())} characters "
-           f"and {len(macros())} usual macros.")
+           f"and {len(macros()) + len(other_macros())} usual macros.")
     for section, forms in SECTIONS.items():
         yield from ("", f"### {section}", "", *([forms["text"], ""] if "text" in forms else []))
         yield from section_lines([it for it in listed() if it.place.section == section])
