@@ -47,9 +47,9 @@ def macros():
 
 
 def other_macros():
-    """The usual macros that take more than arguments: the name, the form, what else it has, and the body."""
+    """The usual macros that take more than arguments: the name, the form, what else it has if it has more, and the body."""
     written = " ".join(function(f"{UNITS}/macros/usual.rt", "other_named").split())
-    found = re.findall(rf"name == ({TEXT}) {{ Some\(Other::(\w+) {{ \w+: ({TEXT}), body: ({TEXT}), }}\)", written)
+    found = re.findall(rf"name == ({TEXT}) {{ Some\(Other::(\w+) {{ (?:\w+: ({TEXT}), )?body: ({TEXT}),? }}\)", written)
     if len(found) != written.count("Some(Other::"):
         raise WrongForm(f"{len(found)} of {written.count('Some(Other::')} usual macros that take more than arguments can be read")
     return found
@@ -59,6 +59,8 @@ def uses_of(name, form, other, body):
     """How such a macro is used, and what it expands to."""
     if form == "Divided":
         return [(f"\\{value(name)} #1\\{value(other)}{{#2}}", body)]
+    if form == "Optional":
+        return [(f"\\{value(name)}[#1]{{#2}}", body)]
     return [(f"\\{value(name)}{{#1}}", body), (f"\\{value(name)}*{{#1}}", other)]
 
 

@@ -35,6 +35,7 @@ around_name around.Unseen = Mphantom
 around_name (around.Boxed b) = Mpadded
 around_name (around.Raised length) = Mpadded
 around_name (around.Colored color) = Mstyle
+around_name (around.Scaled scale) = Mstyle
 around_name (around.Before color) = Mpadded
 
 abbrev pub around_attributes : Around → Attributes
@@ -42,6 +43,7 @@ around_attributes around.Unseen = plain
 around_attributes (around.Boxed b) = boxed (boxing_of b)
 around_attributes (around.Raised length) = record plain { raised = length }
 around_attributes (around.Colored color) = record plain { color = Some (color_of color) }
+around_attributes (around.Scaled scale) = record plain { scale = Some scale }
 around_attributes (around.Before color) = record plain { background = Some (color_of color) }
 
 -- the element around another

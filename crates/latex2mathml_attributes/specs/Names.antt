@@ -86,6 +86,7 @@ attributes_of a = record {
   style = option_map math_style_of a.style;
   boxing = boxing_in a.box_style a.room;
   raised = pos 0;
+  scale = None;
   color = None;
   background = None;
 }

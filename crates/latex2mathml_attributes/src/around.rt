@@ -1,12 +1,12 @@
 //! Elements around one other element.
-ghost use Rattle.std.specs.Prelude.{◌≡◌, ◌<◌, ◌++◌, OnOk, codes, string_bytes};
+ghost use Rattle.std.specs.Prelude.{◌≡◌, ◌<◌, ◌++◌, OnOk, codes, pos, string_bytes};
 ghost use Rattle.latex2mathml_elements.specs.Attributes.{boxed};
 ghost use Rattle.latex2mathml_elements.specs.Colors.{color_code, hexadecimal, two_digits};
-ghost use Rattle.latex2mathml_elements.specs.Extents.{length_if_any};
+ghost use Rattle.latex2mathml_elements.specs.Extents.{length_if_any, length_text};
 ghost use Rattle.latex2mathml_elements.specs.Print.{container_name, end_tag, start_tag};
 ghost use Rattle.latex2mathml_attributes.specs.Arounds.{around_attributes, around_name, boxing_of, color_of};
 
-use crate::extent::append_if_any;
+use crate::extent::{append_if_any, append_length};
 use std::alloc::AllocError;
 
 /// A color: how much of each primary color there is.
@@ -48,6 +48,8 @@ pub enum Around {
     /// The inner element is raised above its place by this number of thousandths of an em.
     Raised(i32),
     Colored(Color),
+    /// The letters of the inner element are this number of thousandths as large as those around it.
+    Scaled(u16),
     /// The inner element has this background color.
     Before(Color),
 }
@@ -93,6 +95,7 @@ impl Around {
             }
             Around::Raised(length) => append_raised(length, out),
             Around::Colored(color) => append_colored("<mstyle mathcolor=\"", color, out),
+            Around::Scaled(scale) => append_scaled(scale, out),
             Around::Before(color) => append_colored("<mpadded mathbackground=\"", color, out),
         }
     }
@@ -103,7 +106,7 @@ impl Around {
     {
         match self {
             Around::Unseen => "</mphantom>",
-            Around::Colored(_) => "</mstyle>",
+            Around::Colored(_) | Around::Scaled(_) => "</mstyle>",
             Around::Boxed(_) | Around::Raised(_) | Around::Before(_) => "</mpadded>",
         }
     }
@@ -116,6 +119,17 @@ fn append_raised(length: i32, out: &mut String) -> Result<(), AllocError>
 {
     out.push_str("<mpadded")?;
     append_if_any(" voffset=\"", length, out)?;
+    out.push_str(">")?;
+    Ok(())
+}
+
+/// Appends the start tag of an element whose letters are this number of thousandths as large as those around it.
+fn append_scaled(scale: u16, out: &mut String) -> Result<(), AllocError>
+    ensures { OnOk result (string_bytes out.new ≡ string_bytes out.old
+        ++ (codes "<mstyle" ++ (length_text (codes "mathsize") (pos scale) ++ codes ">"))) }
+{
+    out.push_str("<mstyle")?;
+    append_length(" mathsize=\"", i32::from(scale), out)?;
     out.push_str(">")?;
     Ok(())
 }

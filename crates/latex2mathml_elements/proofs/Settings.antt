@@ -4,7 +4,7 @@ use Rattle.std.specs.{Cmp.Lexicographic.bytes_decides, List.flat_map, List.list_
 use Rattle.std.proofs.{lemmas.Grind.flat_map-append, lemmas.List.Folds.list_all-append, lemmas.List.Folds.list_all-map}
 use Rattle.latex2mathml_elements.specs.{Attributes.Attributes, Attributes.Boxing, Columns.Alignment, Columns.Column, Columns.Density, Columns.Spacing, Lines.Line, Lines.RowLines}
 use Rattle.latex2mathml_elements.specs.Attributes as boxes
-use Rattle.latex2mathml_elements.specs.Print.{accent_text, alignment_style, alignment_text, attributes_text, border_style, boxing_text, column_style, column_text, form_text, if_so, lines_text, math_tag, size_text, space_text, sides_style, stretch_text, style_text}
+use Rattle.latex2mathml_elements.specs.Print.{accent_text, alignment_style, alignment_text, attributes_text, border_style, boxing_text, column_style, column_text, form_text, if_so, lines_text, math_tag, scale_text, size_text, space_text, sides_style, stretch_text, style_text}
 use Rattle.latex2mathml_elements.specs.Colors.{Color, color_code, color_text}
 use Rattle.latex2mathml_elements.specs.Extents.{Extent, black_text, ems, extent_text, length_if_any, length_text, width_start}
 use Rattle.latex2mathml_elements.proofs.Plain.{IsPlain, IsQuotable, color_quotable, ems_quotable, is_plain, name_plain, width_quotable}
@@ -124,6 +124,10 @@ boxing (Some boxes.JoinedLines) = words _ refl
 boxing (Some (boxes.AtMost width)) =
     quoted (codes "style") (codes "max-width: " ++ ems (pos width)) (codes "em") refl refl (ems_quotable (pos width))
 
+scale : (size : Option ℕ) → AreSettings (scale_text size)
+scale None = nothing
+scale (Some size) = measure (codes "mathsize") refl (pos size)
+
 pub settings : (a : Attributes) → AreSettings (attributes_text a)
 settings a =
     beside (words (if_so a.upright (codes " mathvariant=\"normal\"")) (grind arith))
@@ -140,8 +144,9 @@ settings a =
     (beside (words (style_text a.style) (grind arith))
     (beside (boxing a.boxing)
     (beside (measure_if_any (codes "voffset") refl a.raised)
+    (beside (scale a.scale)
     (beside (color (codes "mathcolor") refl a.color)
-    (color (codes "mathbackground") refl a.background)))))))))))))))
+    (color (codes "mathbackground") refl a.background))))))))))))))))
 
 alignment_quotable : (alignment : Alignment) → IsQuotable (alignment_style alignment)
 alignment_quotable alignment = grind arith

@@ -101,13 +101,15 @@ pub record Attributes : Type 0 where
   pub boxing : Option Boxing
   -- how far a box is raised above its place, in thousandths of an em
   pub raised : ℤ
+  -- how large letters are, in thousandths of those around it
+  pub scale : Option ℕ
   -- the color of what is in it, and of its background
   pub color : Option Color
   pub background : Option Color
 
 -- an element without attributes
 abbrev pub plain : Attributes
-plain = record { upright = false; form = None; stretch = None; fence = false; separator = false; size = None; space = None; limits_stay = false; keeps_size = false; accent = None; no_line = false; style = None; boxing = None; raised = pos 0; color = None; background = None }
+plain = record { upright = false; form = None; stretch = None; fence = false; separator = false; size = None; space = None; limits_stay = false; keeps_size = false; accent = None; no_line = false; style = None; boxing = None; raised = pos 0; scale = None; color = None; background = None }
 
 -- an element with this style of its own, if any
 abbrev pub styled : Option MathStyle → Attributes

@@ -1,10 +1,10 @@
 -- How elements are written.
-use Rattle.std.specs.Prelude.{ℕ, Bool, true, false, ◌||◌, List, [], ◌++◌, Option, Some, None, codes}
+use Rattle.std.specs.Prelude.{ℕ, pos, Bool, true, false, ◌||◌, List, [], ◌++◌, Option, Some, None, codes}
 use Rattle.latex2mathml_elements.specs.Attributes.{Attributes, Side, Above, Below, Form, Prefix, Infix, Postfix, Stretch, Stretching, Rigid, Space, NoSpace, Narrow, Medium, Thick, NoSpaceBefore, ThinAfter, ThickAfter, Size, Big, Bigger, VeryBig, Biggest, MathStyle, DisplayStyle, TextStyle, ScriptStyle, Boxing, NoWidth, Flat, NoHeight, NoDepth, ByItsWidth, ByHalfItsWidth, Framed, StruckUp, StruckDown, StruckTwice, NullDelimiters, ArrowLabel, Unclipped, Monospaced, JoinedLines, AtMost}
 use Rattle.latex2mathml_elements.specs.Columns.{Alignment, LeftAligned, RightAligned, Continued, Density, Dense, Opened, Spacing, Unspaced, SpaceBefore, SpaceAround, Column}
 use Rattle.latex2mathml_elements.specs.Element.{Token, Mi, Mn, Mo, Mtext, Container, Mrow, Msqrt, Mstyle, Mpadded, Mphantom, Pair, Mfrac, Mroot, Msub, Msup, Munder, Mover, Triple, Msubsup, Munderover, Element, Elements, Rows, Cells, token, space, rectangle, container, pair, triple, table, none, more, one_row, more_rows, one_cell, more_cells}
 use Rattle.latex2mathml_elements.specs.Lines.{Line, NoLine, OneLine, TwoLines, Dashes, RowLines, is_lined}
-use Rattle.latex2mathml_elements.specs.{Colors.color_text, Extents.extent_text, Extents.length_if_any, Extents.width_start}
+use Rattle.latex2mathml_elements.specs.{Colors.color_text, Extents.extent_text, Extents.length_if_any, Extents.length_text, Extents.width_start}
 use Rattle.latex2mathml_tokens.specs.Escape.{content}
 use Rattle.latex2mathml_trees.specs.Width.{thousandths_text, width_text}
 
@@ -121,6 +121,11 @@ boxing_text (Some Monospaced) = codes " style=\"font-family: monospace\""
 boxing_text (Some JoinedLines) = codes " style=\"border-collapse: collapse\""
 boxing_text (Some (AtMost width)) = codes " style=\"max-width: " ++ (thousandths_text width ++ codes "em\"")
 
+-- a size of letters is relative to that around the element
+abbrev pub scale_text : Option ℕ → List ℕ
+scale_text None = []
+scale_text (Some scale) = length_text (codes "mathsize") (pos scale)
+
 -- all attributes, each with a space before it
 abbrev pub attributes_text : Attributes → List ℕ
 attributes_text a =
@@ -138,8 +143,9 @@ attributes_text a =
     ++ (style_text a.style
     ++ (boxing_text a.boxing
     ++ (length_if_any (codes "voffset") a.raised
+    ++ (scale_text a.scale
     ++ (color_text (codes "mathcolor") a.color
-    ++ color_text (codes "mathbackground") a.background))))))))))))))
+    ++ color_text (codes "mathbackground") a.background)))))))))))))))
 
 -- the alignment of a column is written twice: some browsers read this attribute, others the style
 abbrev pub alignment_text : Alignment → List ℕ

@@ -233,5 +233,5 @@ module _ {place : ℕ} {a : Option Alphabet} {K : Outcome Words → Type 0} {ws 
   word_due e same k (Refused r) d = k _ (word_refused e d)
 
   -- the words after a change are in its alphabet
-  pub changed_due : {u : Unit} {l : Units} {b : Alphabet} → IsFalse (is_close u.piece) → word_rule a u.piece ≡ IsWord (Changed b) → alphabet_behind a u.piece ≡ Some b → PartMade (words place a K) (Read ws (Next u l)) → PartMade (words place (Some b) K) (Read ws l)
+  pub changed_due : {u : Unit} {l : Units} {b : Alphabet} → IsFalse (is_close u.piece) → word_rule a u.piece ≡ IsWord (Changed (Some b)) → alphabet_behind a u.piece ≡ Some b → PartMade (words place a K) (Read ws (Next u l)) → PartMade (words place (Some b) K) (Read ws l)
   changed_due {l = l} e rule behind k = λ o ds. k o (word_read e (word_stands rule) (subst (λ c. ReadsWords place c ws l o) (sym behind) ds))

@@ -10,7 +10,7 @@ use Rattle.latex2mathml_tex_grammar.specs.Reading.{Outcome, Read, Refused, Reads
 use Rattle.latex2mathml_elements.specs.Colors.{Color}
 use Rattle.latex2mathml_tex_grammar.specs.{Colors.color_of, Meaning.ToColor}
 use Rattle.latex2mathml_tex_grammar.specs.Refusal.{Refusal, UnknownColor, refusal_at}
-use Rattle.latex2mathml_tex_grammar.specs.Scanning.{BeforeArgument, ColorName}
+use Rattle.latex2mathml_tex_grammar.specs.Scanning.{BeforeColor}
 use Rattle.latex2mathml_tex_grammar.specs.Rests.{Rest, GoesOnIn, NoRest, finished, recolored, rest_behind_name, rest_in, rest_of}
 use Rattle.latex2mathml_tex_grammar.specs.Rules.{Context as RuleContext}
 use Rattle.latex2mathml_tex_grammar.specs.Units.{Units}
@@ -82,11 +82,11 @@ row_finished s p b style row whole is below e place u g =
 abbrev no_color : ℕ → List ℕ → Refusal
 no_color place name = refusal_at (UnknownColor name) place
 
-pub no_color_rest : (c : RuleContext) (row : Row) (place : ℕ) (l : Units) (r : Refusal) → NoValue place (BeforeArgument ColorName) color_of (no_color place) l r → rest_of ToColor c row place l ≡ NoRest r
+pub no_color_rest : (c : RuleContext) (row : Row) (place : ℕ) (l : Units) (r : Refusal) → NoValue place BeforeColor color_of (no_color place) l r → rest_of ToColor c row place l ≡ NoRest r
 no_color_rest c row place l r (is_missing e) = ap (rest_behind_name c row place) e
 no_color_rest c row place l r (has_none {text = name} {m = m} e none) = ap (rest_behind_name c row place) e ∙ ap (rest_in name c row place m) none
 
-pub color_rest : (c : RuleContext) (row : Row) (place : ℕ) (p q : Parser) (color : Color) → TookValue place (BeforeArgument ColorName) color_of (no_color place) p q (Some color) → rest_of ToColor c row place (left_of p) ≡ GoesOnIn c (recolored color c.style row) (left_of q)
+pub color_rest : (c : RuleContext) (row : Row) (place : ℕ) (p q : Parser) (color : Color) → TookValue place BeforeColor color_of (no_color place) p q (Some color) → rest_of ToColor c row place (left_of p) ≡ GoesOnIn c (recolored color c row) (left_of q)
 color_rest c row place p q color (same, (name, (is, known))) = ap (rest_behind_name c row place) is ∙ ap (rest_in name c row place (left_of q)) known
 
 module _ (p : Parser) (fr : Frames) (f : Frame) (e : Ending) (at : ℕ) (context : Context) (row : CodeRow) (inner : IsInnermost p.style p.frames.stack.items f fr.stack.items) (is : f ≡ frame.Row e at context row) where

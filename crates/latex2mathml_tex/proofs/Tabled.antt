@@ -9,7 +9,7 @@ use Rattle.latex2mathml_builder.specs.Built.{Built, elements_in}
 use Rattle.latex2mathml_attributes.specs.Columns.{columns_of}
 use Rattle.latex2mathml_tex_grammar.specs.{RowGaps.gap_at, RowLines.line_next, RowLines.lined, Atoms.Kind, Rows.Row, Rows.lone, Rows.row_element, Scanning.BeforeRow, Scanning.past, Scanning.past_break, Scanning.past_gap}
 use Rattle.latex2mathml_tex_grammar.specs.Reading.{Outcome, Read, Refused, ReadsAtoms, ReadsRows, cell_read, cell_refused, next_cell, next_row, table_ends, text_ends_table}
-use Rattle.latex2mathml_tex_grammar.specs.Rules.{Context as RuleContext, InCell, TableEnd, in_context, styled}
+use Rattle.latex2mathml_tex_grammar.specs.Rules.{Context as RuleContext, InCell, TableEnd, styled}
 use Rattle.latex2mathml_tex_grammar.specs.Starts.{PartsCells, EndsRow, EndsTable as TableEnds, cell_end}
 use Rattle.latex2mathml_tex_grammar.specs.Tables.{Lines, a_row, row_of, before_cell, begun_cell, cell_of, with_last}
 use Rattle.latex2mathml_tex_grammar.specs.Units.{Units, End}
@@ -57,7 +57,7 @@ module _ (s : Start) (p : Parser) (t : Table) (place : ℕ) where
   cell_begins f around context st row can is inner restyled same row_is before g =
       let outer : context_of around ≡ context_at around_it = ap context_of is ∙ context_is s p.style p.frames.stack.items f (drop beside (elements_of p)) g.style inner in
       let own : context_of context ≡ cell_context t (context_at around_it) =
-      ap context_of restyled ∙ ap (λ x. in_context x (context_of around).alphabet) same ∙ ap (λ c. styled c (style_in t.kind)) outer in
+      ap context_of restyled ∙ ap (λ x. styled (context_of around) x) same ∙ ap (λ c. styled c (style_in t.kind)) outer in
       let count : length (cells_of t (elements_of p)) ≡ t.cells = length-take-le t.cells (elements_of p) (omega (arith, can.elements)) in
       let begun : row_with row (elements_of p) ≡ begun_cell (columns_of t.columns) (length (cells_of t (elements_of p))) =
       begun_is row (columns_of t.columns) t.cells (length (cells_of t (elements_of p))) (elements_of p) row_is before count in

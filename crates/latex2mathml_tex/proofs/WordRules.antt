@@ -17,12 +17,12 @@ use Rattle.latex2mathml_tex_commands.specs.Meanings.{alphabet_of}
 use Rattle.latex2mathml_tex.specs.{Frames.Start, Levels.Leads, Levels.PartMade, WordCommands.rule_of}
 use Rattle.latex2mathml_tex.specs.declared.parse.word_commands.WordCommand.{WordCommand}
 use Rattle.latex2mathml_tex.specs.declared.parse.word_commands.WordCommand.TheVariants as word_command
-use Rattle.latex2mathml_tex_atoms.specs.Models.{begun, words_with}
+use Rattle.latex2mathml_tex_atoms.specs.Models.{begun, usual_context, words_with}
 use Rattle.latex2mathml_tex_commands.specs.Meanings
 use Rattle.latex2mathml_tex.specs.Steps.{BeginsWordOf, GoesOnInBraces, HasElements, Holds, Advances, elements_of, left_of, level, level_within}
-use Rattle.latex2mathml_tex_atoms.specs.declared.{atoms.Row.Row as CodeRow, atoms.Words.Words as CodeWords}
+use Rattle.latex2mathml_tex_atoms.specs.declared.{atoms.Context.Context as CodeContext, atoms.Row.Row as CodeRow, atoms.Words.Words as CodeWords}
 use Rattle.latex2mathml_tex.specs.declared.{parse.Parser.Parser, parse.State.State, parse.frames.Frames.Frames}
-use Rattle.latex2mathml_tex_commands.specs.declared.meaning.{Alphabet.Alphabet as CodeAlphabet, Meaning.Meaning as CodeMeaning, Symbol.Symbol as CodeSymbol}
+use Rattle.latex2mathml_tex_commands.specs.declared.meaning.{Alphabet.Alphabet as CodeAlphabet, Meaning.Meaning as CodeMeaning, Symbol.Symbol as CodeSymbol, TextSize.TextSize}
 use Rattle.latex2mathml_tex_commands.specs.declared.meaning.Change.TheVariants as code_change
 use Rattle.latex2mathml_tex_commands.specs.declared.meaning.Meaning.TheVariants as code_meaning
 use Rattle.latex2mathml_tex_commands.specs.declared.meaning.Style.TheVariants as code_style
@@ -43,6 +43,7 @@ pub record IsNoWord (m : CodeMeaning) : Type 0 where
   pub no_space : (width : ℤ) → m ≡ code_meaning.Spacing width → ⊥
   pub no_words : (b : Option CodeAlphabet) → m ≡ code_meaning.Words b → ⊥
   pub no_alphabet : (b : CodeAlphabet) → m ≡ code_meaning.Changes (code_change.ToAlphabet b) → ⊥
+  pub no_size : (size : TextSize) → m ≡ code_meaning.Changes (code_change.ToSize size) → ⊥
 
 pub no_word_meant : (font : words.Font) (name : List ℕ) (m : CodeMeaning) → IsNoWord m → meaning_rule font name (Some (Meanings.meaning_of m)) ≡ NoWord (CommandInWords name)
 no_word_meant font name (code_meaning.Shows symbol) none = absurd (none.no_sign symbol refl)
@@ -50,11 +51,12 @@ no_word_meant font name code_meaning.Dots none = absurd (none.no_dots refl)
 no_word_meant font name (code_meaning.Spacing width) none = absurd (none.no_space width refl)
 no_word_meant font name (code_meaning.Words b) none = absurd (none.no_words b refl)
 no_word_meant font name (code_meaning.Changes (code_change.ToAlphabet b)) none = absurd (none.no_alphabet b refl)
+no_word_meant font name (code_meaning.Changes (code_change.ToSize size)) none = absurd (none.no_size size refl)
 no_word_meant font name m none = refl
 
 -- most commands change no alphabet
-pub kept_by : (a : Option Alphabet) (font : words.Font) (name : List ℕ) (w : WordCommand) → ((b : CodeAlphabet) → w ≡ word_command.Alphabet b → ⊥) → alphabet_after a (rule_of font name w) ≡ a
-kept_by a font name (word_command.Alphabet b) none = absurd (none b refl)
+pub kept_by : (a : Option Alphabet) (font : words.Font) (name : List ℕ) (w : WordCommand) → ((b : CodeAlphabet) → w ≡ word_command.Change (Some b) → ⊥) → alphabet_after a (rule_of font name w) ≡ a
+kept_by a font name (word_command.Change (Some b)) none = absurd (none b refl)
 kept_by a font name w none = refl
 
 -- a command that cannot appear in words is refused, if there is memory for its name
@@ -114,10 +116,10 @@ module _ (s : Start) (p : Parser) (ws : CodeWords) (place : ℕ) where
       }
 
   -- a formula, after words whose accent has ended
-  pub formula_begun : (b : Built) (after : CodeWords) (piece : Piece) (a : Option Alphabet) (inside : Option CodeAlphabet) (row : CodeRow) → Replaced with_accent_ended ws (elements_of p) after (elements_in b) → row ≡ begun → option_map alphabet_of inside ≡ formula_alphabet a → word_rule a piece ≡ BeginsFormula → BeginsWordOf ws piece place a s p
-      → Leads (level_within (frame.Row (ending.Formula after.count) place (record { style = code_style.InText; alphabet = inside }) row) 0 s (record p { builder = b })) (left_of p)
-  formula_begun b after piece a inside row r empty same rule g =
+  pub formula_begun : (b : Built) (after : CodeWords) (piece : Piece) (a : Option Alphabet) (inside : Option CodeAlphabet) (context : CodeContext) (row : CodeRow) → context ≡ usual_context code_style.InText inside → Replaced with_accent_ended ws (elements_of p) after (elements_in b) → row ≡ begun → option_map alphabet_of inside ≡ formula_alphabet a → word_rule a piece ≡ BeginsFormula → BeginsWordOf ws piece place a s p
+      → Leads (level_within (frame.Row (ending.Formula after.count) place context row) 0 s (record p { builder = b })) (left_of p)
+  formula_begun b after piece a inside context row usual r empty same rule g =
       let due = formula_due (level ws.count s p) {u = grammar.unit piece place} rule g.leads in
       let count : 0 + after.count ≡ after.count = omega arith in
       let elements : take after.count (elements_in b) ≡ (with_accent_ended (words_with ws (elements_of p))).elements = ap (λ (w : words.Words). w.elements) r.words in
-      rw (empty, same) (rw count (rw (elements, r.below) due))
+      rw (usual, empty, same) (rw count (rw (elements, r.below) due))

@@ -111,7 +111,7 @@ pub words_refused : (s : Start) (p q : Parser) (n : ℕ) (r : Refusal) → s.sty
 words_refused s p q n r e f h k = record { style = e ∙ ap style_of (sym f); claims = rw h (part_refuses s p n r k) }
 
 -- nothing is put after words
-pub words_stay : (s : Start) (p : Parser) (ws : CodeWords) {b : Alphabet} → WordGiven ws (Changed b) s p → Holds s p (state.Words ws)
+pub words_stay : (s : Start) (p : Parser) (ws : CodeWords) {b : Option Alphabet} → WordGiven ws (Changed b) s p → Holds s p (state.Words ws)
 words_stay s p ws g = record { style = g.style; claims = g.leads }
 
 -- What a unit is in words

@@ -2,7 +2,7 @@
 use Rattle.std.specs.Prelude.{◌≡◌, ℕ, List, [], ◌∷◌, ◌++◌, None}
 use Rattle.latex2mathml_tex_atoms.specs.Adding.{IsAdded}
 use Rattle.latex2mathml_tex_atoms.specs.declared.atoms.{Context.Context, Core.Core, Row.Row}
-use Rattle.latex2mathml_tex_atoms.specs.Models.{IsFinished, begun, empty_row}
+use Rattle.latex2mathml_tex_atoms.specs.Models.{IsFinished, begun, empty_row, usual_context}
 use Rattle.latex2mathml_tex_commands.specs.declared.meaning.Style.{Style}
 use Rattle.latex2mathml_tex_commands.specs.declared.meaning.Style.TheVariants as style
 use Rattle.latex2mathml_tex.specs.declared.parse.frames.{Braced.Braced, Ending.Ending, Frame.Frame}
@@ -12,7 +12,7 @@ use Rattle.latex2mathml_tex.specs.declared.parse.frames.Frame.TheVariants as fra
 
 -- the row of a whole formula of this style, before its first atom
 abbrev pub begun_row : Style → Frame
-begun_row s = frame.Row ending.Text 0 (record { style = s; alphabet = None }) begun
+begun_row s = frame.Row ending.Text 0 (usual_context s None) begun
 
 -- The frame is the innermost of these, and `others` are the rest. If there are none, it is the row of the whole formula.
 pub data IsInnermost (s : Style) (fs : List Frame) (f : Frame) (others : List Frame) : Type 0 where
@@ -26,7 +26,7 @@ frame_context (frame.Last made place c) = c
 frame_context (frame.First one place c) = c
 frame_context (frame.Negation place c) = c
 frame_context (frame.Script base scripts on place c) = c
-frame_context f = record { style = style.InText; alphabet = None }
+frame_context f = usual_context style.InText None
 
 -- the row of a frame with its context; a frame that is not a row has none
 abbrev pub frame_row : Frame → Context × Row

@@ -284,7 +284,7 @@ pub record BeginsWordOf (ws : CodeWords) (piece : grammar.Piece) (place : ℕ) (
 
 -- In words in an alphabet, this piece is a change to another alphabet, in which the words after it in its group are.
 pub record IsChange (a : Option Alphabet) (piece : grammar.Piece) (other : Alphabet) : Type 0 where
-  pub rule : word_rule a piece ≡ IsWord (Changed other)
+  pub rule : word_rule a piece ≡ IsWord (Changed (Some other))
   pub behind : alphabet_behind a piece ≡ Some other
 
 -- Words in braces that began at a place go on in this alphabet.

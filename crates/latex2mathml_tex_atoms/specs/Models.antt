@@ -10,16 +10,18 @@ use Rattle.latex2mathml_tex_grammar.specs.Rows as rows
 use Rattle.latex2mathml_tex_grammar.specs.Rules as rules
 use Rattle.latex2mathml_tex_grammar.specs.SpaceTable as table
 use Rattle.latex2mathml_tex_grammar.specs.Words as words
-use Rattle.latex2mathml_tex_commands.specs.Meanings.{alphabet_of, class_of, fraction_rule_of, limit_place_of, style_of}
+use Rattle.latex2mathml_tex_commands.specs.Meanings.{alphabet_of, class_of, fraction_rule_of, limit_place_of, style_of, text_size_of}
 use Rattle.latex2mathml_attributes.specs.declared.attributes.Side.{Side}
 use Rattle.latex2mathml_attributes.specs.declared.attributes.Side.TheVariants as side
 use Rattle.latex2mathml_tex_commands.specs.declared.meaning.Class.TheVariants as class
-use Rattle.latex2mathml_tex_commands.specs.declared.meaning.FractionRule.{FractionRule}
-use Rattle.latex2mathml_tex_atoms.specs.declared.atoms.{Before.Before, Context.Context, Core.Core, Joining.Joining, Kind.Kind, Operand.Operand, Restyled.Restyled, Row.Row, Scripts.Scripts, Words.Words}
+use Rattle.latex2mathml_tex_commands.specs.declared.meaning.{Alphabet.Alphabet, FractionRule.FractionRule, Style.Style}
+use Rattle.latex2mathml_tex_commands.specs.declared.meaning.TextSize.TheVariants as text_size
+use Rattle.latex2mathml_tex_atoms.specs.declared.atoms.{Before.Before, Context.Context, Core.Core, Joining.Joining, Kind.Kind, Operand.Operand, Row.Row, Scripts.Scripts, Words.Words}
 use Rattle.latex2mathml_tex_atoms.specs.declared.atoms.Before.TheVariants as before
 use Rattle.latex2mathml_tex_atoms.specs.declared.atoms.Joining.TheVariants as joining
 use Rattle.latex2mathml_tex_atoms.specs.declared.atoms.Kind.TheVariants as kind
 use Rattle.latex2mathml_tex_atoms.specs.declared.fonts.Font.{Font}
+use Rattle.latex2mathml_tex_atoms.specs.declared.rests.Look.{Look}
 use Rattle.latex2mathml_tex_atoms.specs.declared.fonts.Font.TheVariants as font
 use Rattle.latex2mathml_tex_atoms.specs.declared.spaces.Entry.{Entry}
 use Rattle.latex2mathml_tex_atoms.specs.declared.spaces.Entry.TheVariants as entry
@@ -65,7 +67,11 @@ entry_of entry.ThickOutsideScripts = table.ThickOutsideScripts
 entry_of entry.NoEntry = table.NoEntry
 
 abbrev pub context_of : Context → rules.Context
-context_of c = rules.in_context (style_of c.style) (option_map alphabet_of c.alphabet)
+context_of c = record { style = style_of c.style; alphabet = option_map alphabet_of c.alphabet; size = text_size_of c.size }
+
+-- a context of letters of the usual size
+abbrev pub usual_context : Style → Option Alphabet → Context
+usual_context style alphabet = record { style = style; alphabet = alphabet; size = text_size.NormalSize }
 
 -- the top element
 abbrev pub top : List Element → Element
@@ -79,15 +85,19 @@ core_with core x = record { atom = atoms.atom (kind_of core.kind) core.high x; l
 abbrev pub operand_with : Operand → Element → rows.Operand
 operand_with operand x = record { element = x; class = class_of operand.class; high = operand.high }
 
--- the change of style or color in a row, with the elements before it
-abbrev pub restyled_with : Option Restyled → ℕ → List Element → Option rows.Restyled
+abbrev pub look_of : Look → rows.Look
+look_of look = record {
+  group = style_of look.group;
+  group_size = text_size_of look.group_size;
+  has_own_style = look.has_own_style;
+  color = option_map color_of look.color;
+  scale = look.scale;
+}
+
+-- the last change in a row, with the elements before it
+abbrev pub restyled_with : Option Look → ℕ → List Element → Option rows.Restyled
 restyled_with None settled xs = None
-restyled_with (Some change) settled xs = Some (record {
-  before = take settled xs;
-  group = style_of change.group;
-  has_own_style = change.has_own_style;
-  color = option_map color_of change.color;
-})
+restyled_with (Some look) settled xs = Some (record { before = take settled xs; look = look_of look })
 
 -- the upper part of the fraction, if a row is the lower part of one
 abbrev pub under_with : Option FractionRule → List Element → Option rows.Upper
@@ -95,7 +105,7 @@ under_with None xs = None
 under_with (Some rule) xs = Some (record { rule = fraction_rule_of rule; element = top xs })
 
 -- how many elements precede a change, if there was one
-abbrev pub settled_count : Option Restyled → ℕ → ℕ
+abbrev pub settled_count : Option Look → ℕ → ℕ
 settled_count None settled = 0
 settled_count (Some change) settled = settled
 
@@ -111,7 +121,7 @@ row_rest row = settled_count row.restyled row.settled + under_count row.under
 abbrev pub row_count : Row → ℕ
 row_count row = row.count + row_rest row
 
--- A row that is whole at its end: no style or color was changed in it, it is not the lower part of a fraction, and no binary sign
+-- A row that is whole at its end: no style, color or size was changed in it, it is not the lower part of a fraction, and no binary sign
 -- ends it.
 pub record IsFinished (row : Row) : Type 0 where
   pub restyled : row.restyled ≡ None

@@ -4,30 +4,57 @@ ghost use Rattle.latex2mathml_elements.specs.Element.{Element};
 ghost use Rattle.latex2mathml_tex_grammar.specs.Atoms;
 ghost use Rattle.latex2mathml_tex_grammar.specs.Makes;
 ghost use Rattle.latex2mathml_tex_grammar.specs.Rows;
+ghost use Rattle.latex2mathml_tex_grammar.specs.Rules.{in_size};
 ghost use Rattle.latex2mathml_tex_grammar.specs.Words as words;
-ghost use Rattle.latex2mathml_tex_commands.specs.Meanings.{class_of, limit_place_of, style_of};
-ghost use Rattle.latex2mathml_tex_atoms.specs.Models.{IsFinished, begun, has_script, empty_row, before_of, font_of, is_relation, is_upright, joining_of, kind_of, script_count};
+ghost use Rattle.latex2mathml_tex_commands.specs.Meanings.{class_of, limit_place_of, style_of, text_size_of};
+ghost use Rattle.latex2mathml_tex_atoms.specs.Models.{IsFinished, begun, has_script, empty_row, before_of, context_of, font_of, is_relation, is_upright, joining_of, kind_of, script_count, usual_context};
 ghost use Rattle.latex2mathml_tex_atoms.specs.Adding.{IsAdded};
 
 use crate::fonts::Font;
+use crate::rests::Look;
 use crate::signs::is_put_as_it_is;
-use latex2mathml_attributes::around::Color;
 use latex2mathml_attributes::attributes::Side;
-use latex2mathml_tex_commands::meaning::{Alphabet, Class, FractionRule, LimitPlace, Style};
+use latex2mathml_tex_commands::meaning::{
+    Alphabet, Class, FractionRule, LimitPlace, Style, TextSize,
+};
 
 /// The context in which a unit is read: the style, and the alphabet of letters and digits, if there is one.
 #[derive(Clone, Copy)]
 pub struct Context {
     pub style: Style,
     pub alphabet: Option<Alphabet>,
+    /// The size of letters.
+    pub size: TextSize,
 }
 
 impl Context {
-    /// Returns the context with the same alphabet in another style.
+    /// Creates a context of letters of the usual size.
+    pub fn new(style: Style, alphabet: Option<Alphabet>) -> Context
+        ensures { result ≡ usual_context style alphabet }
+    {
+        Context {
+            style,
+            alphabet,
+            size: TextSize::NormalSize,
+        }
+    }
+
+    /// Returns the context with the same alphabet and size in another style.
     pub fn styled(self, style: Style) -> Context
         ensures { result ≡ record self { style = style } }
     {
         Context { style, ..self }
+    }
+
+    /// Returns the context with the same alphabet and letters of another size, which are not in the style of a script.
+    pub fn sized(self, size: TextSize) -> Context
+        ensures { context_of result ≡ in_size (context_of self) (text_size_of size) }
+    {
+        Context {
+            style: self.style.at_full_size(),
+            size,
+            ..self
+        }
     }
 }
 
@@ -286,21 +313,10 @@ pub struct Operand {
     pub high: bool,
 }
 
-/// A change of style or color in a row.
-#[derive(Clone, Copy)]
-pub struct Restyled {
-    /// The style of the group.
-    pub group: Style,
-    /// Whether the style was changed.
-    pub has_own_style: bool,
-    /// The color of what follows the change, if there is one.
-    pub color: Option<Color>,
-}
-
 /// Atoms next to each other. Their elements are the top ones.
 #[derive(Clone, Copy)]
 pub struct Row {
-    /// How many elements there are since the last change of style or color.
+    /// How many elements there are since the last change of style, color or size.
     pub count: usize,
     /// How many elements precede that change, below the others.
     pub settled: usize,
@@ -312,8 +328,8 @@ pub struct Row {
     pub high: bool,
     /// The class of the row as the base of a mark.
     pub class: Class,
-    /// That change, if there was one.
-    pub restyled: Option<Restyled>,
+    /// The look of what follows that change, if there was one.
+    pub restyled: Option<Look>,
     /// The rule of the fraction, if the row is the lower part of one. The upper part is below the other elements.
     pub under: Option<FractionRule>,
 }

@@ -5,108 +5,165 @@ ghost use Rattle.latex2mathml_attributes.specs.Arounds.{color_of};
 ghost use Rattle.latex2mathml_builder.specs.Built.{elements_in};
 ghost use Rattle.latex2mathml_tex_grammar.specs.Rests;
 ghost use Rattle.latex2mathml_tex_grammar.specs.Rows;
-ghost use Rattle.latex2mathml_tex_commands.specs.Meanings.{fraction_rule_of, style_of};
-ghost use Rattle.latex2mathml_tex_atoms.specs.Models.{row_count, row_with};
+ghost use Rattle.latex2mathml_tex_commands.specs.Meanings.{fraction_rule_of, style_of, text_size_of};
+ghost use Rattle.latex2mathml_tex_commands.specs.declared.meaning.Class.TheVariants as class;
+ghost use Rattle.latex2mathml_tex_atoms.specs.Models.{context_of, look_of, row_count, row_with};
 
-use crate::atoms::{Before, Kind, Restyled, Row};
+use crate::atoms::{Before, Context, Kind, Row};
 use crate::fractions::{put_fraction, style_attributes};
 use crate::operands::end_operand;
 use crate::shapes::{isolate, put_row};
 use latex2mathml_attributes::around::{Around, Color};
 use latex2mathml_attributes::tag::Container;
 use latex2mathml_builder::builder::Builder;
-use latex2mathml_tex_commands::meaning::{Class, FractionRule, Style};
+use latex2mathml_tex_commands::meaning::{Class, FractionRule, Style, TextSize};
 use std::alloc::AllocError;
 
+/// How what follows a change in a group looks.
+#[derive(Clone, Copy)]
+pub struct Look {
+    /// The style of the group.
+    pub group: Style,
+    /// The size of the group's letters.
+    pub group_size: TextSize,
+    /// Whether the style was changed.
+    pub has_own_style: bool,
+    /// The color, if there is one.
+    pub color: Option<Color>,
+    /// How large letters are, in thousandths of those of the group, if they are not of the same size.
+    pub scale: Option<u16>,
+}
+
 impl Row {
-    /// Returns the style of the row's group, if the row is now read in this style.
-    pub fn group_style(self, style: Style) -> Style
-        ensures { (xs : List Element) → style_of result
-            ≡ Rests.style_of_group (row_with self xs).restyled (style_of style) }
+    /// Returns the look of the row's last atoms, where the row is now read in this context.
+    pub fn look(self, context: Context) -> Look
+        ensures { (xs : List Element) → look_of result
+            ≡ Rests.look_after (row_with self xs).restyled (context_of context) }
     {
         match self.restyled {
-            Some(change) => change.group,
-            None => style,
+            Some(look) => look,
+            None => Look {
+                group: context.style,
+                group_size: context.size,
+                has_own_style: false,
+                color: None,
+                scale: None,
+            },
         }
     }
 
-    /// Whether the style was changed in the row.
-    fn has_own_style(self) -> bool
-        ensures { (xs : List Element) → result
-            ≡ Rests.has_own_style (row_with self xs).restyled }
-    {
-        match self.restyled {
-            Some(change) => change.has_own_style,
-            None => false,
-        }
-    }
-
-    /// Returns the color of the row's last atoms, if they have one.
-    fn color(self) -> Option<Color>
-        ensures { (xs : List Element) → option_map color_of result
-            ≡ Rests.color_after (row_with self xs).restyled }
-    {
-        self.restyled?.color
-    }
-
-    /// Returns the row before what follows another change. The row's last change of style or color is settled.
-    fn begun_anew(self, change: Restyled) -> Row
-        requires { self.restyled ≡ None }
-        ensures row { (xs : List Element) → row_with result xs
-            ≡ Rests.begun_anew (style_of change.group) change.has_own_style
-            (option_map color_of change.color) (row_with self xs) }
-        ensures count { row_count result ≡ row_count self }
+    /// Returns the row as one of `count` elements, none of which follows a change.
+    fn unchanged(self, count: usize) -> Row
+        ensures { result
+            ≡ record self { count = count; class = class.Ordinary; restyled = None; settled = 0 } }
     {
         Row {
-            count: 0,
-            last: Kind::Blank,
-            high: true,
-            restyled: Some(change),
-            settled: self.count,
+            count,
+            class: Class::Ordinary,
+            restyled: None,
+            settled: 0,
             ..self
         }
     }
 }
 
-/// Makes one element of the top `count` elements, which follow a change and are read in this style.
-fn put_restyled(
+impl Look {
+    /// Returns the look of letters of this size, where they were in this style: those of a script get their full size.
+    pub fn with_size(self, size: TextSize, style: Style) -> Look
+        ensures { look_of result
+            ≡ Rests.with_size (text_size_of size) (style_of style) (look_of self) }
+    {
+        Look {
+            has_own_style: self.has_own_style || style.is_script(),
+            scale: size.scale_of(self.group_size),
+            ..self
+        }
+    }
+
+    /// Returns the context of the lower part of a fraction, which is a whole group of this look and was read in `context`.
+    pub fn context_below(self, context: Context) -> Context
+        ensures { context_of result ≡ Rests.context_below (context_of context) (look_of self) }
+    {
+        Context {
+            style: self.group.smaller(),
+            size: self.group_size,
+            ..context
+        }
+    }
+}
+
+/// Makes one element of the top `count` elements, which follow a change, look like this and are read in this style.
+fn put_drawn(
     builder: &mut Builder,
     style: Style,
-    change: Restyled,
+    look: Look,
+    count: usize,
+) -> Result<(), AllocError>
+    requires { count ≤ length (elements_in builder.old) }
+    ensures { OnOk result (elements_in builder.new ≡ Rests.drawn (look_of look) (style_of style)
+        (take count (elements_in builder.old)) ∷ drop count (elements_in builder.old)) }
+{
+    let count = put_scaled(builder, look.scale, count)?;
+    put_colored(builder, style, look, count)
+}
+
+/// Makes one element of the top `count` elements, if their letters have another size than those around them. Returns how many
+/// elements they are then.
+fn put_scaled(builder: &mut Builder, scale: Option<u16>, count: usize) -> Result<usize, AllocError>
+    requires { count ≤ length (elements_in builder.old) }
+    ensures elements { IfOk result (λ n. take n (elements_in builder.new)
+        ≡ Rests.scaled scale (take count (elements_in builder.old))) }
+    ensures below { IfOk result (λ n. drop n (elements_in builder.new)
+        ≡ drop count (elements_in builder.old)) }
+    ensures count { IfOk result (λ n. n ≤ length (elements_in builder.new)) }
+{
+    let Some(scale) = scale else {
+        return Ok(count);
+    };
+    put_row(builder, count)?;
+    builder.surround(Around::Scaled(scale))?;
+    Ok(1)
+}
+
+/// Makes one element of the top `count` elements, which has their color and their own style, if they have these.
+fn put_colored(
+    builder: &mut Builder,
+    style: Style,
+    look: Look,
     count: usize,
 ) -> Result<(), AllocError>
     requires { count ≤ length (elements_in builder.old) }
     ensures { OnOk result (elements_in builder.new
-        ≡ Rests.in_color (option_map color_of change.color)
-        (Rests.in_own_style change.has_own_style (style_of style)
+        ≡ Rests.in_color (option_map color_of look.color)
+        (Rests.in_own_style look.has_own_style (style_of style)
         (take count (elements_in builder.old))) ∷ drop count (elements_in builder.old)) }
 {
-    put_styled(builder, style, change, count)?;
-    if let Some(color) = change.color {
+    put_styled(builder, style, look, count)?;
+    if let Some(color) = look.color {
         builder.surround(Around::Colored(color))?;
     }
     Ok(())
 }
 
-/// Makes one element of the top `count` elements, which are in this style if the change is one of style.
+/// Makes one element of the top `count` elements, which are in this style if it is their own.
 fn put_styled(
     builder: &mut Builder,
     style: Style,
-    change: Restyled,
+    look: Look,
     count: usize,
 ) -> Result<(), AllocError>
     requires { count ≤ length (elements_in builder.old) }
     ensures { OnOk result (elements_in builder.new
-        ≡ Rests.in_own_style change.has_own_style (style_of style)
+        ≡ Rests.in_own_style look.has_own_style (style_of style)
         (take count (elements_in builder.old)) ∷ drop count (elements_in builder.old)) }
 {
-    if change.has_own_style {
+    if look.has_own_style {
         return builder.container(Container::Mstyle, style_attributes(style), count);
     }
     put_row(builder, count)
 }
 
-/// Makes one element of what follows the last change of style or color, if there was one, in a row that is read in this style.
+/// Makes one element of what follows the last change, if anything does, in a row that is read in this style.
 fn settle(builder: &mut Builder, style: Style, row: Row) -> Result<Row, AllocError>
     requires { row_count row ≤ length (elements_in builder.old) }
     ensures row { IfOk result (λ whole. row_with whole (elements_in builder.new)
@@ -117,61 +174,42 @@ fn settle(builder: &mut Builder, style: Style, row: Row) -> Result<Row, AllocErr
     ensures under { IfOk result (λ whole. whole.under ≡ row.under) }
     ensures count { IfOk result (λ whole. row_count whole ≤ length (elements_in builder.new)) }
 {
-    let Some(change) = row.restyled else {
+    let Some(look) = row.restyled else {
         return Ok(row);
     };
-    put_restyled(builder, style, change, row.count)?;
+    if row.count == 0 {
+        return Ok(row.unchanged(row.settled));
+    }
+    put_drawn(builder, style, look, row.count)?;
     // all elements of a row are among those of the builder, so their number fits in a `usize`
     let _ = builder.len();
-    Ok(Row {
-        count: row.settled + 1,
-        class: Class::Ordinary,
-        restyled: None,
-        settled: 0,
-        ..row
-    })
+    Ok(row.unchanged(row.settled + 1))
 }
 
-/// Returns a row that was read in this style, ready for what follows a change of style.
-pub fn restyle(builder: &mut Builder, style: Style, row: Row) -> Result<Row, AllocError>
-    requires { row_count row ≤ length (elements_in builder.old) }
-    ensures row { IfOk result (λ begun. row_with begun (elements_in builder.new)
-        ≡ Rests.restyled (style_of style) (row_with row (elements_in builder.old))) }
-    ensures below { IfOk result (λ begun. drop (row_count begun) (elements_in builder.new)
-        ≡ drop (row_count row) (elements_in builder.old)) }
-    ensures count { IfOk result (λ begun. row_count begun ≤ length (elements_in builder.new)) }
-{
-    let change = Restyled {
-        group: row.group_style(style),
-        has_own_style: true,
-        color: row.color(),
-    };
-    let whole = settle(builder, style, row)?;
-    Ok(whole.begun_anew(change))
-}
-
-/// Returns a row that was read in this style, ready for what follows a change of color.
-pub fn recolor(
+/// Returns a row that was read in this style, ready for what follows a change and looks like this.
+pub fn begin_anew(
     builder: &mut Builder,
     style: Style,
     row: Row,
-    color: Color,
+    look: Look,
 ) -> Result<Row, AllocError>
     requires { row_count row ≤ length (elements_in builder.old) }
     ensures row { IfOk result (λ begun. row_with begun (elements_in builder.new)
-        ≡ Rests.recolored (color_of color) (style_of style)
-        (row_with row (elements_in builder.old))) }
+        ≡ Rests.begun_anew (look_of look)
+        (Rests.settled (style_of style) (row_with row (elements_in builder.old)))) }
     ensures below { IfOk result (λ begun. drop (row_count begun) (elements_in builder.new)
         ≡ drop (row_count row) (elements_in builder.old)) }
     ensures count { IfOk result (λ begun. row_count begun ≤ length (elements_in builder.new)) }
 {
-    let change = Restyled {
-        group: row.group_style(style),
-        has_own_style: row.has_own_style(),
-        color: Some(color),
-    };
     let whole = settle(builder, style, row)?;
-    Ok(whole.begun_anew(change))
+    Ok(Row {
+        count: 0,
+        last: Kind::Blank,
+        high: true,
+        restyled: Some(look),
+        settled: whole.count,
+        ..whole
+    })
 }
 
 /// Returns the row of the lower part of a fraction whose upper part is a row that was read in this style.
@@ -199,7 +237,7 @@ pub fn divide(
     })
 }
 
-/// Removes the space around a sign that is all of a row, if the style or the color was changed before it. Without a change, what
+/// Removes the space around a sign that is all of a row, if a change precedes it. Without a change, what
 /// encloses the row does so.
 fn isolate_changed(builder: &mut Builder, row: Row)
     requires { row_count row ≤ length (elements_in builder.old) }
@@ -234,7 +272,7 @@ pub fn finish(builder: &mut Builder, style: Style, row: Row) -> Result<Row, Allo
     }
 }
 
-/// Finishes a row in which the style or color was changed, or which is the lower part of a fraction. Its last operand has ended.
+/// Finishes a row in which there was a change, or which is the lower part of a fraction. Its last operand has ended.
 #[inline(never)]
 fn finish_changed(builder: &mut Builder, style: Style, row: Row) -> Result<Row, AllocError>
     requires { row_count row ≤ length (elements_in builder.old) }
@@ -250,7 +288,7 @@ fn finish_changed(builder: &mut Builder, style: Style, row: Row) -> Result<Row, 
     close_fraction(builder, row)
 }
 
-/// Returns a row in which no change of style or color is open, as a fraction if it is the lower part of one.
+/// Returns a row in which no change is open, as a fraction if it is the lower part of one.
 fn close_fraction(builder: &mut Builder, row: Row) -> Result<Row, AllocError>
     requires count { row_count row ≤ length (elements_in builder.old) }
     requires none { row.restyled ≡ None }

@@ -5,8 +5,8 @@ use Rattle.std.specs.{Bool.Decides, Char.to_ascii_lowercase}
 use Rattle.std.specs.Str.{byte, str_eq_ignore_ascii_case}
 use Rattle.std.specs.Bool.{⊤}
 use Rattle.latex2mathml_elements.specs.Colors.{Color}
-use Rattle.latex2mathml_tex_grammar.specs.Colors.{color, color_entries, color_of, color_of_digits, digit_value, digit_values, entry_color, named_color, with_digit}
-use Rattle.latex2mathml_tex_commands.specs.{Colors.component, Colors.entry_of, Colors.with_components, declared.colors.Named.Named}
+use Rattle.latex2mathml_tex_grammar.specs.Colors.{color, color_behind_model, color_entries, color_of, color_of_digits, digit_value, digit_values, entry_color, named_color, with_components, with_digit}
+use Rattle.latex2mathml_tex_commands.specs.{Colors.component, Colors.entry_of, declared.colors.Named.Named}
 use Rattle.latex2mathml_tex_grammar.proofs.OneList.{is_byte}
 
 -- Names
@@ -28,13 +28,20 @@ entry_named e es xs name p q = rw (p, q) refl
 pub entry_other : (e : Named) (es xs : List Named) (name : List ℕ) → xs ≡ e ∷ es → str_eq_ignore_ascii_case name e.name.now ≡ false → entry_color (map entry_of xs) name ≡ entry_color (map entry_of es) name
 entry_other e es xs name p q = rw (p, q) refl
 
--- a name that does not begin with a number sign
-pub no_digits : (name : List ℕ) → ((rest : List ℕ) → name ≢ byte "#" ∷ rest) → color_of name ≡ named_color name
-no_digits [] h = refl
-no_digits (c ∷ name) h = elim (cases_Bool (c == byte "#")) [
-  | inl s ↦ absurd (h name (ap (λ d. d ∷ name) (is_byte c (byte "#") s)))
-  | inr s ↦ rw s refl
+-- whether a text does not begin with this character
+abbrev pub LacksFirst : ℕ → List ℕ → Type 0
+LacksFirst c name = (rest : List ℕ) → name ≢ c ∷ rest
+
+other_first : (c d : ℕ) (name : List ℕ) → LacksFirst d (c ∷ name) → c == d ≡ false
+other_first c d name h = elim (cases_Bool (c == d)) [
+  | inl s ↦ absurd (h name (ap (λ e. e ∷ name) (is_byte c d s)))
+  | inr s ↦ s
 ]
+
+-- a name that begins neither with a number sign nor with a bracket
+pub only_a_name : (name : List ℕ) → LacksFirst (byte "#") name → LacksFirst (byte "[") name → color_of name ≡ named_color name
+only_a_name [] h k = refl
+only_a_name (c ∷ name) h k = rw (other_first c (byte "#") name h, other_first c (byte "[") name k) refl
 
 -- Digits
 

@@ -7,7 +7,7 @@ use Rattle.latex2mathml_tex_grammar.proofs.Tables.{ascending-sign_entries}
 use Rattle.latex2mathml_tex_commands.specs.{declared.meaning.Symbol.Symbol, declared.signs.SignEntry.SignEntry, Signs.ascii_symbols, Signs.entry_of}
 use Rattle.latex2mathml_tex_commands.specs.Meanings as meanings
 
-length-sign_entries : length sign_entries ≡ 481
+length-sign_entries : length sign_entries ≡ 482
 unfolding sign_entries
 length-sign_entries = refl
 

@@ -8,6 +8,8 @@ use Rattle.latex2mathml_tex_commands.specs.declared.meaning.Class.{Class}
 use Rattle.latex2mathml_tex_commands.specs.declared.meaning.Class.TheVariants as code_class
 use Rattle.latex2mathml_tex_commands.specs.declared.meaning.Style.{Style}
 use Rattle.latex2mathml_tex_commands.specs.declared.meaning.Style.TheVariants as code_style
+use Rattle.latex2mathml_tex_commands.specs.declared.meaning.TextSize.{TextSize}
+use Rattle.latex2mathml_tex_commands.specs.declared.meaning.TextSize.TheVariants as code_size
 use Rattle.latex2mathml_tex_commands.specs.declared.meaning.Alphabet.{Alphabet}
 use Rattle.latex2mathml_tex_commands.specs.declared.meaning.Alphabet.TheVariants as code_alphabet
 use Rattle.latex2mathml_tex_commands.specs.declared.meaning.Symbol.{Symbol}
@@ -38,6 +40,19 @@ abbrev pub style_of : Style → symbol.Style
 style_of code_style.InDisplay = symbol.InDisplay
 style_of code_style.InText = symbol.InText
 style_of code_style.InScript = symbol.InScript
+
+abbrev pub text_size_of : TextSize → symbol.TextSize
+text_size_of code_size.Tiny = symbol.Tiny
+text_size_of code_size.SixPoint = symbol.SixPoint
+text_size_of code_size.ScriptSize = symbol.ScriptSize
+text_size_of code_size.FootnoteSize = symbol.FootnoteSize
+text_size_of code_size.Small = symbol.Small
+text_size_of code_size.NormalSize = symbol.NormalSize
+text_size_of code_size.Large = symbol.Large
+text_size_of code_size.VeryLarge = symbol.VeryLarge
+text_size_of code_size.ExtraLarge = symbol.ExtraLarge
+text_size_of code_size.Huge = symbol.Huge
+text_size_of code_size.VeryHuge = symbol.VeryHuge
 
 abbrev pub alphabet_of : Alphabet → symbol.Alphabet
 alphabet_of code_alphabet.Upright = symbol.Upright
@@ -73,6 +88,7 @@ limit_place_of code_limitplace.Stacked = meant.Stacked
 abbrev pub change_of : Change → meant.Change
 change_of (code_change.ToAlphabet x) = meant.ToAlphabet (alphabet_of x)
 change_of (code_change.ToStyle x) = meant.ToStyle (style_of x)
+change_of (code_change.ToSize x) = meant.ToSize (text_size_of x)
 change_of (code_change.Divides x) = meant.Divides (fraction_rule_of x)
 change_of code_change.ToColor = meant.ToColor
 

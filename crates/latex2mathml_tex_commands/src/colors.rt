@@ -2,9 +2,11 @@
 ghost use Rattle.std.specs.Prelude.{◌≡◌, ◌<◌, ◌≤◌, ◌∷◌, ℕ, [], List, MatchOption, None, Some, map, option_map};
 ghost use Rattle.latex2mathml_attributes.specs.Arounds.{color_of};
 ghost use Rattle.latex2mathml_tex_grammar.specs.Colors;
-ghost use Rattle.latex2mathml_tex_grammar.specs.Colors.{color_entries, color_of_digits, digit_value, digit_values, entry_color, named_color};
-ghost use Rattle.latex2mathml_tex_commands.specs.Colors.{component, entry_of, with_components};
+ghost use Rattle.latex2mathml_tex_grammar.specs.Colors.{color_entries, color_of_digits, color_of_three, component_of, digit_value, digit_values, entry_color, is_number, model_color, named_color, with_components};
+ghost use Rattle.latex2mathml_tex_commands.specs.Colors.{component, entry_of};
 
+use crate::lengths::decimal_times;
+use crate::splitting::around;
 use latex2mathml_attributes::around::Color;
 
 /// The name of a color, and its red, green and blue components.
@@ -197,10 +199,68 @@ fn find(table: &[Named], name: &str) -> Option<Color>
 pub fn color_of(name: &str) -> Option<Color>
     ensures { option_map color_of result ≡ Colors.color_of name.now }
 {
-    match name.strip_prefix('#') {
-        Some(digits) => color_of_digits(digits.as_bytes()),
-        None => find(entries(), name),
+    if let Some(digits) = name.strip_prefix('#') {
+        return color_of_digits(digits.as_bytes());
     }
+    if let Some(behind) = name.strip_prefix('[') {
+        let (model, components) = around(behind, ']');
+        return model_color(model, components);
+    }
+    find(entries(), name)
+}
+
+/// Returns the color of components in a model, if there is one.
+fn model_color(model: &str, components: &str) -> Option<Color>
+    ensures { option_map color_of result ≡ model_color model.now components.now }
+{
+    if model == "rgb" {
+        color_of_three(255, components)
+    } else if model == "RGB" {
+        color_of_three(1, components)
+    } else if model == "gray" {
+        let gray = component_of(255, components);
+        with_components(gray, gray, gray)
+    } else if model == "HTML" {
+        color_of_digits(components.as_bytes())
+    } else {
+        None
+    }
+}
+
+/// Returns the color of three numbers with commas between them, if it is one. `one` is the component of one.
+fn color_of_three(one: u64, components: &str) -> Option<Color>
+    requires { one < 256 }
+    ensures { option_map color_of result ≡ color_of_three one components.now }
+{
+    let (red, others) = around(components, ',');
+    let (green, blue) = around(others, ',');
+    with_components(
+        component_of(one, red),
+        component_of(one, green),
+        component_of(one, blue),
+    )
+}
+
+/// Returns the component that a number is, if it is a number and not too large. `one` is the component of one.
+fn component_of(one: u64, text: &str) -> Option<u8>
+    requires { one < 256 }
+    ensures { result ≡ component_of one text.now }
+{
+    if !is_number(text.as_bytes()) {
+        return None;
+    }
+    let component = decimal_times(text, one);
+    if component > 255 {
+        return None;
+    }
+    Some(component as u8)
+}
+
+/// Whether these characters are a number: digits, and points.
+fn is_number(text: &[u8]) -> bool
+    ensures { result ≡ is_number text.now }
+{
+    !text.is_empty() && text.iter().all(|&c| c.is_ascii_digit() || c == b'.')
 }
 
 /// Returns the color of three or six hexadecimal digits, if these are such digits.

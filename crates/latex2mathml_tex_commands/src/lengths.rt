@@ -1,7 +1,10 @@
 //! Lengths, as they are written.
-ghost use Rattle.std.specs.Prelude.{◌≡◌, ℕ, ◌<◌, ◌≤◌, MatchOption, None, Some};
+ghost use Rattle.std.specs.Prelude.{◌≡◌, ℕ, ◌*◌, ◌<◌, ◌≤◌, MatchOption, None, Some};
+ghost use Rattle.latex2mathml_tex_grammar.specs.Colors;
 ghost use Rattle.latex2mathml_tex_grammar.specs.Lengths;
 ghost use Rattle.latex2mathml_tex_commands.specs.Lengths.{IsSmall, length_in};
+
+use crate::splitting::around;
 
 /// A number with more digits counts as this one.
 const MOST_DIGITS: u64 = 100_000_000_000;
@@ -30,11 +33,23 @@ pub fn width_of(text: &str) -> Option<i32>
     ensures { MatchOption result (Lengths.width_of text.now ≡ None)
         (λ width. Lengths.width_of text.now ≡ Some width) }
 {
-    let mut length = Length::none();
-    'characters: for &c in text.as_bytes() {
-        length = length.with_character(c);
-    }
-    length.width()
+    Length::none().with_all(text.as_bytes()).width()
+}
+
+/// Returns this factor times the number that a text gives, rounded. Decimals after the fifth make no difference.
+pub(crate) fn decimal_times(text: &str, factor: u64) -> u64
+    requires { factor < 256 }
+    ensures { result ≡ Lengths.rounded
+        ((Colors.decimal_of text.now).number * factor) (Colors.decimal_of text.now).scale }
+{
+    let (whole, decimals) = around(text, '.');
+    let decimals = decimals.as_bytes();
+    let few = &decimals[..decimals.len().min(5)];
+    let length = Length::none()
+        .with_all(whole.as_bytes())
+        .with_character(b'.')
+        .with_all(few);
+    rounded(length.number * factor, length.scale)
 }
 
 fn at_most(most: u64, number: u64) -> u64
@@ -66,6 +81,19 @@ impl Length {
             first: 0,
             last: 0,
         }
+    }
+
+    /// Returns the length with these further characters.
+    fn with_all(self, text: &[u8]) -> Length
+        requires { IsSmall self }
+        ensures value { length_in result ≡ Lengths.with_all (length_in self) text.now }
+        ensures small { IsSmall result }
+    {
+        let mut length = self;
+        'characters: for &c in text {
+            length = length.with_character(c);
+        }
+        length
     }
 
     fn with_character(self, c: u8) -> Length

@@ -10,4 +10,5 @@ pub mod lengths;
 pub mod meaning;
 pub mod named;
 pub mod signs;
+pub mod splitting;
 pub mod text_commands;

@@ -1,9 +1,9 @@
 //! What the names of commands mean.
-ghost use Rattle.std.specs.Prelude.{◌≡◌};
+ghost use Rattle.std.specs.Prelude.{◌≡◌, ◌<◌, ◌≤◌};
 ghost use Rattle.latex2mathml_attributes.specs.Names.{math_style_of};
 ghost use Rattle.latex2mathml_tex_grammar.specs.Makes;
-ghost use Rattle.latex2mathml_tex_grammar.specs.Symbols.{smaller};
-ghost use Rattle.latex2mathml_tex_commands.specs.Meanings.{limit_place_of, style_of};
+ghost use Rattle.latex2mathml_tex_grammar.specs.Symbols.{at_full_size, is_script, scale_between, smaller, thousandths};
+ghost use Rattle.latex2mathml_tex_commands.specs.Meanings.{limit_place_of, style_of, text_size_of};
 
 use latex2mathml_attributes::around::Color;
 use latex2mathml_attributes::attributes::{MathStyle, Side, Size, Stretch};
@@ -40,6 +40,23 @@ impl Style {
         }
     }
 
+    /// Whether letters in this style are smaller than their size says.
+    pub fn is_script(self) -> bool
+        ensures { result ≡ is_script (style_of self) }
+    {
+        matches!(self, Style::InScript)
+    }
+
+    /// Returns the style in which letters have their size, where they were in this style.
+    pub fn at_full_size(self) -> Style
+        ensures { style_of result ≡ at_full_size (style_of self) }
+    {
+        if self.is_script() {
+            return Style::InText;
+        }
+        self
+    }
+
     pub fn is_display(self) -> bool
         ensures { result ≡ Makes.is_display (style_of self) }
     {
@@ -66,6 +83,57 @@ impl Style {
             LimitPlace::ByStyle => self.is_display(),
             LimitPlace::Movable | LimitPlace::Stacked => true,
         }
+    }
+}
+
+/// How large letters are, by TeX's names. The usual size is that of the text around the formula.
+#[derive(Clone, Copy)]
+pub enum TextSize {
+    Tiny,
+    SixPoint,
+    ScriptSize,
+    FootnoteSize,
+    Small,
+    NormalSize,
+    Large,
+    VeryLarge,
+    ExtraLarge,
+    Huge,
+    VeryHuge,
+}
+
+impl TextSize {
+    /// Returns the size in thousandths of the usual one.
+    fn thousandths(self) -> u16
+        ensures size { result ≡ thousandths (text_size_of self) }
+        ensures some { 0 < result }
+        ensures few { result < 2500 }
+        ensures many { 500 ≤ result }
+    {
+        match self {
+            TextSize::Tiny => 500,
+            TextSize::SixPoint => 600,
+            TextSize::ScriptSize => 700,
+            TextSize::FootnoteSize => 800,
+            TextSize::Small => 900,
+            TextSize::NormalSize => 1000,
+            TextSize::Large => 1200,
+            TextSize::VeryLarge => 1440,
+            TextSize::ExtraLarge => 1728,
+            TextSize::Huge => 2074,
+            TextSize::VeryHuge => 2488,
+        }
+    }
+
+    /// Returns how many thousandths of another size this one is, if they differ.
+    pub fn scale_of(self, other: TextSize) -> Option<u16>
+        ensures { result ≡ scale_between (text_size_of self) (text_size_of other) }
+    {
+        let scale = 1000 * u32::from(self.thousandths()) / u32::from(other.thousandths());
+        if scale == 1000 {
+            return None;
+        }
+        Some(scale as u16)
     }
 }
 
@@ -127,6 +195,8 @@ pub enum Change {
     ToAlphabet(Alphabet),
     /// Everything is in a style.
     ToStyle(Style),
+    /// Letters are of a size.
+    ToSize(TextSize),
     /// Everything is the lower part of a fraction, and what precedes it is the upper one.
     Divides(FractionRule),
     /// Everything is in the color that comes next.

@@ -1,9 +1,9 @@
 -- What follows a change among units that are alike but for white space.
 use Rattle.std.proofs.Common.{◌≡◌, ℕ, List, Option, Some, None, refl, subst}
 use Rattle.latex2mathml_elements.specs.Colors.{Color}
-use Rattle.latex2mathml_tex_grammar.specs.{Colors.color_of, Meaning.Change, Meaning.ToAlphabet, Meaning.ToStyle, Meaning.ToColor, Meaning.Divides, Meaning.FractionRule, Refusal.Refusal, Rows.Row, Rows.Upper, Rules.Context}
+use Rattle.latex2mathml_tex_grammar.specs.{Colors.color_of, Meaning.Change, Meaning.ToAlphabet, Meaning.ToStyle, Meaning.ToSize, Meaning.ToColor, Meaning.Divides, Meaning.FractionRule, Refusal.Refusal, Rows.Row, Rows.Upper, Rules.Context}
 use Rattle.latex2mathml_tex_grammar.specs.Rests.{Rest, GoesOnIn, NoRest, rest_behind_name, rest_below, rest_in, rest_of}
-use Rattle.latex2mathml_tex_grammar.specs.Scanning.{BeforeArgument, ColorName, Found}
+use Rattle.latex2mathml_tex_grammar.specs.Scanning.{Found, BeforeColor}
 use Rattle.latex2mathml_tex_grammar.specs.Spacing.{Standing, AreAlike}
 use Rattle.latex2mathml_tex_grammar.specs.Units.{Units}
 use Rattle.latex2mathml_tex_grammar.proofs.{Scans.FoundAlike, Scans.both_given, Scans.both_missing, Scans.scan_alike, Spaces.IsCalm}
@@ -27,7 +27,8 @@ behind_name_alike c row p q (both_missing e) = both_refused e
 rests_alike : {at : Standing} {l m : Units} (change : Change) (c : Context) (row : Row) (p q : ℕ) → IsCalm at → AreAlike at l m → RestsAlike at (rest_of change c row p l) (rest_of change c row q m)
 rests_alike (ToAlphabet alphabet) c row p q calm h = both_go_on h
 rests_alike (ToStyle style) c row p q calm h = both_go_on h
-rests_alike ToColor c row p q calm h = behind_name_alike c row p q (scan_alike p q calm h (BeforeArgument ColorName))
+rests_alike (ToSize size) c row p q calm h = both_go_on h
+rests_alike ToColor c row p q calm h = behind_name_alike c row p q (scan_alike p q calm h BeforeColor)
 rests_alike (Divides rule) c row p q calm h = below_alike rule c row p q row.under h
 
 -- so what follows one change follows the other

@@ -9,7 +9,7 @@ use Rattle.latex2mathml_tex_grammar.specs.ExpansionLaws.{EachFixed, EachInMacro,
 use Rattle.latex2mathml_tex_grammar.specs.{Cutting.units_of, Next.is_space_piece, Expansion.Expands, Macros.Macro, Macros.Part, Macros.Table}
 use Rattle.latex2mathml_tex_grammar.specs.{Reading.Outcome, Reading.Read, Reading.Refused}
 use Rattle.latex2mathml_tex_grammar.specs.Units.{Unit, Units, Next, End, Stop}
-use Rattle.latex2mathml_tex_grammar.specs.UsualMacros.{Other, Divided, Starred, body_with, entry_macro, listed, macro_with, other_macro, other_named, other_or, usual_entries, usual_macros}
+use Rattle.latex2mathml_tex_grammar.specs.UsualMacros.{Other, Divided, Optional, Starred, body_with, entry_macro, listed, macro_with, other_macro, other_named, other_or, usual_entries, usual_macros}
 use Rattle.latex2mathml_tex_grammar.proofs.Adding.{EachOf, IfParts, IsPassed, Passes, behind, of_definition, of_parts, pieces_of}
 use Rattle.latex2mathml_tex_grammar.proofs.{Allowed.AreAllowedUnits, Allowed.IsAllowedPiece, AllowedUnits.units_allowed, Choices.of_either, Choices.of_found, OneList.has_units}
 
@@ -38,6 +38,7 @@ entries_allowed (entry ∷ entries) name m e =
 other_allowed : (other : Other) → EachInMacro IsAllowedPiece (other_macro other)
 other_allowed (Divided command text) = (body_allowed 2 text, tt, tt, tt)
 other_allowed (Starred starred text) = (body_allowed 1 text, tt, body_allowed 1 starred, tt)
+other_allowed (Optional text) = (body_allowed 2 text, tt, tt, tt)
 
 either_allowed : (other : Option Other) (found : Option Macro) → ((m : Macro) → found ≡ Some m → EachInMacro IsAllowedPiece m) → (m : Macro) → other_or other found ≡ Some m → EachInMacro IsAllowedPiece m
 either_allowed (Some other) found h m e = (let same : other_macro other ≡ m = cc in subst (EachInMacro IsAllowedPiece) same (other_allowed other))

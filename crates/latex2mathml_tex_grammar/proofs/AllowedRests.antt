@@ -1,11 +1,11 @@
 -- What a change makes of rows that hold no character that XML forbids holds none either.
 use Rattle.std.proofs.Common.{◌≡◌, ℕ, Bool, true, false, List, [], ◌∷◌, Option, Some, None, refl}
 use Rattle.latex2mathml_elements.specs.{Characters.HasAllowedTexts, Colors.Color, Element.Element}
-use Rattle.latex2mathml_tex_grammar.specs.{Atoms.Kind, Colors.color_of, Makes.fraction, Meaning.Change, Meaning.ToAlphabet, Meaning.ToStyle, Meaning.ToColor, Meaning.Divides, Meaning.FractionRule, Symbols.InText, Symbols.Style}
-use Rattle.latex2mathml_tex_grammar.specs.Rests.{alone_after, alone_behind, begun_anew, below, finished, in_color, in_own_style, rest_behind_name, rest_below, rest_in, rest_of, settled, settled_after, with_sign_alone}
-use Rattle.latex2mathml_tex_grammar.specs.Scanning.{BeforeArgument, ColorName, Found, Given, Missing, scan}
+use Rattle.latex2mathml_tex_grammar.specs.{Atoms.Kind, Colors.color_of, Makes.fraction, Meaning.Change, Meaning.ToAlphabet, Meaning.ToStyle, Meaning.ToSize, Meaning.ToColor, Meaning.Divides, Meaning.FractionRule, Symbols.InText, Symbols.Style}
+use Rattle.latex2mathml_tex_grammar.specs.Rests.{alone_after, alone_behind, begun_anew, below, drawn, finished, in_color, in_own_style, rest_behind_name, rest_below, rest_in, rest_of, scaled, settled, settled_after, with_drawn, with_sign_alone}
+use Rattle.latex2mathml_tex_grammar.specs.Scanning.{Found, Given, Missing, scan, BeforeColor}
 use Rattle.latex2mathml_tex_grammar.specs.Units.{Units}
-use Rattle.latex2mathml_tex_grammar.specs.{Rows.Restyled, Rows.Row, Rows.Upper, Rows.empty_row, Rows.row_element, Rows.with_operand_ended, Rules.Context}
+use Rattle.latex2mathml_tex_grammar.specs.{Rows.Look, Rows.Restyled, Rows.Row, Rows.Upper, Rows.empty_row, Rows.row_element, Rows.with_operand_ended, Rules.Context}
 use Rattle.latex2mathml_tex_grammar.proofs.Allowed.{AreAllowedElements, AreAllowedUnits, IsAllowedBefore, IsAllowedPart, IsAllowedRest, IsAllowedRow, IsAllowedUpper}
 use Rattle.latex2mathml_tex_grammar.proofs.AllowedMakes.{fraction_allowed, last_allowed, lone_allowed, row_children_allowed, row_element_allowed, with_atom_allowed}
 use Rattle.latex2mathml_tex_grammar.proofs.AllowedRows.{given_allowed}
@@ -18,10 +18,20 @@ in_color_allowed : (color : Option Color) (x : Element) → HasAllowedTexts x �
 in_color_allowed None x h = h
 in_color_allowed (Some color) x h = (h, tt)
 
+scaled_allowed : (scale : Option ℕ) (xs : List Element) → AreAllowedElements xs → AreAllowedElements (scaled scale xs)
+scaled_allowed None xs h = h
+scaled_allowed (Some scale) xs h = ((row_element_allowed xs h, tt), tt)
+
+drawn_allowed : (look : Look) (style : Style) (xs : List Element) → AreAllowedElements xs → HasAllowedTexts (drawn look style xs)
+drawn_allowed look style xs h = in_color_allowed look.color _ (own_style_allowed look.has_own_style style (scaled look.scale xs) (scaled_allowed look.scale xs h))
+
+with_drawn_allowed : (look : Look) (style : Style) (xs before : List Element) → AreAllowedElements xs → AreAllowedElements before → AreAllowedElements (with_drawn look style xs before)
+with_drawn_allowed look style [] before h k = k
+with_drawn_allowed look style (x ∷ xs) before h k = (drawn_allowed look style (x ∷ xs) h, k)
+
 settled_allowed : (change : Option Restyled) (style : Style) (row : Row) → IsAllowedBefore change → IsAllowedRow row → IsAllowedRow (settled_after change style row)
 settled_allowed None style row h k = k
-settled_allowed (Some change) style row h k =
-    (in_color_allowed change.color _ (own_style_allowed change.has_own_style style row.elements k), h)
+settled_allowed (Some change) style row h k = with_drawn_allowed change.look style row.elements change.before k h
 
 below_allowed : (upper : Option Upper) (row : Row) → IsAllowedUpper upper → IsAllowedRow row → IsAllowedRow (below upper row)
 below_allowed None row h k = k
@@ -65,9 +75,9 @@ rest_below_allowed rule c row place l None h k = (
 )
 rest_below_allowed rule c row place l (Some upper) h k = tt
 
--- after a change of style or color
-anew_allowed : (c : Context) (row : Row) (group : Style) (has_own_style : Bool) (color : Option Color) → IsAllowedPart row → IsAllowedPart (begun_anew group has_own_style color (settled c.style row))
-anew_allowed c row group has_own_style color h = record {
+-- after a change of style, color or size
+anew_allowed : (c : Context) (row : Row) (look : Look) → IsAllowedPart row → IsAllowedPart (begun_anew look (settled c.style row))
+anew_allowed c row look h = record {
   elements = tt;
   before = settled_row_allowed c.style row h;
   upper = upper_kept row.restyled c.style row h.upper;
@@ -75,14 +85,15 @@ anew_allowed c row group has_own_style color h = record {
 
 rest_in_allowed : (name : List ℕ) (c : Context) (row : Row) (place : ℕ) (l : Units) (color : Option Color) → IsAllowedPart row → AreAllowedUnits l → IsAllowedRest (rest_in name c row place l color)
 rest_in_allowed name c row place l None h k = tt
-rest_in_allowed name c row place l (Some color) h k = (anew_allowed c row _ _ (Some color) h, k)
+rest_in_allowed name c row place l (Some color) h k = (anew_allowed c row _ h, k)
 
-behind_name_allowed : (c : Context) (row : Row) (place : ℕ) (l : Units) (found : Found) → scan place l (BeforeArgument ColorName) ≡ found → IsAllowedPart row → AreAllowedUnits l → IsAllowedRest (rest_behind_name c row place found)
-behind_name_allowed c row place l (Given name m) e h k = rest_in_allowed name c row place m (color_of name) h (given_allowed place l m (BeforeArgument ColorName) name e k)
+behind_name_allowed : (c : Context) (row : Row) (place : ℕ) (l : Units) (found : Found) → scan place l BeforeColor ≡ found → IsAllowedPart row → AreAllowedUnits l → IsAllowedRest (rest_behind_name c row place found)
+behind_name_allowed c row place l (Given name m) e h k = rest_in_allowed name c row place m (color_of name) h (given_allowed place l m BeforeColor name e k)
 behind_name_allowed c row place l (Missing r) e h k = tt
 
 pub rest_allowed : (change : Change) (c : Context) (row : Row) (place : ℕ) (l : Units) → IsAllowedPart row → AreAllowedUnits l → IsAllowedRest (rest_of change c row place l)
 rest_allowed (ToAlphabet alphabet) c row place l h k = (h, k)
-rest_allowed (ToStyle style) c row place l h k = (anew_allowed c row _ true _ h, k)
-rest_allowed ToColor c row place l h k = behind_name_allowed c row place l (scan place l (BeforeArgument ColorName)) refl h k
+rest_allowed (ToStyle style) c row place l h k = (anew_allowed c row _ h, k)
+rest_allowed (ToSize size) c row place l h k = (anew_allowed c row _ h, k)
+rest_allowed ToColor c row place l h k = behind_name_allowed c row place l (scan place l BeforeColor) refl h k
 rest_allowed (Divides rule) c row place l h k = rest_below_allowed rule c row place l row.under h k

@@ -8,7 +8,7 @@ use Rattle.latex2mathml_tex_grammar.specs.{Commands.meaning_of, Commands.symbol_
 use Rattle.latex2mathml_tex_grammar.specs.Fences.{Tall}
 use Rattle.latex2mathml_tex_grammar.specs.Makes.{Core, core, Scripts, letter, symbol, spacing, struck, text, in_box, raised_by, black, arrow, Outline, quotient, between_any, outlined_fraction, choice}
 use Rattle.latex2mathml_tex_grammar.specs.Refusal.{Refusal, OutsideTable, MisplacedCharacter, CharacterInWords, refusal_at}
-use Rattle.latex2mathml_tex_grammar.specs.Meaning.{Meaning, Shows, FunctionName, Dots, Spacing, Styled, Words as TakesWordsIn, Fraction, Root, Accent, Brace, Stack, StackedRelation, OperatorName, Negation, Slash, Sized, Left, Middle, Right, Limits, NoLimits, Classed, Changes, ToAlphabet, ToStyle, Divides, ToColor, BeginTable, EndTable, LineBreak, Substack, Skip, SkipInBraces, Boxed, Smash, ContinuedFraction, GeneralFraction, Choice, Bar, FractionRule, Box, Phantom, PhantomWidth, PhantomHeight, Smashed, WithoutHeight, WithoutDepth, OverRight, OverLeft, OverBoth, Frame, StrikeUp, StrikeDown, StrikeTwice, Raise, InColor, Highlight, Rectangle, Arrow, Raised, Colored, OnColor}
+use Rattle.latex2mathml_tex_grammar.specs.Meaning.{Meaning, Shows, FunctionName, Dots, Spacing, Styled, Words as TakesWordsIn, Fraction, Root, Accent, Brace, Stack, StackedRelation, OperatorName, Negation, Slash, Sized, Left, Middle, Right, Limits, NoLimits, Classed, Changes, ToAlphabet, ToStyle, ToSize, Divides, ToColor, BeginTable, EndTable, LineBreak, Substack, Skip, SkipInBraces, Boxed, Smash, ContinuedFraction, GeneralFraction, Choice, Bar, FractionRule, Box, Phantom, PhantomWidth, PhantomHeight, Smashed, WithoutHeight, WithoutDepth, OverRight, OverLeft, OverBoth, Frame, StrikeUp, StrikeDown, StrikeTwice, Raise, InColor, Highlight, Rectangle, Arrow, Raised, Colored, OnColor}
 use Rattle.latex2mathml_tex_grammar.specs.{Colors.color_of, Lengths.width_of}
 use Rattle.latex2mathml_tex_grammar.specs.Atoms.{Plain}
 use Rattle.latex2mathml_tex_grammar.specs.Rows.{as_base, lone, Operand, row_element}
@@ -408,6 +408,7 @@ word_of_meaning_allowed font name (Some NoLimits) h = tt
 word_of_meaning_allowed font name (Some (Classed class)) h = tt
 word_of_meaning_allowed font name (Some (Changes (ToAlphabet alphabet))) h = tt
 word_of_meaning_allowed font name (Some (Changes (ToStyle style))) h = tt
+word_of_meaning_allowed font name (Some (Changes (ToSize size))) h = tt
 word_of_meaning_allowed font name (Some (Changes (Divides rule))) h = tt
 word_of_meaning_allowed font name (Some (Changes ToColor)) h = tt
 word_of_meaning_allowed font name (Some BeginTable) h = tt

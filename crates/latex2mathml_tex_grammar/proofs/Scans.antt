@@ -5,7 +5,7 @@ use Rattle.std.specs.{Char.encode_utf8, Str.byte}
 use Rattle.latex2mathml_tex_grammar.specs.{Commands.command_entries, Commands.meaning_of, CommandsFromM.commands_from_m, CommandsUpToL.commands_up_to_l}
 use Rattle.latex2mathml_tex_grammar.specs.{Meaning.takes_words, RowGaps.gap_at, RowGaps.space_found}
 use Rattle.latex2mathml_tex_grammar.specs.Refusal.{UnknownColumn, Refusal}
-use Rattle.latex2mathml_tex_grammar.specs.Scanning.{Name, ColumnList, RepeatedColumns, Number, ColorName, Spot, BeforeArgument, InArgument, BeforeGap, InGap, BeforeTimes, InTimes, BeforeRepeated, BeforeBrace, BeforePosition, InPosition, BehindPosition, BeforeStar, BehindStar, BeforeLength, BeforeLengthInBraces, InLength, BehindSign, InNumber, InDecimals, BehindLetter, BehindLength, AtBracket, AtBrace, AtUnit, BeforeRow, Deed, Passes, Adds, Ends, Leaves, Misses, Refuses, deed, done, is_line, may_end, found_at_end, with_character, Found, Given, Missing, scan, behind_found, past, past_break, past_gap}
+use Rattle.latex2mathml_tex_grammar.specs.Scanning.{Name, ColumnList, RepeatedColumns, Number, ColorName, BeforeColor, InModel, Spot, BeforeArgument, InArgument, BeforeGap, InGap, BeforeTimes, InTimes, BeforeRepeated, BeforeBrace, BeforePosition, InPosition, BehindPosition, BeforeStar, BehindStar, BeforeLength, BeforeLengthInBraces, InLength, BehindSign, InNumber, InDecimals, BehindLetter, BehindLength, AtBracket, AtBrace, AtUnit, BeforeRow, Deed, Passes, Adds, Ends, Leaves, Misses, Refuses, deed, done, is_line, may_end, found_at_end, with_character, Found, Given, Missing, scan, behind_found, past, past_break, past_gap}
 use Rattle.latex2mathml_tex_grammar.specs.Spacing.{Standing, standing_behind, AreAlike, both_end, both_stop, same_piece, space_before, space_behind}
 use Rattle.latex2mathml_tex_grammar.specs.Units.{Piece, Space, Open, Close, Command, Character, Unit, Units, Next}
 use Rattle.latex2mathml_tex_grammar.proofs.{OneList.is_byte, Plain.TakesNone, Plain.takes_none, Plain.open_plain, Plain.close_plain, Plain.is_named}
@@ -29,6 +29,8 @@ no_dollar_taken (InArgument ColumnList) = refl
 no_dollar_taken (InArgument RepeatedColumns) = refl
 no_dollar_taken (InArgument Number) = refl
 no_dollar_taken (InArgument ColorName) = refl
+no_dollar_taken BeforeColor = refl
+no_dollar_taken InModel = refl
 no_dollar_taken (BeforeGap a) = refl
 no_dollar_taken (InGap a n) = refl
 no_dollar_taken BeforeTimes = refl
@@ -112,6 +114,8 @@ command_taken (InArgument ColumnList) name h = cc
 command_taken (InArgument RepeatedColumns) name h = cc
 command_taken (InArgument Number) name h = cc
 command_taken (InArgument ColorName) name h = cc
+command_taken BeforeColor name h = cc
+command_taken InModel name h = cc
 command_taken (BeforeGap a) name h = cc
 command_taken BeforeTimes name h = cc
 command_taken (InTimes n) name h = cc

@@ -9,8 +9,8 @@ use Rattle.latex2mathml_tex_grammar.specs.Next.{follows, is_space_piece, past_sp
 use Rattle.latex2mathml_tex_grammar.specs.Reading.{Outcome, Read, Refused, ReadsRule, rule_gives, rule_refuses, operand_read, operand_refused, core_read, core_refused, core_missing, core_stopped, atoms_read, atoms_refused, words_read, words_refused, units_taken, units_missing, unit_follows, no_unit_follows, digits_taken, delimiter_taken, delimiter_missing, ReadsOperand, group_operand, group_refused, digit_operand, other_operand, other_refused, no_operand, operand_at_end, operand_stopped, ReadsScripts, scripts_end, mark_taken, script_read, script_refused, mark_refused, ReadsAtom, divider_read, divider_refused, on_empty_row, base_read, base_refused, ReadsAtoms, text_ends, never_ended, atoms_stopped, atoms_end, atom_read, atom_refused, rest_read, change_refused, ReadsWord, word_stands, group_of_words, formula_read, formula_refused, words_in_alphabet, no_word, word_missing, word_at_end, word_stopped, ReadsWords, words_end, words_never_ended, words_stopped, word_read, word_refused, found_taken, found_refused, passed_over, rows_read, rows_refused, ReadsRows, cell_read, cell_refused, ReadsBehindCell, next_cell, next_row, table_ends, rows_to_end, text_ends_table}
 use Rattle.latex2mathml_tex_grammar.specs.Refusal.{Refusal}
 use Rattle.latex2mathml_tex_grammar.specs.Rests.{Rest, GoesOnIn, NoRest, finished, rest_behind_name, rest_below, rest_in, rest_of}
-use Rattle.latex2mathml_tex_grammar.specs.{Colors.color_of, Meaning.Change, Meaning.ToAlphabet, Meaning.ToStyle, Meaning.ToColor, Meaning.Divides, Meaning.FractionRule, Rows.Upper}
-use Rattle.latex2mathml_tex_grammar.specs.Scanning.{BeforeArgument, ColorName}
+use Rattle.latex2mathml_tex_grammar.specs.{Colors.color_of, Meaning.Change, Meaning.ToAlphabet, Meaning.ToStyle, Meaning.ToSize, Meaning.ToColor, Meaning.Divides, Meaning.FractionRule, Rows.Upper}
+use Rattle.latex2mathml_tex_grammar.specs.Scanning.{BeforeColor}
 use Rattle.latex2mathml_elements.specs.Colors.{Color}
 use Rattle.latex2mathml_tex_grammar.specs.Rules.{Context, in_context, styled, Ending, WholeText, InBraces, InBrackets, InDollars, InDelimiters, begun, Rule, gives, refuses, reads_operand, reads_core, reads_atoms, reads_words, takes_if, if_follows, takes_digits, takes_delimiter, rule, a_digit, TableEnd, InCell, takes_found, passes_over, reads_rows}
 use Rattle.latex2mathml_tex_grammar.specs.Starts.{Mark, change_by, start_of_mark, is_command, step_of, AtomStart, DividerStart, ScriptStart, RuleStart, ChangeStart, OperandStart, NoStart, GroupStart, DigitStart, OtherStart, atom_start, operand_start, mark_of, Step, GoesOn, TakesOperand, Forbidden, step_of_mark, step_next, empty_base, ends, unended, is_close, left_behind, CellEnd, PartsCells, EndsRow, EndsTable, cell_end}
@@ -250,7 +250,8 @@ behind_name_fits c row place k (Missing r) h = tt
 rest_fits : (change : Change) (c : Context) (row : Row) (place : ℕ) (l : Units) → RestFits (size l) (rest_of change c row place l)
 rest_fits (ToAlphabet alphabet) c row place l = omega arith
 rest_fits (ToStyle style) c row place l = omega arith
-rest_fits ToColor c row place l = behind_name_fits c row place (size l) _ (scan_fits place l (BeforeArgument ColorName))
+rest_fits (ToSize size) c row place l = omega arith
+rest_fits ToColor c row place l = behind_name_fits c row place (size l) _ (scan_fits place l BeforeColor)
 rest_fits (Divides rule) c row place l = below_fits rule c row place l row.under
 
 -- no atom begins with a change

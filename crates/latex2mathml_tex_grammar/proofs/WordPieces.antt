@@ -2,7 +2,7 @@
 use Rattle.std.proofs.Common.{◌≡◌, ℕ, Bool, true, false, List, Option, Some, None, refl, ◌==◌, if◌then◌else◌, ◌||◌}
 use Rattle.std.specs.Str.{byte}
 use Rattle.latex2mathml_tex_grammar.specs.{Commands.meaning_of, Delimiters.entry_of_name, TextCommands.text_accents, TextCommands.text_commands}
-use Rattle.latex2mathml_tex_grammar.specs.Meaning.{Meaning, takes_words, Shows, FunctionName, Dots, Spacing, Styled, Words as TakesWordsIn, Fraction, Root, Accent, Brace, Stack, StackedRelation, OperatorName, Negation, Slash, Sized, Left, Middle, Right, Limits, NoLimits, Classed, Changes, ToAlphabet, ToStyle, Divides, ToColor, BeginTable, EndTable, LineBreak, Substack, Skip, SkipInBraces, Boxed, Smash, ContinuedFraction, GeneralFraction, Choice, Raise, InColor, Highlight, Rectangle, Arrow}
+use Rattle.latex2mathml_tex_grammar.specs.Meaning.{Meaning, takes_words, Shows, FunctionName, Dots, Spacing, Styled, Words as TakesWordsIn, Fraction, Root, Accent, Brace, Stack, StackedRelation, OperatorName, Negation, Slash, Sized, Left, Middle, Right, Limits, NoLimits, Classed, Changes, ToAlphabet, ToStyle, ToSize, Divides, ToColor, BeginTable, EndTable, LineBreak, Substack, Skip, SkipInBraces, Boxed, Smash, ContinuedFraction, GeneralFraction, Choice, Raise, InColor, Highlight, Rectangle, Arrow}
 use Rattle.latex2mathml_tex_grammar.specs.{Next.is_space_piece, Refusal.Kind, Symbols.Alphabet}
 use Rattle.latex2mathml_tex_grammar.specs.Spacing.{Standing, BeforeWords, InWords, BetweenDollars, standing_behind, is_in_words}
 use Rattle.latex2mathml_tex_grammar.specs.Units.{Piece, Space, Open, Close, Command, Character}
@@ -65,6 +65,7 @@ by_meaning font name (Some NoLimits) e = no_word_here
 by_meaning font name (Some (Classed class)) e = no_word_here
 by_meaning font name (Some (Changes (ToAlphabet alphabet))) e = a_word (command_ends name (rw e refl))
 by_meaning font name (Some (Changes (ToStyle style))) e = no_word_here
+by_meaning font name (Some (Changes (ToSize size))) e = a_word (command_ends name (rw e refl))
 by_meaning font name (Some (Changes (Divides rule))) e = no_word_here
 by_meaning font name (Some (Changes ToColor)) e = no_word_here
 by_meaning font name (Some BeginTable) e = no_word_here

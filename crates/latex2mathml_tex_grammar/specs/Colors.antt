@@ -1,6 +1,8 @@
--- The colors that authors name: by the names of style sheets, or by digits in hexadecimal.
-use Rattle.std.specs.Prelude.{ℕ, ◌+◌, ◌*◌, ◌-◌, ◌==◌, List, [], ◌∷◌, Option, Some, None, codes, if◌then◌else◌}
-use Rattle.std.specs.{Char.is_ascii_digit, Str.byte, Str.str_eq_ignore_ascii_case}
+-- The colors that authors name: by the names of style sheets, by digits in hexadecimal, or by components in a model, as in
+-- `[rgb]1,0.5,0`.
+use Rattle.std.specs.Prelude.{ℕ, ◌+◌, ◌*◌, ◌-◌, ◌==◌, ◌||◌, Bool, false, nat_lt, List, [], ◌∷◌, Option, Some, None, codes, if◌then◌else◌, take}
+use Rattle.std.specs.{Char.is_ascii_digit, List.after_first, List.before_first, List.list_all, Str.byte, Str.bytes_eq, Str.str_eq_ignore_ascii_case}
+use Rattle.latex2mathml_tex_grammar.specs.Lengths.{Length, no_length, rounded, with_all}
 use Rattle.latex2mathml_elements.specs.Colors.{Color}
 use Rattle.latex2mathml_tex_grammar.specs.Alphabets.{is_between}
 
@@ -197,7 +199,63 @@ color_of_digits (Some (r ∷ g ∷ b ∷ [])) = Some (color (r * 17) (g * 17) (b
 color_of_digits (Some (r ∷ s ∷ g ∷ h ∷ b ∷ c ∷ [])) = Some (color (r * 16 + s) (g * 16 + h) (b * 16 + c))
 color_of_digits ds = None
 
+-- Models
+
+-- a color with these components, if all of them are there
+abbrev pub with_components : Option ℕ → Option ℕ → Option ℕ → Option Color
+with_components (Some red) (Some green) (Some blue) = Some (color red green blue)
+with_components red green blue = None
+
+-- whether these characters are a number: digits, and points
+abbrev pub is_number : List ℕ → Bool
+is_number [] = false
+is_number cs = list_all (λ c. is_ascii_digit c || c == byte ".") cs
+
+-- the number that these characters spell, as in lengths; decimals after the fifth make no difference
+abbrev pub decimal_of : List ℕ → Length
+decimal_of cs = with_all (with_all no_length (before_first (λ c. c == byte ".") cs)) (byte "." ∷ take 5 (after_first (λ c. c == byte ".") cs))
+
+-- a component, unless it is too large
+abbrev pub within_byte : ℕ → Option ℕ
+within_byte n = if nat_lt 255 n then None else Some n
+
+-- the component that a number is, where this is the component of one
+abbrev pub component_of : ℕ → List ℕ → Option ℕ
+component_of one cs = if is_number cs then within_byte (rounded ((decimal_of cs).number * one) (decimal_of cs).scale) else None
+
+-- what is before the first comma, and what is behind it
+abbrev pub before_comma : List ℕ → List ℕ
+before_comma = before_first (λ c. c == byte ",")
+
+abbrev pub behind_comma : List ℕ → List ℕ
+behind_comma = after_first (λ c. c == byte ",")
+
+-- the color of three numbers with commas between them
+abbrev pub color_of_three : ℕ → List ℕ → Option Color
+color_of_three one cs =
+    with_components (component_of one (before_comma cs)) (component_of one (before_comma (behind_comma cs))) (component_of one (behind_comma (behind_comma cs)))
+
+-- the color that has as much of each primary color
+abbrev pub gray_of : Option ℕ → Option Color
+gray_of gray = with_components gray gray gray
+
+-- the color of components in a model, where there is one
+abbrev pub model_color : List ℕ → List ℕ → Option Color
+model_color model cs =
+    if bytes_eq model (codes "rgb") then color_of_three 255 cs
+    else if bytes_eq model (codes "RGB") then color_of_three 1 cs
+    else if bytes_eq model (codes "gray") then gray_of (component_of 255 cs)
+    else if bytes_eq model (codes "HTML") then color_of_digits (digit_values cs)
+    else None
+
+-- the color of components behind the name of their model
+abbrev pub color_behind_model : List ℕ → Option Color
+color_behind_model cs = model_color (before_first (λ c. c == byte "]") cs) (after_first (λ c. c == byte "]") cs)
+
 -- the color that a text names, if it names one
 abbrev pub color_of : List ℕ → Option Color
 color_of [] = named_color []
-color_of (c ∷ name) = if c == byte "#" then color_of_digits (digit_values name) else named_color (c ∷ name)
+color_of (c ∷ name) =
+    if c == byte "#" then color_of_digits (digit_values name)
+    else if c == byte "[" then color_behind_model name
+    else named_color (c ∷ name)

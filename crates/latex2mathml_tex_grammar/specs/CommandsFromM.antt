@@ -1,8 +1,8 @@
 -- The commands from those that begin with m, in the order of their names' bytes. A name is its bytes, without the
 -- backslash; a character is its code point, and is also shown after its line.
 use Rattle.std.specs.Prelude.{ℕ, pos, negsuc, List, [], ◌∷◌, Some, None, codes}
-use Rattle.latex2mathml_tex_grammar.specs.Meaning.{Meaning, Shows, FunctionName, Spacing, Skip, SkipInBraces, Boxed, Smash, Styled, Words, Fraction, Root, Accent, Brace, Stack, StackedRelation, OperatorName, Negation, Slash, Middle, Right, NoLimits, Classed, Changes, ToAlphabet, ToStyle, Divides, words_apart, LineBreak, Substack, Raise, InColor, Highlight, Rectangle, Arrow, Choice}
-use Rattle.latex2mathml_tex_grammar.specs.Symbols.{Letter, UprightLetter, Sign, BigOperator, Integral, Ordinary, Operator, Binary, Relation, Opening, Closing, Punctuation, Inner, Upright, Italic, Bold, BoldItalic, DoubleStruck, Fraktur, Calligraphic, SansSerif, Monospace, InText, InScript}
+use Rattle.latex2mathml_tex_grammar.specs.Meaning.{Meaning, Shows, FunctionName, Spacing, Skip, SkipInBraces, Boxed, Smash, Styled, Words, Fraction, Root, Accent, Brace, Stack, StackedRelation, OperatorName, Negation, Slash, Middle, Right, NoLimits, Classed, Changes, ToAlphabet, ToStyle, ToSize, Divides, words_apart, LineBreak, Substack, Raise, InColor, Highlight, Rectangle, Arrow, Choice}
+use Rattle.latex2mathml_tex_grammar.specs.Symbols.{Letter, UprightLetter, Sign, BigOperator, Integral, Ordinary, Operator, Binary, Relation, Opening, Closing, Punctuation, Inner, Upright, Italic, Bold, BoldItalic, DoubleStruck, Fraktur, Calligraphic, SansSerif, Monospace, InText, InScript, Tiny, ScriptSize, SixPoint, Small, NormalSize}
 use Rattle.latex2mathml_elements.specs.Attributes.{Above, Below, Stretching, Rigid}
 use Rattle.latex2mathml_tex_grammar.specs.Meaning.{Phantom, PhantomHeight, OverRight, OverLeft, OverBoth, StrikeTwice, Beside, ByStyle, Stacked, Bar, NoBar}
 
@@ -75,7 +75,7 @@ commands_from_m =
     (codes "nabla", Shows (Sign Ordinary 0x2207)) ∷  -- ∇
     (codes "natnums", Shows (Letter 0x2115)) ∷  -- ℕ
     (codes "natural", Shows (Sign Ordinary 0x266E)) ∷  -- ♮
-    (codes "ncong", Shows (Sign Relation 0x2246)) ∷  -- ≆
+    (codes "ncong", Shows (Sign Relation 0x2247)) ∷  -- ≇
     (codes "ne", Shows (Sign Relation 0x2260)) ∷  -- ≠
     (codes "nearrow", Shows (Sign Relation 0x2197)) ∷  -- ↗
     (codes "neg", Shows (Sign Ordinary 0xAC)) ∷  -- ¬
@@ -102,6 +102,7 @@ commands_from_m =
     (codes "nmid", Shows (Sign Relation 0x2224)) ∷  -- ∤
     (codes "nobreakspace", Spacing (pos 6)) ∷
     (codes "nolimits", NoLimits) ∷
+    (codes "normalsize", Changes (ToSize NormalSize)) ∷
     (codes "not", Negation) ∷
     (codes "notin", Shows (Sign Relation 0x2209)) ∷  -- ∉
     (codes "notni", Shows (Sign Relation 0x220C)) ∷  -- ∌
@@ -224,6 +225,7 @@ commands_from_m =
     (codes "rvert", Shows (Sign Closing 0x2223)) ∷  -- ∣
     (codes "saturn", Shows (Sign Ordinary 0x2644)) ∷  -- ♄
     (codes "scriptscriptstyle", Changes (ToStyle InScript)) ∷
+    (codes "scriptsize", Changes (ToSize ScriptSize)) ∷
     (codes "scriptstyle", Changes (ToStyle InScript)) ∷
     (codes "sdot", Shows (Sign Binary 0x22C5)) ∷  -- ⋅
     (codes "searrow", Shows (Sign Relation 0x2198)) ∷  -- ↘
@@ -241,7 +243,9 @@ commands_from_m =
     (codes "simeq", Shows (Sign Relation 0x2243)) ∷  -- ≃
     (codes "sin", FunctionName Beside (codes "sin")) ∷
     (codes "sinh", FunctionName Beside (codes "sinh")) ∷
+    (codes "sixptsize", Changes (ToSize SixPoint)) ∷
     (codes "slashed", Slash) ∷
+    (codes "small", Changes (ToSize Small)) ∷
     (codes "smallfrown", Shows (Sign Relation 0x2322)) ∷  -- ⌢
     (codes "smallint", Shows (Integral 0x222B)) ∷  -- ∫
     (codes "smallsetminus", Shows (Sign Binary 0x2216)) ∷  -- ∖
@@ -332,6 +336,7 @@ commands_from_m =
     (codes "thinspace", Spacing (pos 3)) ∷
     (codes "tilde", Accent Above 0x02DC Rigid) ∷  -- ˜
     (codes "times", Shows (Sign Binary 0xD7)) ∷  -- ×
+    (codes "tiny", Changes (ToSize Tiny)) ∷
     (codes "to", Shows (Sign Relation 0x2192)) ∷  -- →
     (codes "top", Shows (Sign Ordinary 0x22A4)) ∷  -- ⊤
     (codes "triangle", Shows (Sign Ordinary 0x25B3)) ∷  -- △

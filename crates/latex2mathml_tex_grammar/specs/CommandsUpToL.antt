@@ -1,8 +1,8 @@
 -- The commands up to those that begin with l, in the order of their names' bytes. A name is its bytes, without the
 -- backslash; a character is its code point, and is also shown after its line.
 use Rattle.std.specs.Prelude.{ℕ, pos, negsuc, List, [], ◌∷◌, Some, None, codes}
-use Rattle.latex2mathml_tex_grammar.specs.Meaning.{Meaning, Dots, Shows, FunctionName, Spacing, Styled, Words, Fraction, Accent, Sized, Left, Limits, Changes, ToAlphabet, ToStyle, Divides, words_apart, BeginTable, EndTable, LineBreak, Skip, SkipInBraces, ContinuedFraction, GeneralFraction, Boxed, PhantomWidth, StrikeUp, StrikeDown, Beside, ByStyle, Bar, NoBar, Braced, Bracketed, Bare, Frame, ToColor}
-use Rattle.latex2mathml_tex_grammar.specs.Symbols.{Letter, UprightLetter, Sign, BigOperator, Integral, Ordinary, Binary, Relation, Opening, Closing, Punctuation, Inner, Italic, Bold, BoldItalic, DoubleStruck, Fraktur, Calligraphic, InDisplay}
+use Rattle.latex2mathml_tex_grammar.specs.Meaning.{Meaning, Dots, Shows, FunctionName, Spacing, Styled, Words, Fraction, Accent, Sized, Left, Limits, Changes, ToAlphabet, ToStyle, ToSize, Divides, words_apart, BeginTable, EndTable, LineBreak, Skip, SkipInBraces, ContinuedFraction, GeneralFraction, Boxed, PhantomWidth, StrikeUp, StrikeDown, Beside, ByStyle, Bar, NoBar, Braced, Bracketed, Bare, Frame, ToColor}
+use Rattle.latex2mathml_tex_grammar.specs.Symbols.{Letter, UprightLetter, Sign, BigOperator, Integral, Ordinary, Binary, Relation, Opening, Closing, Punctuation, Inner, Italic, Bold, BoldItalic, DoubleStruck, Fraktur, Calligraphic, InDisplay, FootnoteSize, Large, VeryLarge, ExtraLarge, Huge, VeryHuge}
 use Rattle.latex2mathml_elements.specs.Attributes.{Above, Rigid, Big, Bigger, VeryBig, Biggest, Stretching}
 
 -- the table of commands, up to those that begin with `l`
@@ -52,12 +52,15 @@ commands_up_to_l =
     (codes "Game", Shows (Sign Ordinary 0x2141)) ∷  -- ⅁
     (codes "Gamma", Shows (UprightLetter 0x0393)) ∷  -- Γ
     (codes "Harr", Shows (Sign Relation 0x21D4)) ∷  -- ⇔
+    (codes "Huge", Changes (ToSize VeryHuge)) ∷
     (codes "Im", Shows (UprightLetter 0x2111)) ∷  -- ℑ
     (codes "Iota", Shows (UprightLetter 0x0399)) ∷  -- Ι
     (codes "Join", Shows (Sign Relation 0x22C8)) ∷  -- ⋈
     (codes "Kappa", Shows (UprightLetter 0x039A)) ∷  -- Κ
     (codes "L", Shows (UprightLetter 0x0141)) ∷  -- Ł
+    (codes "LARGE", Changes (ToSize ExtraLarge)) ∷
     (codes "Lambda", Shows (UprightLetter 0x039B)) ∷  -- Λ
+    (codes "Large", Changes (ToSize VeryLarge)) ∷
     (codes "Larr", Shows (Sign Relation 0x21D0)) ∷  -- ⇐
     (codes "Leftarrow", Shows (Sign Relation 0x21D0)) ∷  -- ⇐
     (codes "Leftrightarrow", Shows (Sign Relation 0x21D4)) ∷  -- ⇔
@@ -340,6 +343,7 @@ commands_up_to_l =
     (codes "fallingdotseq", Shows (Sign Relation 0x2252)) ∷  -- ≒
     (codes "fint", Shows (Integral 0x2A0D)) ∷  -- ⨍
     (codes "flat", Shows (Sign Ordinary 0x266D)) ∷  -- ♭
+    (codes "footnotesize", Changes (ToSize FootnoteSize)) ∷
     (codes "forall", Shows (Sign Ordinary 0x2200)) ∷  -- ∀
     (codes "frac", Fraction Bar None) ∷
     (codes "frak", Styled Fraktur) ∷
@@ -384,6 +388,7 @@ commands_up_to_l =
     (codes "hskip", Skip) ∷
     (codes "hslash", Shows (Letter 0x210F)) ∷  -- ℏ
     (codes "hspace", SkipInBraces) ∷
+    (codes "huge", Changes (ToSize Huge)) ∷
     (codes "iddots", Shows (Sign Inner 0x22F0)) ∷  -- ⋰
     (codes "iff", Shows (Sign Relation 0x27FA)) ∷  -- ⟺
     (codes "iiiint", Shows (Integral 0x2A0C)) ∷  -- ⨌
@@ -418,6 +423,7 @@ commands_up_to_l =
     (codes "land", Shows (Sign Binary 0x2227)) ∷  -- ∧
     (codes "lang", Shows (Sign Opening 0x27E8)) ∷  -- ⟨
     (codes "langle", Shows (Sign Opening 0x27E8)) ∷  -- ⟨
+    (codes "large", Changes (ToSize Large)) ∷
     (codes "larr", Shows (Sign Relation 0x2190)) ∷  -- ←
     (codes "lbrace", Shows (Sign Opening 0x7B)) ∷  -- {
     (codes "lbrack", Shows (Sign Opening 0x5B)) ∷  -- [

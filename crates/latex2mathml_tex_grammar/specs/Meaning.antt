@@ -2,7 +2,7 @@
 use Rattle.std.specs.Prelude.{ℕ, ℤ, Bool, true, false, List, ◌∷◌, ◌++◌, Option, Some}
 use Rattle.latex2mathml_elements.specs.Colors.{Color}
 use Rattle.latex2mathml_elements.specs.Attributes.{Side, Stretch, Size}
-use Rattle.latex2mathml_tex_grammar.specs.Symbols.{Class, Style, Alphabet, Symbol}
+use Rattle.latex2mathml_tex_grammar.specs.Symbols.{Class, Style, Alphabet, TextSize, Symbol}
 
 -- whether a fraction has its bar, and if it has none, what is around it: parentheses, braces, brackets or nothing
 pub data FractionRule : Type 0 where
@@ -26,6 +26,8 @@ pub data Change : Type 0 where
   ToAlphabet : Alphabet → Change
   -- everything is in a style
   ToStyle : Style → Change
+  -- letters are of a size
+  ToSize : TextSize → Change
   -- everything is the lower part of a fraction, and what precedes it is the upper part
   Divides : FractionRule → Change
   -- everything is in the color that comes next

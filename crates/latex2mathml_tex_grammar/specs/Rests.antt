@@ -1,16 +1,16 @@
 -- What a change makes of what follows it in its group: the context and the row in which that is read, and what row the
 -- group is at its end.
-use Rattle.std.specs.Prelude.{ℕ, Bool, true, false, List, [], ◌∷◌, reverse, Option, Some, None}
-use Rattle.latex2mathml_elements.specs.{Colors.Color, Element.Element, Element.Mstyle, Element.container, Element.children}
-use Rattle.latex2mathml_tex_grammar.specs.{Atoms.Blank, Atoms.Kind, Colors.color_of, Makes.fraction, Makes.in_box, Makes.style_attributes, Meaning.Change, Meaning.Colored, Meaning.ToAlphabet, Meaning.ToStyle, Meaning.Divides, Meaning.ToColor, Meaning.FractionRule}
+use Rattle.std.specs.Prelude.{ℕ, ◌||◌, Bool, true, false, List, [], ◌∷◌, reverse, Option, Some, None}
+use Rattle.latex2mathml_elements.specs.{Attributes.plain, Colors.Color, Element.Element, Element.Mstyle, Element.container, Element.children}
+use Rattle.latex2mathml_tex_grammar.specs.{Atoms.Blank, Atoms.Kind, Colors.color_of, Makes.fraction, Makes.in_box, Makes.style_attributes, Meaning.Change, Meaning.Colored, Meaning.ToAlphabet, Meaning.ToStyle, Meaning.ToSize, Meaning.Divides, Meaning.ToColor, Meaning.FractionRule}
 use Rattle.latex2mathml_tex_grammar.specs.Refusal.{Refusal, SecondInfix, UnknownColor, refusal_at}
-use Rattle.latex2mathml_tex_grammar.specs.Rows.{Row, Restyled, Upper, empty_row, lone, row_element, with_atom, with_operand_ended}
-use Rattle.latex2mathml_tex_grammar.specs.Rules.{Context, in_context, styled}
-use Rattle.latex2mathml_tex_grammar.specs.Scanning.{BeforeArgument, ColorName, Found, Given, Missing, scan}
-use Rattle.latex2mathml_tex_grammar.specs.Symbols.{Ordinary, Style, InText, smaller}
+use Rattle.latex2mathml_tex_grammar.specs.Rows.{Row, Look, Restyled, Upper, empty_row, lone, row_element, with_atom, with_operand_ended}
+use Rattle.latex2mathml_tex_grammar.specs.Rules.{Context, in_size, lettered, styled}
+use Rattle.latex2mathml_tex_grammar.specs.Scanning.{Found, Given, Missing, scan, BeforeColor}
+use Rattle.latex2mathml_tex_grammar.specs.Symbols.{Ordinary, Style, InText, TextSize, is_script, scale_between, smaller}
 use Rattle.latex2mathml_tex_grammar.specs.Units.{Units}
 
--- Styles and colors
+-- Styles, colors and sizes
 
 -- elements, the last one first, in this style, where it is their own
 abbrev pub in_own_style : Bool → Style → List Element → Element
@@ -22,50 +22,54 @@ abbrev pub in_color : Option Color → Element → Element
 in_color None x = x
 in_color (Some color) x = in_box (Colored color) x
 
--- the style of a group that is now read in this one
-abbrev pub style_of_group : Option Restyled → Style → Style
-style_of_group None style = style
-style_of_group (Some change) style = change.group
+-- elements, the last one first, whose letters are this many thousandths as large as those around them, where these differ
+abbrev pub scaled : Option ℕ → List Element → List Element
+scaled None xs = xs
+scaled (Some scale) xs = container Mstyle (record plain { scale = Some scale }) (children (row_element xs ∷ [])) ∷ []
 
--- whether the style was changed in a row, and the color that its last atoms have
-abbrev pub has_own_style : Option Restyled → Bool
-has_own_style None = false
-has_own_style (Some change) = change.has_own_style
+-- elements that look like this and are read in this style, as one element. The size is inside of the style: some browsers do not
+-- make an element that is a script smaller, where it has a size of its own.
+abbrev pub drawn : Look → Style → List Element → Element
+drawn look style xs = in_color look.color (in_own_style look.has_own_style style (scaled look.scale xs))
 
--- the color that was set last, if one was
-abbrev pub color_after : Option Restyled → Option Color
-color_after None = None
-color_after (Some change) = change.color
+-- how what is read in this context looks after a change, or before any
+abbrev pub look_after : Option Restyled → Context → Look
+look_after None c = record { group = c.style; group_size = c.size; has_own_style = false; color = None; scale = None }
+look_after (Some change) c = change.look
 
--- a row that is read in this style up to here: what follows its last change is one element
+-- the elements of a row whose last ones follow a change and look like this; the others are before the change
+abbrev pub with_drawn : Look → Style → List Element → List Element → List Element
+with_drawn look style [] before = before
+with_drawn look style xs before = drawn look style xs ∷ before
+
+-- a row that is read in this style up to here: what follows its last change is one element, if anything does
 abbrev pub settled_after : Option Restyled → Style → Row → Row
 settled_after None style row = row
-settled_after (Some change) style row = record row {
-  elements = in_color change.color (in_own_style change.has_own_style style row.elements) ∷ change.before;
-  class = Ordinary;
-  restyled = None;
-}
+settled_after (Some change) style row = record row { elements = with_drawn change.look style row.elements change.before; class = Ordinary; restyled = None }
 
--- a row that ends here or changes here: what follows its last change is one element
+-- a row that ends here or changes here
 abbrev pub settled : Style → Row → Row
 settled style row = settled_after row.restyled style row
 
--- a row before what follows a change, in a group of this style. What follows may be higher than a letter.
-abbrev pub begun_anew : Style → Bool → Option Color → Row → Row
-begun_anew group has_own_style color row = record row {
-  elements = [];
-  last = Blank;
-  high = true;
-  restyled = Some (record { before = row.elements; group = group; has_own_style = has_own_style; color = color });
-}
+-- a row before what follows a change and looks like this. What follows may be higher than a letter.
+abbrev pub begun_anew : Look → Row → Row
+begun_anew look row = record row { elements = []; last = Blank; high = true; restyled = Some (record { before = row.elements; look = look }) }
 
--- a row after a change of style, and a row after a change of color
-abbrev pub restyled : Style → Row → Row
-restyled style row = begun_anew (style_of_group row.restyled style) true (color_after row.restyled) (settled style row)
+-- a row that was read in this context, after a change of style
+abbrev pub restyled : Context → Row → Row
+restyled c row = begun_anew (record (look_after row.restyled c) { has_own_style = true }) (settled c.style row)
 
--- the row after a change of color
-abbrev pub recolored : Color → Style → Row → Row
-recolored color style row = begun_anew (style_of_group row.restyled style) (has_own_style row.restyled) (Some color) (settled style row)
+-- the same after a change of color
+abbrev pub recolored : Color → Context → Row → Row
+recolored color c row = begun_anew (record (look_after row.restyled c) { color = Some color }) (settled c.style row)
+
+-- a look whose letters are of this size, and not smaller in the style of a script
+abbrev pub with_size : TextSize → Style → Look → Look
+with_size size style look = record look { has_own_style = look.has_own_style || is_script style; scale = scale_between size look.group_size }
+
+-- a row that was read in this context, after a change of size
+abbrev pub resized : TextSize → Context → Row → Row
+resized size c row = begun_anew (with_size size c.style (look_after row.restyled c)) (settled c.style row)
 
 -- Fractions
 
@@ -102,24 +106,28 @@ finished style row = whole_fraction (settled style (with_sign_alone (with_operan
 
 -- What follows a change
 
--- what follows a change of style or color
+-- what follows a change
 pub data Rest : Type 0 where
   -- it is read in this context, after this row, from these units on
   GoesOnIn : Context → Row → Units → Rest
   -- the change is refused
   NoRest : Refusal → Rest
 
+-- the context of the lower part of a fraction, which is a whole group that looks like this
+abbrev pub context_below : Context → Look → Context
+context_below c look = record c { style = smaller look.group; size = look.group_size }
+
 -- what precedes the change is the upper part of a fraction, and what follows it is the lower part. A group has no more than
 -- one such fraction.
 abbrev pub rest_below : FractionRule → Context → Row → ℕ → Units → Option Upper → Rest
 rest_below rule c row place l None =
-    GoesOnIn (styled c (smaller (style_of_group row.restyled c.style))) (begun_below rule (settled c.style (with_operand_ended row))) l
+    GoesOnIn (context_below c (look_after row.restyled c)) (begun_below rule (settled c.style (with_operand_ended row))) l
 rest_below rule c row place l (Some upper) = NoRest (refusal_at SecondInfix place)
 
 -- what follows is in the color of this name, where there is one
 abbrev pub rest_in : List ℕ → Context → Row → ℕ → Units → Option Color → Rest
 rest_in name c row place l None = NoRest (refusal_at (UnknownColor name) place)
-rest_in name c row place l (Some color) = GoesOnIn c (recolored color c.style row) l
+rest_in name c row place l (Some color) = GoesOnIn c (recolored color c row) l
 
 -- what follows a change of color whose name was found, or was missing
 abbrev pub rest_behind_name : Context → Row → ℕ → Found → Rest
@@ -128,7 +136,8 @@ rest_behind_name c row place (Missing refusal) = NoRest refusal
 
 -- what follows a change at this place, from these units on
 abbrev pub rest_of : Change → Context → Row → ℕ → Units → Rest
-rest_of (ToAlphabet alphabet) c row place l = GoesOnIn (in_context c.style (Some alphabet)) row l
-rest_of (ToStyle style) c row place l = GoesOnIn (styled c style) (restyled c.style row) l
-rest_of ToColor c row place l = rest_behind_name c row place (scan place l (BeforeArgument ColorName))
+rest_of (ToAlphabet alphabet) c row place l = GoesOnIn (lettered c alphabet) row l
+rest_of (ToStyle style) c row place l = GoesOnIn (styled c style) (restyled c row) l
+rest_of (ToSize size) c row place l = GoesOnIn (in_size c size) (resized size c row) l
+rest_of ToColor c row place l = rest_behind_name c row place (scan place l BeforeColor)
 rest_of (Divides rule) c row place l = rest_below rule c row place l row.under

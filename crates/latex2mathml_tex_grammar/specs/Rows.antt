@@ -1,19 +1,27 @@
 -- Rows: the elements of atoms that are next to each other. Here the last element comes first.
-use Rattle.std.specs.Prelude.{zero, ℤ, pos, Bool, true, false, ◌||◌, ◌&&◌, List, [], ◌∷◌, ◌++◌, reverse, Option, None}
+use Rattle.std.specs.Prelude.{ℕ, zero, ℤ, pos, Bool, true, false, ◌||◌, ◌&&◌, List, [], ◌∷◌, ◌++◌, reverse, Option, None}
 use Rattle.latex2mathml_elements.specs.{Attributes.Attributes, Attributes.plain, Colors.Color, Element.Element, Element.Mrow, Element.token, Element.space, Element.container, Element.children}
 use Rattle.latex2mathml_tex_grammar.specs.Atoms.{Atom, Kind, SignOf, PlusOrMinus, Plain, UprightLetters, UprightIdentifier, Blank, Before, Nothing, After, kind_ends_operand, awaits_second, gap, past, element_there, element_as, without_space}
 use Rattle.latex2mathml_tex_grammar.specs.{Meaning.FractionRule}
-use Rattle.latex2mathml_tex_grammar.specs.Symbols.{Class, Ordinary, Operator, Binary, Relation, Punctuation, Style}
+use Rattle.latex2mathml_tex_grammar.specs.Symbols.{Class, Ordinary, Operator, Binary, Relation, Punctuation, Style, TextSize}
 
--- a change of style or color in a row
+-- how what follows a change in a group looks
+pub record Look : Type 0 where
+  -- the style and the size of letters of the group
+  pub group : Style
+  pub group_size : TextSize
+  -- whether the style was changed, and the color, where there is one
+  pub has_own_style : Bool
+  pub color : Option Color
+  -- how large letters are, in thousandths of those of the group, where they are not of the same size
+  pub scale : Option ℕ
+
+-- a change of style, color or size in a row
 pub record Restyled : Type 0 where
   -- the elements before it
   pub before : List Element
-  -- the style of the group
-  pub group : Style
-  -- whether the style was changed, and the color of what follows, where there is one
-  pub has_own_style : Bool
-  pub color : Option Color
+  -- the look of what follows
+  pub look : Look
 
 -- the upper part of a fraction
 pub record Upper : Type 0 where
@@ -22,7 +30,7 @@ pub record Upper : Type 0 where
 
 -- what was read of a row
 pub record Row : Type 0 where
-  -- the elements since the last change of style or color
+  -- the elements since the last change of style, color or size
   pub elements : List Element
   -- what precedes the next atom
   pub before : Before
@@ -32,7 +40,7 @@ pub record Row : Type 0 where
   pub high : Bool
   -- its class as the base of a mark
   pub class : Class
-  -- the last change of style or color, where there was one
+  -- the last such change, where there was one
   pub restyled : Option Restyled
   -- the upper part of the fraction whose lower part it is, where it is one
   pub under : Option Upper

@@ -8,26 +8,33 @@ use Rattle.latex2mathml_tex_grammar.specs.Environments.{Environment, Bracket, No
 use Rattle.latex2mathml_tex_grammar.specs.Makes.{Core, core, letter, upright_letter, number, relation, symbol, function_name, spacing, braced, group, classed, no_letters, operator_name, accent, brace, stack, stacked_relation, fraction, square_root, root, between_delimiters, sized, struck, blank, boxed_atom, bar, arrow, Outline, outlined_fraction, choice}
 use Rattle.latex2mathml_tex_grammar.specs.Meaning.{Meaning, Shows, FunctionName, Dots, Spacing, Styled, Words as TakesWordsIn, Fraction, Root, Accent, Brace, Stack, StackedRelation, OperatorName, Negation, Slash, Sized, Left, Middle, Right, Limits, NoLimits, Classed, Changes, Beside, ByStyle, FractionRule, BeginTable, EndTable, LineBreak, Substack, Skip, SkipInBraces, Box, Smashed, WithoutHeight, WithoutDepth, Boxed, Smash, Raise, InColor, Highlight, Rectangle, Arrow, Raised, Colored, OnColor, ContinuedFraction, GeneralFraction, Bar, Choice}
 use Rattle.latex2mathml_tex_grammar.specs.Refusal.{UnknownCommand, MissingArgument, MissingDelimiter, ChangeAsArgument, UnopenedBrace, RightWithoutLeft, MiddleWithoutLeft, LimitsWithoutOperator, NothingToNegate, OutsideTable, MisplacedCharacter, Refusal, refusal_at, UnknownEnvironment, EndWithoutBegin, OtherName, TooManyColumns, LengthTooLarge, UnknownColor}
-use Rattle.latex2mathml_tex_grammar.specs.Scanning.{Spot, Argument, Name, ColumnList, RepeatedColumns, Number, BeforeArgument, BeforeBrace, BeforePosition, AtUnit, BeforeLengthInBraces, BeforeStar, InLength, AtBracket, ColorName}
+use Rattle.latex2mathml_tex_grammar.specs.Scanning.{Spot, Argument, Name, ColumnList, RepeatedColumns, Number, BeforeArgument, BeforeBrace, BeforePosition, AtUnit, BeforeLengthInBraces, BeforeStar, InLength, AtBracket, ColorName, BeforeColor}
 use Rattle.latex2mathml_tex_grammar.specs.{Colors.color_of, Lengths.width_of}
 use Rattle.latex2mathml_elements.specs.Colors.{Color}
-use Rattle.latex2mathml_tex_grammar.specs.Symbols.{Style, InDisplay, InText, InScript, smaller, Alphabet, Upright, Opening, Ordinary, Relation, Symbol}
+use Rattle.latex2mathml_tex_grammar.specs.Symbols.{Style, InDisplay, InText, InScript, smaller, TextSize, NormalSize, at_full_size, Alphabet, Upright, Opening, Ordinary, Relation, Symbol}
 use Rattle.latex2mathml_tex_grammar.specs.Tables.{Lines, a_table}
 use Rattle.latex2mathml_tex_grammar.specs.Units.{Piece, Space, Open, Close, Command, Character}
 use Rattle.latex2mathml_tex_grammar.specs.Words.{Words, words_atom}
 
--- the context in which a unit is read: the style, and the alphabet of letters and digits, where there is one
+-- the context in which a unit is read: the style, the alphabet of letters and digits, where there is one, and their size
 pub record Context : Type 0 where
   pub style : Style
   pub alphabet : Option Alphabet
+  pub size : TextSize
 
--- a context of its two parts
+-- a context of letters of the usual size
 abbrev pub in_context : Style → Option Alphabet → Context
-in_context style alphabet = record { style = style; alphabet = alphabet }
+in_context style alphabet = record { style = style; alphabet = alphabet; size = NormalSize }
 
--- a context in another style
+-- a context in another style, in another alphabet, and of letters of another size, which are not in the style of a script
 abbrev pub styled : Context → Style → Context
-styled c style = in_context style c.alphabet
+styled c style = record c { style = style }
+
+abbrev pub lettered : Context → Alphabet → Context
+lettered c alphabet = record c { alphabet = Some alphabet }
+
+abbrev pub in_size : Context → TextSize → Context
+in_size c size = record c { style = at_full_size c.style; size = size }
 
 -- how a table ends: an environment with `\end`; rows in braces, each of one cell, with their brace; and rows that are a
 -- whole text with the text
@@ -175,7 +182,7 @@ a_root place c =
 -- the name of an operator, in upright letters; with a star it has limits
 abbrev pub an_operator_name : ℕ → Context → Rule
 an_operator_name place c =
-    let upright = in_context c.style (Some Upright) in
+    let upright = lettered c Upright in
     takes_if (a_character (byte "*") ∷ []) (λ star. of_one place upright (operator_name ByStyle)) (of_one place upright (operator_name Beside))
 
 -- an atom with a stroke through it, where it is a leaf
@@ -279,7 +286,7 @@ a_rectangle place =
 
 -- a color, whose name must come next, and what follows it
 abbrev pub a_color : ℕ → (Color → Rule) → Rule
-a_color place more = takes_found (BeforeArgument ColorName) place (λ name. with_value (refusal_at (UnknownColor name) place) more (color_of name))
+a_color place more = takes_found BeforeColor place (λ name. with_value (refusal_at (UnknownColor name) place) more (color_of name))
 
 -- an arrow: what is below it, in brackets, if anything is, and what is above it
 abbrev pub an_arrow : ℕ → Context → ℕ → Rule
@@ -390,7 +397,7 @@ meaning_rule place c InColor = a_color place (λ color. a_box place c (Colored c
 meaning_rule place c Highlight = a_color place (λ color. a_box place c (OnColor color))
 meaning_rule place c Rectangle = a_rectangle place
 meaning_rule place c (Arrow sign_character) = an_arrow place c sign_character
-meaning_rule place c (Styled alphabet) = of_one place (in_context c.style (Some alphabet)) (λ x. core (group x))
+meaning_rule place c (Styled alphabet) = of_one place (lettered c alphabet) (λ x. core (group x))
 meaning_rule place c (TakesWordsIn alphabet) = reads_words place alphabet (λ ws. gives (core (words_atom ws)))
 meaning_rule place c (Fraction rule own) = a_fraction place c rule own
 meaning_rule place c ContinuedFraction = a_continued_fraction place c

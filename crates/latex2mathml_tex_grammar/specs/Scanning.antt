@@ -1,7 +1,7 @@
--- What is taken unit by unit: the name of an environment, its columns, a number, the name of a color, a length. Each unit is at
+-- What is taken unit by unit: the name of an environment, its columns, a number, a color, a length. Each unit is at
 -- a spot, which decides what the unit does. White space is ignored.
 use Rattle.std.specs.Prelude.{ℕ, zero, suc, ◌+◌, ◌==◌, ◌&&◌, ◌||◌, Bool, true, false, nat_lt, List, [], ◌++◌, if◌then◌else◌, codes}
-use Rattle.std.specs.{Char.encode_utf8, Char.is_ascii_alphanumeric, Char.is_ascii_digit, Str.byte, Str.bytes_eq}
+use Rattle.std.specs.{Char.encode_utf8, Char.is_ascii_digit, Str.byte, Str.bytes_eq}
 use Rattle.latex2mathml_tex_grammar.specs.{Commands.meaning_of, Meaning.takes_words}
 use Rattle.latex2mathml_tex_grammar.specs.Refusal.{Kind, MissingArgument, MissingLength, MissingName, UnknownColumn, Refusal, refusal_at}
 use Rattle.latex2mathml_tex_grammar.specs.Units.{Piece, Space, Open, Close, Command, Character, Unit, Units, Next, End, Stop}
@@ -16,7 +16,7 @@ pub data Argument : Type 0 where
   RepeatedColumns : Argument
   -- a number
   Number : Argument
-  -- the name of a color
+  -- a color: its name, or its components in a model
   ColorName : Argument
 
 -- what ends a length: a bracket, a brace, or its unit
@@ -30,6 +30,9 @@ pub data Spot : Type 0 where
   -- before the brace of an argument, and after it
   BeforeArgument : Argument → Spot
   InArgument : Argument → Spot
+  -- before the brace of a color, or the bracket of its model, and in that bracket
+  BeforeColor : Spot
+  InModel : Spot
   -- in columns: before the brace of what is between two, or of the width of one; and within it, in this many more braces
   BeforeGap : Argument → Spot
   InGap : Argument → ℕ → Spot
@@ -94,8 +97,8 @@ ends_if false = Misses
 -- The characters of an argument
 
 -- a dollar sign is not part of a name
-abbrev pub name_deed : ℕ → Deed
-name_deed c = if c == byte "$" then Misses else Adds c (InArgument Name)
+abbrev pub name_deed : Argument → ℕ → Deed
+name_deed a c = if c == byte "$" then Misses else Adds c (InArgument a)
 
 -- a column on the left, in the middle, or on the right, or a line, which may be dashed; a column that has a width is on the left, and its width is
 -- ignored
@@ -110,13 +113,27 @@ column_deed a c =
 abbrev pub listed_deed : ℕ → Deed
 listed_deed c = if c == byte "*" then Adds c BeforeTimes else column_deed ColumnList c
 
+-- a brace before a color, or a bracket before the model in which the color is given
+abbrev pub color_deed : Piece → Deed
+color_deed Open = Passes (InArgument ColorName)
+color_deed (Character c) = adds_if (c == byte "[") c InModel
+color_deed piece = Misses
+
+-- the name of a model, up to its bracket
+abbrev pub model_deed : Piece → Deed
+model_deed (Character c) =
+    if c == byte "]" then Adds c (BeforeArgument ColorName)
+    else if c == byte "$" then Misses
+    else Adds c InModel
+model_deed piece = Misses
+
 -- a character in an argument
 abbrev pub character_deed : Argument → ℕ → Deed
-character_deed Name c = name_deed c
+character_deed Name c = name_deed Name c
 character_deed ColumnList c = listed_deed c
 character_deed RepeatedColumns c = column_deed RepeatedColumns c
 character_deed Number c = adds_if (is_ascii_digit c) c (InArgument Number)
-character_deed ColorName c = adds_if (is_ascii_alphanumeric c || c == byte "#") c (InArgument ColorName)
+character_deed ColorName c = name_deed ColorName c
 
 -- any unit other than a character or the brace that ends the argument
 abbrev pub other_deed : Argument → Deed
@@ -281,6 +298,8 @@ row_deed piece = Leaves
 abbrev pub deed_there : Spot → Piece → Deed
 deed_there (BeforeArgument a) piece = brace_deed (Passes (InArgument a)) Misses piece
 deed_there (InArgument a) piece = argument_deed a piece
+deed_there BeforeColor piece = color_deed piece
+deed_there InModel piece = model_deed piece
 deed_there (BeforeGap a) piece = brace_deed (Passes (InGap a 0)) (Refuses UnknownColumn) piece
 deed_there (InGap a n) piece = gap_deed a n piece
 deed_there BeforeTimes piece = brace_deed (Passes (InTimes 0)) (Refuses UnknownColumn) piece

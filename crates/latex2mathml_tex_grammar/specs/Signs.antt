@@ -245,6 +245,7 @@ sign_entries =
     (0x2243, Sign Relation 0x2243) ∷  -- ≃
     (0x2245, Sign Relation 0x2245) ∷  -- ≅
     (0x2246, Sign Relation 0x2246) ∷  -- ≆
+    (0x2247, Sign Relation 0x2247) ∷  -- ≇
     (0x2248, Sign Relation 0x2248) ∷  -- ≈
     (0x224A, Sign Relation 0x224A) ∷  -- ≊
     (0x224D, Sign Relation 0x224D) ∷  -- ≍

@@ -3,7 +3,7 @@
 use Rattle.std.specs.Prelude.{ℕ, List, [], ◌∷◌, Option, Some, None, codes, if◌then◌else◌}
 use Rattle.std.specs.{Option.unwrap_or, Str.bytes_eq, Str.chars}
 use Rattle.latex2mathml_tex_grammar.specs.{Cutting.units_of, Definitions.parts_of}
-use Rattle.latex2mathml_tex_grammar.specs.Macros.{Part, Parameter, Sign, Macro, macro, macro_of_parts, macro_taking, parameters, Table}
+use Rattle.latex2mathml_tex_grammar.specs.Macros.{Part, Parameter, Sign, Macro, macro, macro_of_parts, macro_taking, macro_with_default, parameters, Table}
 use Rattle.latex2mathml_tex_grammar.specs.Units.{Command, Unit, Units, Next}
 
 -- the name, how many arguments the macro takes, and the text of its body
@@ -25,18 +25,17 @@ usual_entries =
     (codes "DOTSX", 0, codes "") ∷
     (codes "Eqcolon", 0, codes "\\mathrel{=::}") ∷
     (codes "Eqqcolon", 0, codes "\\mathrel{=::}") ∷
-    (codes "Huge", 0, codes "") ∷
     (codes "KaTeX", 0, codes "\\text{KaTeX}") ∷
     (codes "Ket", 1, codes "\\left|#1\\right\\rangle") ∷
-    (codes "LARGE", 0, codes "") ∷
+    (codes "Ketbra", 2, codes "\\left|{#1}\\right\\rangle\\left\\langle{#2}\\right|") ∷
     (codes "LaTeX", 0, codes "\\text{LaTeX}") ∷
-    (codes "Large", 0, codes "") ∷
     (codes "TeX", 0, codes "\\text{TeX}") ∷
     (codes "adjustlimits", 0, codes "") ∷
     (codes "allowbreak", 0, codes "") ∷
     (codes "allowdisplaybreaks", 0, codes "") ∷
     (codes "approxcolon", 0, codes "\\mathrel{\\approx:}") ∷
     (codes "approxcoloncolon", 0, codes "\\mathrel{\\approx::}") ∷
+    (codes "array", 1, codes "\\begin{matrix}#1\\end{matrix}") ∷
     (codes "begingroup", 0, codes "{") ∷
     (codes "bfseries", 0, codes "\\bf") ∷
     (codes "bgroup", 0, codes "{") ∷
@@ -48,6 +47,7 @@ usual_entries =
     (codes "centering", 0, codes "") ∷
     (codes "centernot", 0, codes "\\not") ∷
     (codes "clap", 1, codes "\\mathclap{\\text{#1}}") ∷
+    (codes "class", 2, codes "#2") ∷
     (codes "colon", 0, codes "\\mskip2mu\\mathord{:}\\mskip6mu") ∷
     (codes "colonapprox", 0, codes "\\mathrel{:\\approx}") ∷
     (codes "coloncolonapprox", 0, codes "\\mathrel{::\\approx}") ∷
@@ -59,6 +59,7 @@ usual_entries =
     (codes "colonminus", 0, codes "\\mathrel{:\\relbar}") ∷
     (codes "colonsim", 0, codes "\\mathrel{:\\sim}") ∷
     (codes "colorbox", 2, codes "\\mathcolorbox{#1}{\\text{#2}}") ∷
+    (codes "cssId", 2, codes "#2") ∷
     (codes "ddddot", 1, codes "\\overset{....}{#1}") ∷
     (codes "displaybreak", 0, codes "") ∷
     (codes "displaylines", 1, codes "\\begin{gathered}#1\\end{gathered}") ∷
@@ -73,20 +74,20 @@ usual_entries =
     (codes "endgroup", 0, codes "}") ∷
     (codes "ensuremath", 1, codes "#1") ∷
     (codes "eqalign", 1, codes "\\begin{aligned}#1\\end{aligned}") ∷
+    (codes "eqalignno", 1, codes "\\begin{aligned}#1\\end{aligned}") ∷
     (codes "eqno", 0, codes "\\qquad\\textstyle") ∷
     (codes "equalscoloncolon", 0, codes "\\mathrel{=::}") ∷
     (codes "fbox", 1, codes "\\boxed{\\text{#1}}") ∷
-    (codes "footnotesize", 0, codes "") ∷
     (codes "global", 0, codes "") ∷
     (codes "hdots", 0, codes "\\ldots") ∷
     (codes "hfil", 0, codes "") ∷
     (codes "hfill", 0, codes "") ∷
+    (codes "hfilll", 0, codes "") ∷
     (codes "href", 2, codes "#2") ∷
     (codes "htmlClass", 2, codes "#2") ∷
     (codes "htmlData", 2, codes "#2") ∷
     (codes "htmlId", 2, codes "#2") ∷
     (codes "htmlStyle", 2, codes "#2") ∷
-    (codes "huge", 0, codes "") ∷
     (codes "idotsint", 0, codes "\\int\\cdots\\int") ∷
     (codes "iff", 0, codes "\\;\\Longleftrightarrow\\;") ∷
     (codes "ignorespaces", 0, codes "") ∷
@@ -96,10 +97,10 @@ usual_entries =
     (codes "ket", 1, codes "\\mathinner{|{#1}\\rangle}") ∷
     (codes "ketbra", 2, codes "\\mathinner{|{#1}\\rangle\\langle{#2}|}") ∷
     (codes "label", 1, codes "") ∷
-    (codes "large", 0, codes "") ∷
     (codes "leavevmode", 0, codes "") ∷
     (codes "lefteqn", 1, codes "\\mathrlap{\\displaystyle #1}") ∷
     (codes "leftroot", 1, codes "") ∷
+    (codes "leqalignno", 1, codes "\\begin{aligned}#1\\end{aligned}") ∷
     (codes "leqno", 0, codes "\\qquad\\textstyle") ∷
     (codes "llap", 1, codes "\\mathllap{\\text{#1}}") ∷
     (codes "long", 0, codes "") ∷
@@ -116,7 +117,6 @@ usual_entries =
     (codes "noindent", 0, codes "") ∷
     (codes "nonumber", 0, codes "") ∷
     (codes "normalfont", 0, codes "") ∷
-    (codes "normalsize", 0, codes "") ∷
     (codes "notag", 0, codes "") ∷
     (codes "null", 0, codes "{}") ∷
     (codes "operatornamewithlimits", 0, codes "\\operatorname*") ∷
@@ -130,11 +130,12 @@ usual_entries =
     (codes "qedhere", 0, codes "\\qquad\\square") ∷
     (codes "raisebox", 2, codes "\\raisemath{#1}{\\text{#2}}") ∷
     (codes "relax", 0, codes "") ∷
+    (codes "require", 1, codes "") ∷
     (codes "rlap", 1, codes "\\mathrlap{\\text{#1}}") ∷
     (codes "rmfamily", 0, codes "\\rm") ∷
     (codes "rq", 0, codes "'") ∷
     (codes "sb", 0, codes "_") ∷
-    (codes "scriptsize", 0, codes "") ∷
+    (codes "scr", 0, codes "\\cal") ∷
     (codes "scshape", 0, codes "") ∷
     (codes "setlength", 2, codes "") ∷
     (codes "sffamily", 0, codes "\\sf") ∷
@@ -144,17 +145,16 @@ usual_entries =
     (codes "sideset", 3, codes "\\mathop{\\vphantom{#3}#1\\!#3\\nolimits#2}") ∷
     (codes "simcolon", 0, codes "\\mathrel{\\sim:}") ∷
     (codes "simcoloncolon", 0, codes "\\mathrel{\\sim::}") ∷
-    (codes "sixptsize", 0, codes "") ∷
+    (codes "skew", 3, codes "{#2{#3\\mkern#1mu}\\mkern-#1mu}") ∷
     (codes "slash", 0, codes "/") ∷
     (codes "slshape", 0, codes "\\it") ∷
-    (codes "small", 0, codes "") ∷
     (codes "sp", 0, codes "^") ∷
     (codes "splitdfrac", 2, codes "\\genfrac{}{}{0pt}{0}{#1\\quad}{\\quad #2}") ∷
     (codes "splitfrac", 2, codes "\\genfrac{}{}{0pt}{1}{#1\\quad}{\\quad #2}") ∷
     (codes "strut", 0, codes "\\vphantom{(}") ∷
+    (codes "style", 2, codes "#2") ∷
     (codes "textsubscript", 1, codes "\\mbox{$_{\\mbox{#1}}$}") ∷
     (codes "textsuperscript", 1, codes "\\mbox{$^{\\mbox{#1}}$}") ∷
-    (codes "tiny", 0, codes "") ∷
     (codes "ttfamily", 0, codes "\\tt") ∷
     (codes "unskip", 0, codes "") ∷
     (codes "uproot", 1, codes "") ∷
@@ -203,11 +203,14 @@ pub data Other : Type 0 where
   Divided : List ℕ → List ℕ → Other
   -- one argument, and a star if one comes next, with the text of the body after a star, and without one
   Starred : List ℕ → List ℕ → Other
+  -- two arguments, the first of which is in brackets or left out, with the text of the body
+  Optional : List ℕ → Other
 
 -- the one that has this name, if one does
 abbrev pub other_named : List ℕ → Option Other
 other_named name =
-    if bytes_eq name (codes "buildrel") then Some (Divided (codes "over") (codes "\\stackrel{#1}{#2}"))
+    if bytes_eq name (codes "bbox") then Some (Optional (codes "#2"))
+    else if bytes_eq name (codes "buildrel") then Some (Divided (codes "over") (codes "\\stackrel{#1}{#2}"))
     else if bytes_eq name (codes "lower") then Some (Divided (codes "hbox") (codes "\\raisebox{-#1}{#2}"))
     else if bytes_eq name (codes "raise") then Some (Divided (codes "hbox") (codes "\\raisebox{#1}{#2}"))
     else if bytes_eq name (codes "root") then Some (Divided (codes "of") (codes "\\sqrt[{#1}]{#2}"))
@@ -218,6 +221,7 @@ other_named name =
 abbrev pub other_macro : Other → Macro
 other_macro (Divided command text) = macro_taking (Parameter ∷ Sign (Command command) ∷ Parameter ∷ []) (body_with 2 text)
 other_macro (Starred starred text) = macro_of_parts (Some (body_with 1 starred)) None (parameters 1) (body_with 1 text)
+other_macro (Optional text) = macro_with_default (Some []) 2 (body_with 2 text)
 
 -- the macro of this one, if there is one, or else the one that was found
 abbrev pub other_or : Option Other → Option Macro → Option Macro

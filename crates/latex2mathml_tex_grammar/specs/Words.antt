@@ -3,7 +3,7 @@ use Rattle.std.specs.Prelude.{ℕ, ◌==◌, ◌||◌, Bool, true, false, List, 
 use Rattle.std.specs.Str.{byte}
 use Rattle.latex2mathml_elements.specs.{Attributes.Attributes, Attributes.Monospaced, Attributes.boxed, Attributes.plain, Element.Element, Element.Mtext, Element.token}
 use Rattle.latex2mathml_tex_grammar.specs.{Alphabets.in_alphabet, Atoms.Atom, Atoms.Plain, Atoms.atom, Commands.meaning_of, Delimiters.entry_of_name, Dots.low_dots, Makes.symbol, Makes.text, Rows.row_element, Rows.single, TextCommands.text_accents, TextCommands.text_commands}
-use Rattle.latex2mathml_tex_grammar.specs.Meaning.{Meaning, Shows, Dots, Spacing, Words as TakesWordsIn, Changes, ToAlphabet}
+use Rattle.latex2mathml_tex_grammar.specs.Meaning.{Meaning, Shows, Dots, Spacing, Words as TakesWordsIn, Changes, ToAlphabet, ToSize}
 use Rattle.latex2mathml_tex_grammar.specs.Refusal.{Kind, CommandInWords, CharacterInWords, UnknownCommand}
 use Rattle.latex2mathml_tex_grammar.specs.Symbols.{Alphabet, BoldItalic, Monospace, Ordinary, InText}
 use Rattle.latex2mathml_tex_grammar.specs.Units.{Piece, Space, Open, Close, Command, Character}
@@ -19,13 +19,13 @@ abbrev pub font_in : Option Alphabet → Font
 font_in (Some Monospace) = Typewriter
 font_in alphabet = Usual
 
--- a part of words: a text in a font, the element of a formula, an accent on the next character, or a change to this alphabet up to
--- the end of the group, which is nothing by itself
+-- a part of words: a text in a font, the element of a formula, an accent on the next character, or a change, which is nothing by
+-- itself. One to another alphabet holds up to the end of the group, and one of size is lost.
 pub data Word : Type 0 where
   Shown : Font → List ℕ → Word
   Formula : Element → Word
   Accented : ℕ → Word
-  Changed : Alphabet → Word
+  Changed : Option Alphabet → Word
 
 -- what a unit is in words
 pub data WordRule : Type 0 where
@@ -75,7 +75,8 @@ meaning_rule font name (Some (Spacing width)) = IsWord (word_space font)
 meaning_rule font name (Some (Shows sign)) = IsWord (Formula (single InText (symbol None sign).atom).element)
 meaning_rule font name (Some Dots) = IsWord (Formula (single InText (symbol None low_dots).atom).element)
 meaning_rule font name (Some (TakesWordsIn alphabet)) = TakesWords alphabet
-meaning_rule font name (Some (Changes (ToAlphabet alphabet))) = IsWord (Changed alphabet)
+meaning_rule font name (Some (Changes (ToAlphabet alphabet))) = IsWord (Changed (Some alphabet))
+meaning_rule font name (Some (Changes (ToSize size))) = IsWord (Changed None)
 meaning_rule font name (Some meaning) = NoWord (CommandInWords name)
 meaning_rule font name None = NoWord (UnknownCommand name)
 
@@ -99,7 +100,7 @@ word_rule alphabet (Command name) = command_rule (font_in alphabet) name (entry_
 
 -- the alphabet of the words after a unit in the same group, where the unit is this in words in an alphabet
 abbrev pub alphabet_after : Option Alphabet → WordRule → Option Alphabet
-alphabet_after alphabet (IsWord (Changed other)) = Some other
+alphabet_after alphabet (IsWord (Changed (Some other))) = Some other
 alphabet_after alphabet rule = alphabet
 
 -- the alphabet of the words after a unit in the same group: only a command changes it

@@ -78,7 +78,7 @@ pub fn one_table_of_text()
     ensures { HaveOneTableOrRefusal }
 {}
 
-/// White space after the word of a definition and before an argument changes nothing.
+/// White space after the word of a definition, and before an argument that ends before no sign, changes nothing.
 pub fn space_in_definitions()
     ensures { IsSpacePassed }
 {}

@@ -42,7 +42,7 @@ apart name word none may = elim (cases_Bool (bytes_eq name word)) [
 
 no_other : (name : List ℕ) → may_turn name ≡ false → other_named name ≡ None
 no_other name none =
-    rw (apart name (codes "buildrel") none refl, apart name (codes "lower") none refl, apart name (codes "raise") none refl, apart name (codes "root") none refl, apart name (codes "tag") none refl) refl
+    rw (apart name (codes "bbox") none refl, apart name (codes "buildrel") none refl, apart name (codes "lower") none refl, apart name (codes "raise") none refl, apart name (codes "root") none refl, apart name (codes "tag") none refl) refl
 
 pub no_usual : (name : List ℕ) → may_turn name ≡ false → usual_macros name ≡ None
 no_usual name none = sym (usual_is name) ∙ ap (λ other. other_or other (entry_macro usual_entries name)) (no_other name none) ∙ none_named usual_entries name all_usual none

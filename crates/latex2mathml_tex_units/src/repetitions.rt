@@ -1,21 +1,10 @@
 //! Columns that are repeated, as `*3{c}`.
 ghost use Rattle.std.specs.Prelude.{◌≡◌, ◌<◌, ◌-◌, ◌==◌, ◌++◌, IfOk, OnOk, string_bytes};
-ghost use Rattle.std.specs.{List.after_first, List.before_first, Str.byte};
+ghost use Rattle.std.specs.{Str.byte};
 ghost use Rattle.latex2mathml_tex_grammar.specs.Environments;
 
+use latex2mathml_tex_commands::splitting::around;
 use std::alloc::{AllocError, Global};
-
-/// Returns the text before the first such sign, and the text behind it. Without a sign, all is before it.
-fn around(text: &str, sign: char) -> (&str, &str)
-    requires { sign < 128 }
-    ensures before { result.0.now ≡ before_first (λ c. c == sign) text.now }
-    ensures behind { result.1.now ≡ after_first (λ c. c == sign) text.now }
-{
-    match text.split_once(sign) {
-        Some(parts) => parts,
-        None => (text, ""),
-    }
-}
 
 fn value(digit: u8) -> usize
     ensures { result ≡ digit - byte "0" }

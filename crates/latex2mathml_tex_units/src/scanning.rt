@@ -42,6 +42,10 @@ pub enum LengthEnd {
 pub enum Spot {
     BeforeArgument(Argument),
     InArgument(Argument),
+    /// Before the brace of a color, or the bracket of its model.
+    BeforeColor,
+    /// In the brackets of a model of colors.
+    InModel,
     /// In columns, before the braces that say what is between two of them, or how wide one is.
     BeforeGap(Argument),
     /// Within this many such braces.
@@ -107,15 +111,11 @@ fn character_deed(argument: Argument, c: char) -> Deed
     ensures { deed_of result ≡ Scanning.character_deed (argument_of argument) c }
 {
     match argument {
-        Argument::Name if c == '$' => Deed::Misses,
-        Argument::Name => Deed::Adds(c, Spot::InArgument(Argument::Name)),
+        Argument::Name | Argument::ColorName if c == '$' => Deed::Misses,
+        Argument::Name | Argument::ColorName => Deed::Adds(c, Spot::InArgument(argument)),
         Argument::ColumnList if c == '*' => Deed::Adds(c, Spot::BeforeTimes),
         Argument::ColumnList | Argument::RepeatedColumns => column_deed(argument, c),
         Argument::Number => adds_if(c.is_ascii_digit(), c, Spot::InArgument(Argument::Number)),
-        Argument::ColorName if c.is_ascii_alphanumeric() || c == '#' => {
-            Deed::Adds(c, Spot::InArgument(Argument::ColorName))
-        }
-        Argument::ColorName => Deed::Misses,
     }
 }
 
@@ -133,6 +133,29 @@ fn argument_deed(argument: Argument, piece: Piece) -> Deed
             Argument::ColumnList | Argument::RepeatedColumns => Deed::Refuses,
             Argument::Name | Argument::Number | Argument::ColorName => Deed::Misses,
         },
+    }
+}
+
+/// Returns what a unit does before a color.
+fn color_deed(piece: Piece) -> Deed
+    ensures { deed_of result ≡ Scanning.color_deed (piece_of piece.entry) }
+{
+    match piece {
+        Piece::Open => Deed::Passes(Spot::InArgument(Argument::ColorName)),
+        Piece::Character(c) => adds_if(c == '[', c, Spot::InModel),
+        _ => Deed::Misses,
+    }
+}
+
+/// Returns what a unit does in the brackets of a model of colors.
+fn model_deed(piece: Piece) -> Deed
+    ensures { deed_of result ≡ Scanning.model_deed (piece_of piece.entry) }
+{
+    match piece {
+        Piece::Character(']') => Deed::Adds(']', Spot::BeforeArgument(Argument::ColorName)),
+        Piece::Character('$') => Deed::Misses,
+        Piece::Character(c) => Deed::Adds(c, Spot::InModel),
+        _ => Deed::Misses,
     }
 }
 
@@ -326,6 +349,8 @@ impl Spot {
                 )
             }
             Spot::InArgument(argument) => argument_deed(argument, piece),
+            Spot::BeforeColor => color_deed(piece),
+            Spot::InModel => model_deed(piece),
             Spot::BeforeGap(argument) => {
                 brace_deed(Deed::Passes(Spot::InGap(argument, 0)), Deed::Refuses, piece)
             }

@@ -11,7 +11,7 @@ ghost use Rattle.latex2mathml_tex_atoms.specs.Models.{before_of};
 ghost use Rattle.latex2mathml_tex.specs.Tables.{style_in, table_end};
 ghost use Rattle.latex2mathml_tex.specs.Innermost.{IsInnermost, IsLonger, TookRow, begun_row, braced_ending, frame_context, frame_row};
 ghost use Rattle.latex2mathml_tex.specs.{RowCharacters.IsRowInnermost, Steps.operand_place};
-ghost use Rattle.latex2mathml_tex_atoms.specs.Models.{empty_row};
+ghost use Rattle.latex2mathml_tex_atoms.specs.Models.{empty_row, usual_context};
 ghost use Rattle.latex2mathml_tex_units.specs.Taking.{piece_of};
 
 use latex2mathml_attributes::attributes::{Side, Stretch};
@@ -245,10 +245,7 @@ impl Frame {
             | Frame::First(_, _, context)
             | Frame::Negation(_, context)
             | Frame::Script(_, _, _, _, context) => context,
-            Frame::Text | Frame::Words(_, _) => Context {
-                style: Style::InText,
-                alphabet: None,
-            },
+            Frame::Text | Frame::Words(_, _) => Context::new(Style::InText, None),
         }
     }
 
@@ -476,10 +473,7 @@ fn text_row(style: Style) -> Frame
 
 /// Returns the context in which the atoms of a whole formula of this style are read.
 fn text_context(style: Style) -> Context
-    ensures { result ≡ record { style = style; alphabet = None } }
+    ensures { result ≡ usual_context style None }
 {
-    Context {
-        style,
-        alphabet: None,
-    }
+    Context::new(style, None)
 }

@@ -18,7 +18,7 @@ use latex2mathml_attributes::tag::Container;
 use latex2mathml_tex_atoms::arrows::put_label_row;
 use latex2mathml_tex_atoms::atoms::{Context, Core, Kind, Operand, Row, Scripts, Words};
 use latex2mathml_tex_atoms::delimiters::{Height, enclose, lower_dividers, put_divider};
-use latex2mathml_tex_atoms::rests::{divide, finish, recolor, restyle};
+use latex2mathml_tex_atoms::rests::{Look, begin_anew, divide, finish};
 use latex2mathml_tex_atoms::shapes::{isolate, ordinary_kind, put_braced, put_row, with_atom};
 use latex2mathml_tex_commands::commands;
 use latex2mathml_tex_commands::meaning::{Change, Class, LimitPlace, Meaning, Style};
@@ -126,15 +126,28 @@ impl<'a> Parser<'a> {
                 self.open(Frame::Row(ending, at, context, row), next)
             }
             Change::ToStyle(style) => {
-                let row = restyle(&mut self.builder, context.style, row)?;
+                let look = Look {
+                    has_own_style: true,
+                    ..row.look(context)
+                };
+                let row = begin_anew(&mut self.builder, context.style, row, look)?;
                 self.open(Frame::Row(ending, at, context.styled(style), row), next)
+            }
+            Change::ToSize(size) => {
+                let look = row.look(context).with_size(size, context.style);
+                let row = begin_anew(&mut self.builder, context.style, row, look)?;
+                self.open(Frame::Row(ending, at, context.sized(size), row), next)
             }
             Change::ToColor => {
                 let Some(color) = self.take_color(place)? else {
                     *next = State::Refused;
                     return Ok(());
                 };
-                let row = recolor(&mut self.builder, context.style, row, color)?;
+                let look = Look {
+                    color: Some(color),
+                    ..row.look(context)
+                };
+                let row = begin_anew(&mut self.builder, context.style, row, look)?;
                 self.open(Frame::Row(ending, at, context, row), next)
             }
             Change::Divides(rule) => match row.under {
@@ -143,9 +156,9 @@ impl<'a> Parser<'a> {
                     Ok(())
                 }
                 None => {
-                    let style = row.group_style(context.style).smaller();
+                    let below = row.look(context).context_below(context);
                     let row = divide(&mut self.builder, context.style, row, rule)?;
-                    self.open(Frame::Row(ending, at, context.styled(style), row), next)
+                    self.open(Frame::Row(ending, at, below, row), next)
                 }
             },
         }

@@ -4,7 +4,7 @@ ghost use Rattle.latex2mathml_attributes.specs.Arounds.{color_of};
 ghost use Rattle.latex2mathml_tex_grammar.specs.Colors;
 ghost use Rattle.latex2mathml_tex_grammar.specs.Lengths;
 ghost use Rattle.latex2mathml_tex_grammar.specs.Refusal.{LengthTooLarge, UnknownColor, refusal_at};
-ghost use Rattle.latex2mathml_tex_grammar.specs.Scanning.{BeforeArgument, ColorName};
+ghost use Rattle.latex2mathml_tex_grammar.specs.Scanning.{BeforeColor};
 ghost use Rattle.latex2mathml_tex_units.specs.Scans.{spot_of};
 ghost use Rattle.latex2mathml_tex.specs.Steps.{TookValue};
 
@@ -13,7 +13,7 @@ use latex2mathml_attributes::around::Color;
 use latex2mathml_tex_commands::colors::color_of;
 use latex2mathml_tex_commands::lengths::width_of;
 use latex2mathml_tex_units::error::TexErrorKind;
-use latex2mathml_tex_units::scanning::{Argument, Spot};
+use latex2mathml_tex_units::scanning::Spot;
 use std::alloc::AllocError;
 
 impl<'a> Parser<'a> {
@@ -39,11 +39,11 @@ impl<'a> Parser<'a> {
 
     /// Takes the color whose name comes next in braces. If there is none, the formula is refused and `None` is returned.
     pub(crate) fn take_color(&mut self, place: usize) -> Result<Option<Color>, AllocError>
-        ensures { IfOk result (λ color. TookValue place (BeforeArgument ColorName) Colors.color_of
+        ensures { IfOk result (λ color. TookValue place BeforeColor Colors.color_of
             (λ name. refusal_at (UnknownColor name) place) self.old self.new
             (option_map color_of color)) }
     {
-        let spot = Spot::BeforeArgument(Argument::ColorName);
+        let spot = Spot::BeforeColor;
         let Some(name) = self.take_text(place, spot)? else {
             return Ok(None);
         };

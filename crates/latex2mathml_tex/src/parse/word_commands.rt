@@ -24,8 +24,8 @@ pub(crate) enum WordCommand {
     Sign(Symbol),
     /// Words in this alphabet.
     Words(Option<Alphabet>),
-    /// A change to this alphabet, up to the end of the group.
-    Alphabet(Alphabet),
+    /// A change to this alphabet, up to the end of the group, or one that is lost.
+    Change(Option<Alphabet>),
     /// A command that cannot appear in words.
     Forbidden,
     /// No command.
@@ -60,7 +60,8 @@ impl WordCommand {
             Meaning::Shows(symbol) => WordCommand::Sign(symbol),
             Meaning::Dots => WordCommand::Sign(LOW_DOTS),
             Meaning::Words(alphabet) => WordCommand::Words(alphabet),
-            Meaning::Changes(Change::ToAlphabet(alphabet)) => WordCommand::Alphabet(alphabet),
+            Meaning::Changes(Change::ToAlphabet(alphabet)) => WordCommand::Change(Some(alphabet)),
+            Meaning::Changes(Change::ToSize(_)) => WordCommand::Change(None),
             _ => WordCommand::Forbidden,
         }
     }

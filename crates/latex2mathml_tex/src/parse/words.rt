@@ -124,10 +124,7 @@ impl<'a> Parser<'a> {
     {
         if c == '$' {
             let words = end_accent(&mut self.builder, words)?;
-            let context = Context {
-                style: Style::InText,
-                alphabet: formula_alphabet(alphabet),
-            };
+            let context = Context::new(Style::InText, formula_alphabet(alphabet));
             return self.open(
                 Frame::Row(Ending::Formula(words.count), place, context, Row::begun()),
                 next,
@@ -175,7 +172,7 @@ impl<'a> Parser<'a> {
                 *next = State::Word(words, place, alphabet);
                 Ok(())
             }
-            WordCommand::Alphabet(_) => {
+            WordCommand::Change(_) => {
                 *next = State::Words(words);
                 Ok(())
             }
@@ -332,7 +329,7 @@ fn alphabet_change(piece: Piece) -> Option<Alphabet>
         return None;
     };
     match WordCommand::of(name) {
-        WordCommand::Alphabet(alphabet) => Some(alphabet),
+        WordCommand::Change(alphabet) => alphabet,
         _ => None,
     }
 }

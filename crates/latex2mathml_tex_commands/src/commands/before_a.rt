@@ -3,7 +3,7 @@ ghost use Rattle.std.specs.Prelude.{◌≡◌, IsTrue, map};
 ghost use Rattle.std.specs.List.{list_all};
 ghost use Rattle.latex2mathml_tex_commands.specs.{Keys.has_key, Meanings.entry_of, Parts.entries_in};
 
-use crate::meaning::{Alphabet, Class, Entry, LimitPlace, Meaning, Symbol};
+use crate::meaning::{Alphabet, Change, Class, Entry, LimitPlace, Meaning, Symbol, TextSize};
 use latex2mathml_attributes::attributes::{Side, Size, Stretch};
 
 /// Returns the entries.
@@ -16,7 +16,7 @@ pub(crate) fn entries() -> &'static [Entry]
 }
 
 #[rattlefmt::skip]
-static BEFORE_A: [Entry; 114] = [
+static BEFORE_A: [Entry; 117] = [
     Entry { name: " ", key: 0x2000000000000000, meaning: Meaning::Spacing(6) },
     Entry { name: "!", key: 0x2100000000000000, meaning: Meaning::Spacing(-3) },
     Entry { name: "#", key: 0x2300000000000000, meaning: Meaning::Shows(Symbol::Sign(Class::Ordinary, '#')) },
@@ -61,12 +61,15 @@ static BEFORE_A: [Entry; 114] = [
     Entry { name: "Game", key: 0x47616d6500000000, meaning: Meaning::Shows(Symbol::Sign(Class::Ordinary, '⅁')) },
     Entry { name: "Gamma", key: 0x47616d6d61000000, meaning: Meaning::Shows(Symbol::UprightLetter('Γ')) },
     Entry { name: "Harr", key: 0x4861727200000000, meaning: Meaning::Shows(Symbol::Sign(Class::Relation, '⇔')) },
+    Entry { name: "Huge", key: 0x4875676500000000, meaning: Meaning::Changes(Change::ToSize(TextSize::VeryHuge)) },
     Entry { name: "Im", key: 0x496d000000000000, meaning: Meaning::Shows(Symbol::UprightLetter('ℑ')) },
     Entry { name: "Iota", key: 0x496f746100000000, meaning: Meaning::Shows(Symbol::UprightLetter('Ι')) },
     Entry { name: "Join", key: 0x4a6f696e00000000, meaning: Meaning::Shows(Symbol::Sign(Class::Relation, '⋈')) },
     Entry { name: "Kappa", key: 0x4b61707061000000, meaning: Meaning::Shows(Symbol::UprightLetter('Κ')) },
     Entry { name: "L", key: 0x4c00000000000000, meaning: Meaning::Shows(Symbol::UprightLetter('Ł')) },
+    Entry { name: "LARGE", key: 0x4c41524745000000, meaning: Meaning::Changes(Change::ToSize(TextSize::ExtraLarge)) },
     Entry { name: "Lambda", key: 0x4c616d6264610000, meaning: Meaning::Shows(Symbol::UprightLetter('Λ')) },
+    Entry { name: "Large", key: 0x4c61726765000000, meaning: Meaning::Changes(Change::ToSize(TextSize::VeryLarge)) },
     Entry { name: "Larr", key: 0x4c61727200000000, meaning: Meaning::Shows(Symbol::Sign(Class::Relation, '⇐')) },
     Entry { name: "Leftarrow", key: 0x4c6566746172726f, meaning: Meaning::Shows(Symbol::Sign(Class::Relation, '⇐')) },
     Entry { name: "Leftrightarrow", key: 0x4c65667472696768, meaning: Meaning::Shows(Symbol::Sign(Class::Relation, '⇔')) },

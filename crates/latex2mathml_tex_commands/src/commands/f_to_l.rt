@@ -4,7 +4,7 @@ ghost use Rattle.std.specs.List.{list_all};
 ghost use Rattle.latex2mathml_tex_commands.specs.{Keys.has_key, Meanings.entry_of, Parts.entries_in};
 
 use crate::meaning::{
-    Alphabet, Change, Class, Entry, FractionRule, LimitPlace, Meaning, OperandBox, Symbol,
+    Alphabet, Change, Class, Entry, FractionRule, LimitPlace, Meaning, OperandBox, Symbol, TextSize,
 };
 use latex2mathml_attributes::attributes::{Side, Stretch};
 
@@ -18,10 +18,11 @@ pub(crate) fn letter_f() -> &'static [Entry]
 }
 
 #[rattlefmt::skip]
-static LETTER_F: [Entry; 8] = [
+static LETTER_F: [Entry; 9] = [
     Entry { name: "fallingdotseq", key: 0x66616c6c696e6764, meaning: Meaning::Shows(Symbol::Sign(Class::Relation, '≒')) },
     Entry { name: "fint", key: 0x66696e7400000000, meaning: Meaning::Shows(Symbol::Integral('⨍')) },
     Entry { name: "flat", key: 0x666c617400000000, meaning: Meaning::Shows(Symbol::Sign(Class::Ordinary, '♭')) },
+    Entry { name: "footnotesize", key: 0x666f6f746e6f7465, meaning: Meaning::Changes(Change::ToSize(TextSize::FootnoteSize)) },
     Entry { name: "forall", key: 0x666f72616c6c0000, meaning: Meaning::Shows(Symbol::Sign(Class::Ordinary, '∀')) },
     Entry { name: "frac", key: 0x6672616300000000, meaning: Meaning::Fraction(FractionRule::Bar, None) },
     Entry { name: "frak", key: 0x6672616b00000000, meaning: Meaning::Styled(Alphabet::Fraktur) },
@@ -77,7 +78,7 @@ pub(crate) fn letter_h() -> &'static [Entry]
 }
 
 #[rattlefmt::skip]
-static LETTER_H: [Entry; 14] = [
+static LETTER_H: [Entry; 15] = [
     Entry { name: "hArr", key: 0x6841727200000000, meaning: Meaning::Shows(Symbol::Sign(Class::Relation, '⇔')) },
     Entry { name: "harr", key: 0x6861727200000000, meaning: Meaning::Shows(Symbol::Sign(Class::Relation, '↔')) },
     Entry { name: "hat", key: 0x6861740000000000, meaning: Meaning::Accent(Side::Above, 'ˆ', Stretch::Rigid) },
@@ -92,6 +93,7 @@ static LETTER_H: [Entry; 14] = [
     Entry { name: "hskip", key: 0x68736b6970000000, meaning: Meaning::Skip },
     Entry { name: "hslash", key: 0x68736c6173680000, meaning: Meaning::Shows(Symbol::Letter('ℏ')) },
     Entry { name: "hspace", key: 0x6873706163650000, meaning: Meaning::SkipInBraces },
+    Entry { name: "huge", key: 0x6875676500000000, meaning: Meaning::Changes(Change::ToSize(TextSize::Huge)) },
 ];
 
 /// Returns the entries of the names that begin with i.
@@ -169,7 +171,7 @@ pub(crate) fn letter_l() -> &'static [Entry]
 }
 
 #[rattlefmt::skip]
-static LETTER_L: [Entry; 74] = [
+static LETTER_L: [Entry; 75] = [
     Entry { name: "l", key: 0x6c00000000000000, meaning: Meaning::Shows(Symbol::UprightLetter('ł')) },
     Entry { name: "lArr", key: 0x6c41727200000000, meaning: Meaning::Shows(Symbol::Sign(Class::Relation, '⇐')) },
     Entry { name: "lBrace", key: 0x6c42726163650000, meaning: Meaning::Shows(Symbol::Sign(Class::Opening, '⦃')) },
@@ -178,6 +180,7 @@ static LETTER_L: [Entry; 74] = [
     Entry { name: "land", key: 0x6c616e6400000000, meaning: Meaning::Shows(Symbol::Sign(Class::Binary, '∧')) },
     Entry { name: "lang", key: 0x6c616e6700000000, meaning: Meaning::Shows(Symbol::Sign(Class::Opening, '⟨')) },
     Entry { name: "langle", key: 0x6c616e676c650000, meaning: Meaning::Shows(Symbol::Sign(Class::Opening, '⟨')) },
+    Entry { name: "large", key: 0x6c61726765000000, meaning: Meaning::Changes(Change::ToSize(TextSize::Large)) },
     Entry { name: "larr", key: 0x6c61727200000000, meaning: Meaning::Shows(Symbol::Sign(Class::Relation, '←')) },
     Entry { name: "lbrace", key: 0x6c62726163650000, meaning: Meaning::Shows(Symbol::Sign(Class::Opening, '{')) },
     Entry { name: "lbrack", key: 0x6c627261636b0000, meaning: Meaning::Shows(Symbol::Sign(Class::Opening, '[')) },

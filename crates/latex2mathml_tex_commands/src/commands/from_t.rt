@@ -5,6 +5,7 @@ ghost use Rattle.latex2mathml_tex_commands.specs.{Keys.has_key, Meanings.entry_o
 
 use crate::meaning::{
     Alphabet, Change, Class, Entry, FractionRule, LimitPlace, Meaning, OperandBox, Style, Symbol,
+    TextSize,
 };
 use latex2mathml_attributes::attributes::{Side, Stretch};
 
@@ -18,7 +19,7 @@ pub(crate) fn letter_t() -> &'static [Entry]
 }
 
 #[rattlefmt::skip]
-static LETTER_T: [Entry; 42] = [
+static LETTER_T: [Entry; 43] = [
     Entry { name: "tan", key: 0x74616e0000000000, meaning: Meaning::FunctionName(LimitPlace::Beside, "tan") },
     Entry { name: "tanh", key: 0x74616e6800000000, meaning: Meaning::FunctionName(LimitPlace::Beside, "tanh") },
     Entry { name: "tau", key: 0x7461750000000000, meaning: Meaning::Shows(Symbol::Letter('τ')) },
@@ -49,6 +50,7 @@ static LETTER_T: [Entry; 42] = [
     Entry { name: "thinspace", key: 0x7468696e73706163, meaning: Meaning::Spacing(3) },
     Entry { name: "tilde", key: 0x74696c6465000000, meaning: Meaning::Accent(Side::Above, '˜', Stretch::Rigid) },
     Entry { name: "times", key: 0x74696d6573000000, meaning: Meaning::Shows(Symbol::Sign(Class::Binary, '×')) },
+    Entry { name: "tiny", key: 0x74696e7900000000, meaning: Meaning::Changes(Change::ToSize(TextSize::Tiny)) },
     Entry { name: "to", key: 0x746f000000000000, meaning: Meaning::Shows(Symbol::Sign(Class::Relation, '→')) },
     Entry { name: "top", key: 0x746f700000000000, meaning: Meaning::Shows(Symbol::Sign(Class::Ordinary, '⊤')) },
     Entry { name: "triangle", key: 0x747269616e676c65, meaning: Meaning::Shows(Symbol::Sign(Class::Ordinary, '△')) },

@@ -4,7 +4,7 @@ ghost use Rattle.std.specs.List.{list_all};
 ghost use Rattle.latex2mathml_tex_commands.specs.{Keys.has_key, Meanings.entry_of, Parts.entries_in};
 
 use crate::meaning::{
-    Alphabet, Change, Class, Entry, FractionRule, LimitPlace, Meaning, OperandBox, Symbol,
+    Alphabet, Change, Class, Entry, FractionRule, LimitPlace, Meaning, OperandBox, Symbol, TextSize,
 };
 use latex2mathml_attributes::attributes::{Side, Stretch};
 
@@ -89,7 +89,7 @@ pub(crate) fn letter_n() -> &'static [Entry]
 }
 
 #[rattlefmt::skip]
-static LETTER_N: [Entry; 59] = [
+static LETTER_N: [Entry; 60] = [
     Entry { name: "nLeftarrow", key: 0x6e4c656674617272, meaning: Meaning::Shows(Symbol::Sign(Class::Relation, '⇍')) },
     Entry { name: "nLeftrightarrow", key: 0x6e4c656674726967, meaning: Meaning::Shows(Symbol::Sign(Class::Relation, '⇎')) },
     Entry { name: "nRightarrow", key: 0x6e52696768746172, meaning: Meaning::Shows(Symbol::Sign(Class::Relation, '⇏')) },
@@ -98,7 +98,7 @@ static LETTER_N: [Entry; 59] = [
     Entry { name: "nabla", key: 0x6e61626c61000000, meaning: Meaning::Shows(Symbol::Sign(Class::Ordinary, '∇')) },
     Entry { name: "natnums", key: 0x6e61746e756d7300, meaning: Meaning::Shows(Symbol::Letter('ℕ')) },
     Entry { name: "natural", key: 0x6e61747572616c00, meaning: Meaning::Shows(Symbol::Sign(Class::Ordinary, '♮')) },
-    Entry { name: "ncong", key: 0x6e636f6e67000000, meaning: Meaning::Shows(Symbol::Sign(Class::Relation, '≆')) },
+    Entry { name: "ncong", key: 0x6e636f6e67000000, meaning: Meaning::Shows(Symbol::Sign(Class::Relation, '≇')) },
     Entry { name: "ne", key: 0x6e65000000000000, meaning: Meaning::Shows(Symbol::Sign(Class::Relation, '≠')) },
     Entry { name: "nearrow", key: 0x6e656172726f7700, meaning: Meaning::Shows(Symbol::Sign(Class::Relation, '↗')) },
     Entry { name: "neg", key: 0x6e65670000000000, meaning: Meaning::Shows(Symbol::Sign(Class::Ordinary, '¬')) },
@@ -125,6 +125,7 @@ static LETTER_N: [Entry; 59] = [
     Entry { name: "nmid", key: 0x6e6d696400000000, meaning: Meaning::Shows(Symbol::Sign(Class::Relation, '∤')) },
     Entry { name: "nobreakspace", key: 0x6e6f627265616b73, meaning: Meaning::Spacing(6) },
     Entry { name: "nolimits", key: 0x6e6f6c696d697473, meaning: Meaning::NoLimits },
+    Entry { name: "normalsize", key: 0x6e6f726d616c7369, meaning: Meaning::Changes(Change::ToSize(TextSize::NormalSize)) },
     Entry { name: "not", key: 0x6e6f740000000000, meaning: Meaning::Negation },
     Entry { name: "notin", key: 0x6e6f74696e000000, meaning: Meaning::Shows(Symbol::Sign(Class::Relation, '∉')) },
     Entry { name: "notni", key: 0x6e6f746e69000000, meaning: Meaning::Shows(Symbol::Sign(Class::Relation, '∌')) },

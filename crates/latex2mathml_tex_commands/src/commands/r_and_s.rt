@@ -3,7 +3,9 @@ ghost use Rattle.std.specs.Prelude.{◌≡◌, IsTrue, map};
 ghost use Rattle.std.specs.List.{list_all};
 ghost use Rattle.latex2mathml_tex_commands.specs.{Keys.has_key, Meanings.entry_of, Parts.entries_in};
 
-use crate::meaning::{Alphabet, Change, Class, Entry, LimitPlace, Meaning, Style, Symbol};
+use crate::meaning::{
+    Alphabet, Change, Class, Entry, LimitPlace, Meaning, Style, Symbol, TextSize,
+};
 
 /// Returns the entries of the names that begin with r.
 #[tactic(auto, unfolding(crate::specs::Parts::entries_in, latex2mathml_tex_grammar::specs::Commands::command_entries, latex2mathml_tex_grammar::specs::CommandsUpToL::commands_up_to_l, latex2mathml_tex_grammar::specs::CommandsFromM::commands_from_m))]
@@ -66,9 +68,10 @@ pub(crate) fn letter_s() -> &'static [Entry]
 }
 
 #[rattlefmt::skip]
-static LETTER_S: [Entry; 80] = [
+static LETTER_S: [Entry; 83] = [
     Entry { name: "saturn", key: 0x73617475726e0000, meaning: Meaning::Shows(Symbol::Sign(Class::Ordinary, '♄')) },
     Entry { name: "scriptscriptstyle", key: 0x7363726970747363, meaning: Meaning::Changes(Change::ToStyle(Style::InScript)) },
+    Entry { name: "scriptsize", key: 0x7363726970747369, meaning: Meaning::Changes(Change::ToSize(TextSize::ScriptSize)) },
     Entry { name: "scriptstyle", key: 0x7363726970747374, meaning: Meaning::Changes(Change::ToStyle(Style::InScript)) },
     Entry { name: "sdot", key: 0x73646f7400000000, meaning: Meaning::Shows(Symbol::Sign(Class::Binary, '⋅')) },
     Entry { name: "searrow", key: 0x73656172726f7700, meaning: Meaning::Shows(Symbol::Sign(Class::Relation, '↘')) },
@@ -86,7 +89,9 @@ static LETTER_S: [Entry; 80] = [
     Entry { name: "simeq", key: 0x73696d6571000000, meaning: Meaning::Shows(Symbol::Sign(Class::Relation, '≃')) },
     Entry { name: "sin", key: 0x73696e0000000000, meaning: Meaning::FunctionName(LimitPlace::Beside, "sin") },
     Entry { name: "sinh", key: 0x73696e6800000000, meaning: Meaning::FunctionName(LimitPlace::Beside, "sinh") },
+    Entry { name: "sixptsize", key: 0x736978707473697a, meaning: Meaning::Changes(Change::ToSize(TextSize::SixPoint)) },
     Entry { name: "slashed", key: 0x736c617368656400, meaning: Meaning::Slash },
+    Entry { name: "small", key: 0x736d616c6c000000, meaning: Meaning::Changes(Change::ToSize(TextSize::Small)) },
     Entry { name: "smallfrown", key: 0x736d616c6c66726f, meaning: Meaning::Shows(Symbol::Sign(Class::Relation, '⌢')) },
     Entry { name: "smallint", key: 0x736d616c6c696e74, meaning: Meaning::Shows(Symbol::Integral('∫')) },
     Entry { name: "smallsetminus", key: 0x736d616c6c736574, meaning: Meaning::Shows(Symbol::Sign(Class::Binary, '∖')) },

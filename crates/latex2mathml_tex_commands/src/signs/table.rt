@@ -16,7 +16,7 @@ pub(crate) fn entries() -> &'static [SignEntry]
 
 /// An entry for each character, in the order of their codes.
 #[rattlefmt::skip]
-static ENTRIES: [SignEntry; 481] = [
+static ENTRIES: [SignEntry; 482] = [
     SignEntry { character: '!', symbol: Symbol::Sign(Class::Closing, '!') },
     SignEntry { character: '"', symbol: Symbol::Sign(Class::Ordinary, '"') },
     SignEntry { character: '(', symbol: Symbol::Sign(Class::Opening, '(') },
@@ -256,6 +256,7 @@ static ENTRIES: [SignEntry; 481] = [
     SignEntry { character: '≃', symbol: Symbol::Sign(Class::Relation, '≃') },
     SignEntry { character: '≅', symbol: Symbol::Sign(Class::Relation, '≅') },
     SignEntry { character: '≆', symbol: Symbol::Sign(Class::Relation, '≆') },
+    SignEntry { character: '≇', symbol: Symbol::Sign(Class::Relation, '≇') },
     SignEntry { character: '≈', symbol: Symbol::Sign(Class::Relation, '≈') },
     SignEntry { character: '≊', symbol: Symbol::Sign(Class::Relation, '≊') },
     SignEntry { character: '≍', symbol: Symbol::Sign(Class::Relation, '≍') },

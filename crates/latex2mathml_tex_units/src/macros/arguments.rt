@@ -84,7 +84,7 @@ impl<'a> Pending<'a> {
     }
 
     /// Takes `count` arguments of the macro at this place.
-    fn take_each(
+    fn take_plain_arguments(
         &mut self,
         alloc: Global,
         place: usize,
@@ -165,7 +165,7 @@ impl<'a> Pending<'a> {
         ensures { Reads result lists_in (arguments place (takes_of takes.now)) self.old self.new }
     {
         match takes {
-            Takes::Arguments(count) => self.take_each(alloc, place, *count),
+            Takes::Arguments(count) => self.take_plain_arguments(alloc, place, *count),
             Takes::Mixed(takes) => self.take_mixed(alloc, place, takes),
         }
     }

@@ -172,17 +172,17 @@ impl<'a> Pending<'a> {
     {
         let mut takes = Vec::new(alloc);
         let mut count: u8 = 0;
-        let mut behind_sign = false;
+        let mut behind_number_sign = false;
         'units: while let Some(piece) = self.peek() {
-            if behind_sign {
+            if behind_number_sign {
                 if !is_number(count, piece) {
                     return Err(Halt::Refused(Fault::WrongParameters, place));
                 }
                 takes.push(Taken::Parameter)?;
                 count += 1;
-                behind_sign = false;
+                behind_number_sign = false;
             } else if is_character('#', piece) {
-                behind_sign = true;
+                behind_number_sign = true;
             } else if is_brace(piece) {
                 return Ok(takes);
             } else {
@@ -190,7 +190,7 @@ impl<'a> Pending<'a> {
             }
             self.take();
         }
-        if behind_sign {
+        if behind_number_sign {
             return Err(Halt::Refused(Fault::WrongParameters, place));
         }
         Ok(takes)

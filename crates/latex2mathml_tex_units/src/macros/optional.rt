@@ -79,7 +79,7 @@ impl<'a> Pending<'a> {
     }
 
     /// Whether this sign comes next, and is in no group, where `depth` groups are open.
-    fn is_end(&self, sign: Piece, depth: usize) -> bool
+    fn ends_here(&self, sign: Piece, depth: usize) -> bool
         ensures { result ≡ begins_with (is_end (piece_of sign.entry) depth) (pending_units self.now) }
     {
         match self.peek() {
@@ -103,7 +103,7 @@ impl<'a> Pending<'a> {
         let mut inside = Vec::new(alloc);
         let mut depth: usize = 0;
         'units: loop {
-            if self.is_end(sign, depth) {
+            if self.ends_here(sign, depth) {
                 return Ok(inside);
             }
             match self.take() {

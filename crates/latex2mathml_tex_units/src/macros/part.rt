@@ -3,7 +3,6 @@ ghost use Rattle.std.specs.Prelude.{◌≡◌, IfOk, map, option_map};
 ghost use Rattle.latex2mathml_tex_grammar.specs.Definitions.{delimiters_macro, digit_of, enclosed_parts, is_character, operator_parts, parameter_part, parts_of, stretched_parts};
 ghost use Rattle.latex2mathml_tex_grammar.specs.Arguments.{is_sign};
 ghost use Rattle.latex2mathml_tex_grammar.specs.Macros.{alias, macro_taking, macro_with_default};
-ghost use Rattle.latex2mathml_tex_grammar.specs.UsualMacros.{other_macro};
 ghost use Rattle.latex2mathml_tex_units.specs.{Bodies.default_of, Bodies.macro_of, Bodies.part_of, Bodies.parts_in, Bodies.taken_of, Taking.piece_of, Taking.unit_of};
 
 use crate::unit::{Piece, Unit};

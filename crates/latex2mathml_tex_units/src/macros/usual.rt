@@ -48,18 +48,17 @@ static ENTRIES: [Usual; 168] = [
     Usual { name: "DOTSX", arity: 0, body: "" },
     Usual { name: "Eqcolon", arity: 0, body: "\\mathrel{=::}" },
     Usual { name: "Eqqcolon", arity: 0, body: "\\mathrel{=::}" },
-    Usual { name: "Huge", arity: 0, body: "" },
     Usual { name: "KaTeX", arity: 0, body: "\\text{KaTeX}" },
     Usual { name: "Ket", arity: 1, body: "\\left|#1\\right\\rangle" },
-    Usual { name: "LARGE", arity: 0, body: "" },
+    Usual { name: "Ketbra", arity: 2, body: "\\left|{#1}\\right\\rangle\\left\\langle{#2}\\right|" },
     Usual { name: "LaTeX", arity: 0, body: "\\text{LaTeX}" },
-    Usual { name: "Large", arity: 0, body: "" },
     Usual { name: "TeX", arity: 0, body: "\\text{TeX}" },
     Usual { name: "adjustlimits", arity: 0, body: "" },
     Usual { name: "allowbreak", arity: 0, body: "" },
     Usual { name: "allowdisplaybreaks", arity: 0, body: "" },
     Usual { name: "approxcolon", arity: 0, body: "\\mathrel{\\approx:}" },
     Usual { name: "approxcoloncolon", arity: 0, body: "\\mathrel{\\approx::}" },
+    Usual { name: "array", arity: 1, body: "\\begin{matrix}#1\\end{matrix}" },
     Usual { name: "begingroup", arity: 0, body: "{" },
     Usual { name: "bfseries", arity: 0, body: "\\bf" },
     Usual { name: "bgroup", arity: 0, body: "{" },
@@ -71,6 +70,7 @@ static ENTRIES: [Usual; 168] = [
     Usual { name: "centering", arity: 0, body: "" },
     Usual { name: "centernot", arity: 0, body: "\\not" },
     Usual { name: "clap", arity: 1, body: "\\mathclap{\\text{#1}}" },
+    Usual { name: "class", arity: 2, body: "#2" },
     Usual { name: "colon", arity: 0, body: "\\mskip2mu\\mathord{:}\\mskip6mu" },
     Usual { name: "colonapprox", arity: 0, body: "\\mathrel{:\\approx}" },
     Usual { name: "coloncolonapprox", arity: 0, body: "\\mathrel{::\\approx}" },
@@ -82,6 +82,7 @@ static ENTRIES: [Usual; 168] = [
     Usual { name: "colonminus", arity: 0, body: "\\mathrel{:\\relbar}" },
     Usual { name: "colonsim", arity: 0, body: "\\mathrel{:\\sim}" },
     Usual { name: "colorbox", arity: 2, body: "\\mathcolorbox{#1}{\\text{#2}}" },
+    Usual { name: "cssId", arity: 2, body: "#2" },
     Usual { name: "ddddot", arity: 1, body: "\\overset{....}{#1}" },
     Usual { name: "displaybreak", arity: 0, body: "" },
     Usual { name: "displaylines", arity: 1, body: "\\begin{gathered}#1\\end{gathered}" },
@@ -96,20 +97,20 @@ static ENTRIES: [Usual; 168] = [
     Usual { name: "endgroup", arity: 0, body: "}" },
     Usual { name: "ensuremath", arity: 1, body: "#1" },
     Usual { name: "eqalign", arity: 1, body: "\\begin{aligned}#1\\end{aligned}" },
+    Usual { name: "eqalignno", arity: 1, body: "\\begin{aligned}#1\\end{aligned}" },
     Usual { name: "eqno", arity: 0, body: "\\qquad\\textstyle" },
     Usual { name: "equalscoloncolon", arity: 0, body: "\\mathrel{=::}" },
     Usual { name: "fbox", arity: 1, body: "\\boxed{\\text{#1}}" },
-    Usual { name: "footnotesize", arity: 0, body: "" },
     Usual { name: "global", arity: 0, body: "" },
     Usual { name: "hdots", arity: 0, body: "\\ldots" },
     Usual { name: "hfil", arity: 0, body: "" },
     Usual { name: "hfill", arity: 0, body: "" },
+    Usual { name: "hfilll", arity: 0, body: "" },
     Usual { name: "href", arity: 2, body: "#2" },
     Usual { name: "htmlClass", arity: 2, body: "#2" },
     Usual { name: "htmlData", arity: 2, body: "#2" },
     Usual { name: "htmlId", arity: 2, body: "#2" },
     Usual { name: "htmlStyle", arity: 2, body: "#2" },
-    Usual { name: "huge", arity: 0, body: "" },
     Usual { name: "idotsint", arity: 0, body: "\\int\\cdots\\int" },
     Usual { name: "iff", arity: 0, body: "\\;\\Longleftrightarrow\\;" },
     Usual { name: "ignorespaces", arity: 0, body: "" },
@@ -119,10 +120,10 @@ static ENTRIES: [Usual; 168] = [
     Usual { name: "ket", arity: 1, body: "\\mathinner{|{#1}\\rangle}" },
     Usual { name: "ketbra", arity: 2, body: "\\mathinner{|{#1}\\rangle\\langle{#2}|}" },
     Usual { name: "label", arity: 1, body: "" },
-    Usual { name: "large", arity: 0, body: "" },
     Usual { name: "leavevmode", arity: 0, body: "" },
     Usual { name: "lefteqn", arity: 1, body: "\\mathrlap{\\displaystyle #1}" },
     Usual { name: "leftroot", arity: 1, body: "" },
+    Usual { name: "leqalignno", arity: 1, body: "\\begin{aligned}#1\\end{aligned}" },
     Usual { name: "leqno", arity: 0, body: "\\qquad\\textstyle" },
     Usual { name: "llap", arity: 1, body: "\\mathllap{\\text{#1}}" },
     Usual { name: "long", arity: 0, body: "" },
@@ -139,7 +140,6 @@ static ENTRIES: [Usual; 168] = [
     Usual { name: "noindent", arity: 0, body: "" },
     Usual { name: "nonumber", arity: 0, body: "" },
     Usual { name: "normalfont", arity: 0, body: "" },
-    Usual { name: "normalsize", arity: 0, body: "" },
     Usual { name: "notag", arity: 0, body: "" },
     Usual { name: "null", arity: 0, body: "{}" },
     Usual { name: "operatornamewithlimits", arity: 0, body: "\\operatorname*" },
@@ -153,11 +153,12 @@ static ENTRIES: [Usual; 168] = [
     Usual { name: "qedhere", arity: 0, body: "\\qquad\\square" },
     Usual { name: "raisebox", arity: 2, body: "\\raisemath{#1}{\\text{#2}}" },
     Usual { name: "relax", arity: 0, body: "" },
+    Usual { name: "require", arity: 1, body: "" },
     Usual { name: "rlap", arity: 1, body: "\\mathrlap{\\text{#1}}" },
     Usual { name: "rmfamily", arity: 0, body: "\\rm" },
     Usual { name: "rq", arity: 0, body: "'" },
     Usual { name: "sb", arity: 0, body: "_" },
-    Usual { name: "scriptsize", arity: 0, body: "" },
+    Usual { name: "scr", arity: 0, body: "\\cal" },
     Usual { name: "scshape", arity: 0, body: "" },
     Usual { name: "setlength", arity: 2, body: "" },
     Usual { name: "sffamily", arity: 0, body: "\\sf" },
@@ -167,17 +168,16 @@ static ENTRIES: [Usual; 168] = [
     Usual { name: "sideset", arity: 3, body: "\\mathop{\\vphantom{#3}#1\\!#3\\nolimits#2}" },
     Usual { name: "simcolon", arity: 0, body: "\\mathrel{\\sim:}" },
     Usual { name: "simcoloncolon", arity: 0, body: "\\mathrel{\\sim::}" },
-    Usual { name: "sixptsize", arity: 0, body: "" },
+    Usual { name: "skew", arity: 3, body: "{#2{#3\\mkern#1mu}\\mkern-#1mu}" },
     Usual { name: "slash", arity: 0, body: "/" },
     Usual { name: "slshape", arity: 0, body: "\\it" },
-    Usual { name: "small", arity: 0, body: "" },
     Usual { name: "sp", arity: 0, body: "^" },
     Usual { name: "splitdfrac", arity: 2, body: "\\genfrac{}{}{0pt}{0}{#1\\quad}{\\quad #2}" },
     Usual { name: "splitfrac", arity: 2, body: "\\genfrac{}{}{0pt}{1}{#1\\quad}{\\quad #2}" },
     Usual { name: "strut", arity: 0, body: "\\vphantom{(}" },
+    Usual { name: "style", arity: 2, body: "#2" },
     Usual { name: "textsubscript", arity: 1, body: "\\mbox{$_{\\mbox{#1}}$}" },
     Usual { name: "textsuperscript", arity: 1, body: "\\mbox{$^{\\mbox{#1}}$}" },
-    Usual { name: "tiny", arity: 0, body: "" },
     Usual { name: "ttfamily", arity: 0, body: "\\tt" },
     Usual { name: "unskip", arity: 0, body: "" },
     Usual { name: "uproot", arity: 1, body: "" },
@@ -215,13 +215,19 @@ enum Other {
         starred: &'static str,
         body: &'static str,
     },
+    /// It takes two arguments, the first of which is in brackets or left out.
+    Optional {
+        body: &'static str,
+    },
 }
 
 /// Returns the one with this name.
 fn other_named(name: &str) -> Option<Other>
     ensures { option_map other_of result ≡ other_named name.now }
 {
-    if name == "buildrel" {
+    if name == "bbox" {
+        Some(Other::Optional { body: "#2" })
+    } else if name == "buildrel" {
         Some(Other::Divided {
             command: "over",
             body: "\\stackrel{#1}{#2}",
@@ -272,6 +278,9 @@ impl Other {
                 takes: Takes::Arguments(1),
                 body: body_of(alloc, 1, body)?,
             }),
+            Other::Optional { body } => {
+                Ok(Macro::new(Some(Vec::new(alloc)), 2, body_of(alloc, 2, body)?))
+            }
         }
     }
 }

@@ -13,7 +13,7 @@ pub returns-then-c-eq36-clause-holds : goal.returns-then-c-eq36-clause-holds
 returns-then-c-eq36-clause-holds c = λ s g.
     let a : Option Alphabet = option_map alphabet_of c.args.alphabet in
     let piece = Character c.args.c in
-    c.open.ensures.holds s g.style (formula_begun s c.args.self.now c.args.words c.args.place c.end_accent.new.builder c.in_ok-words.words piece a c.formula_alphabet.result c.begun.result c.in_ok-words.ensures c.begun.ensures c.formula_alphabet.ensures (dollar_rule a c.args.c c.if-c-eq36.true) g)
+    c.open.ensures.holds s g.style (formula_begun s c.args.self.now c.args.words c.args.place c.end_accent.new.builder c.in_ok-words.words piece a c.formula_alphabet.result c.new-context.result c.begun.result c.new-context.ensures c.in_ok-words.ensures c.begun.ensures c.formula_alphabet.ensures (dollar_rule a c.args.c c.if-c-eq36.true) g)
 
 pub returns-then-c-eq126-clause-holds : goal.returns-then-c-eq126-clause-holds
 returns-then-c-eq126-clause-holds c = λ s g.

@@ -1,6 +1,6 @@
 use Rattle.std.proofs.Common.{◌≡◌, ◌∙◌, Option, ap, arith, option_map, subst, sym}
 use Rattle.latex2mathml_tex_grammar.specs.{Makes.outlined_fraction, Symbols.smaller}
-use Rattle.latex2mathml_tex_grammar.specs.Rules.{an_outline, an_outlined_fraction, in_context, of_two, own_style}
+use Rattle.latex2mathml_tex_grammar.specs.Rules.{an_outline, an_outlined_fraction, of_two, own_style, styled}
 use Rattle.latex2mathml_tex_commands.specs.Meanings.{style_of}
 use Rattle.latex2mathml_tex.specs.{Frames.after_first, Frames.context_at, TakenBy.TookBy}
 use Rattle.latex2mathml_tex_atoms.specs.{Models.context_of, Outlines.outline_of}
@@ -33,13 +33,13 @@ returns-clause-holds c = λ s g.
     let place = c.args.place in
     let outline = c.in-Some.outline in
     let own = option_map style_of outline.own in
-    let alphabet = (context_of c.args.context).alphabet in
+    let around = context_of c.args.context in
     let took = subst (λ (x : Option Outline). TookBy (an_outline place) p q (option_map outline_of x)) c.in-Some.is c.in_ok-outline.ensures in
     let begins = handed_on (an_outline place) p q (outline_of outline) s (an_outlined_fraction place (context_of c.args.context)) took g in
     let chosen : style_of c.unwrap_or.result ≡ own_style own (style_of c.args.context.style) = ap style_of c.unwrap_or.ensures ∙ own_style_is outline.own c.args.context.style in
     let style : smaller (own_style own (style_of c.args.context.style)) ≡ style_of c.smaller-style.result = sym (c.smaller-style.ensures ∙ ap smaller chosen) in
-    let part = in_context (style_of c.smaller-style.result) alphabet in
-    let due = subst (λ st. Begins (of_two place (in_context st alphabet) (in_context st alphabet) (λ above below. outlined_fraction (outline_of outline) above.element below.element)) 0 s q) style begins in
+    let part = styled around (style_of c.smaller-style.result) in
+    let due = subst (λ st. Begins (of_two place (styled around st) (styled around st) (λ above below. outlined_fraction (outline_of outline) above.element below.element)) 0 s q) style begins in
     c.open.ensures.holds s due.style (rw c.styled.ensures (operand_due (after_first (first.Outlined outline) place part (context_at (level 0 s q)) (elements_of q)) due.leads))
 
 pub returns-clause-step : goal.returns-clause-step

@@ -1,6 +1,6 @@
 use Rattle.std.proofs.Common.{◌≡◌, ◌∙◌, ap, option_map, subst, sym}
 use Rattle.latex2mathml_tex_grammar.specs.{Makes.fraction, Symbols.smaller}
-use Rattle.latex2mathml_tex_grammar.specs.Rules.{in_context, of_two, own_style}
+use Rattle.latex2mathml_tex_grammar.specs.Rules.{of_two, own_style, styled}
 use Rattle.latex2mathml_tex.specs.Frames.{after_first, context_at}
 use Rattle.latex2mathml_tex_commands.specs.Meanings.{fraction_rule_of, style_of}
 use Rattle.latex2mathml_tex_atoms.specs.Models.{context_of}
@@ -15,9 +15,9 @@ returns-clause-holds c = λ s g.
     let place = c.args.place in
     let rule = fraction_rule_of c.args.rule in
     let own = option_map style_of c.args.own in
-    let alphabet = (context_of c.args.context).alphabet in
+    let around = context_of c.args.context in
     let chosen : style_of c.unwrap_or.result ≡ own_style own (style_of c.args.context.style) = ap style_of c.unwrap_or.ensures ∙ own_style_is c.args.own c.args.context.style in
     let style : smaller (own_style own (style_of c.args.context.style)) ≡ style_of c.smaller-style.result = sym (c.smaller-style.ensures ∙ ap smaller chosen) in
-    let part = in_context (style_of c.smaller-style.result) alphabet in
-    let begins = subst (λ st. Begins (of_two place (in_context st alphabet) (in_context st alphabet) (λ above below. fraction rule own above.element below.element)) 0 s p) style g in
+    let part = styled around (style_of c.smaller-style.result) in
+    let begins = subst (λ st. Begins (of_two place (styled around st) (styled around st) (λ above below. fraction rule own above.element below.element)) 0 s p) style g in
     c.open.ensures.holds s g.style (rw c.styled.ensures (operand_due (after_first (first.Fraction c.args.rule c.args.own) place part (context_at (level 0 s p)) (elements_of p)) begins.leads))

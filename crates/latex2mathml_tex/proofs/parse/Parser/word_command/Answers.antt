@@ -65,15 +65,15 @@ returns-in-Words-clause-step c =
       falls = omega (arith, less);
     }
 
-pub returns-in-Alphabet-clause-holds : goal.returns-in-Alphabet-clause-holds
-returns-in-Alphabet-clause-holds c = λ s g.
+pub returns-in-Change-clause-holds : goal.returns-in-Change-clause-holds
+returns-in-Change-clause-holds c = λ s g.
     let a : Option Alphabet = option_map alphabet_of c.args.alphabet in
     let name = c.args.name.now in
-    let rule = c.of.ensures a ∙ ap (rule_of (font_in a) name) c.in-Alphabet.is in
-    words_stay s c.args.self.now c.args.words (stands s c.args.self.now c.args.words (Command name) c.args.place a (Changed (alphabet_of c.in-Alphabet.field-0)) rule g)
+    let rule = c.of.ensures a ∙ ap (rule_of (font_in a) name) c.in-Change.is in
+    words_stay s c.args.self.now c.args.words (stands s c.args.self.now c.args.words (Command name) c.args.place a (Changed (option_map alphabet_of c.in-Change.field-0)) rule g)
 
-pub returns-in-Alphabet-clause-step : goal.returns-in-Alphabet-clause-step
-returns-in-Alphabet-clause-step c = record { ready = record { elements = c.requires.elements; may_come = c.requires.awaits }; falls = omega arith }
+pub returns-in-Change-clause-step : goal.returns-in-Change-clause-step
+returns-in-Change-clause-step c = record { ready = record { elements = c.requires.elements; may_come = c.requires.awaits }; falls = omega arith }
 
 pub returns-in-Forbidden : goal.returns-in-Forbidden
 returns-in-Forbidden c =

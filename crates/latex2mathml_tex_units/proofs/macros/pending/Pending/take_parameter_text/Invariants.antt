@@ -7,7 +7,7 @@ use Rattle.latex2mathml_tex_units.proofs.macros.pending.Pending.take_parameter_t
 abbrev pub invariant-units : goal.invariant-units
 invariant-units l = record {
   most : l.count ≤ 9;
-  same : parameter_text l.place (pending_units l.fn.self) ≡ with_all (taken_in l.takes) (parameters_behind l.place (pending_units l.self) l.behind_sign l.count);
+  same : parameter_text l.place (pending_units l.fn.self) ≡ with_all (taken_in l.takes) (parameters_behind l.place (pending_units l.self) l.behind_number_sign l.count);
 }
 
 abbrev pub decreases-units : goal.decreases-units

@@ -12,7 +12,7 @@ units-preserved c =
     let most = c.units.invariant.depth in
     let len = c.in_ok-push-in-Unit.ensures.len in
     let taken = c.in-Unit.ensures in
-    let other : begins_with (is_end sign c.units.depth) (pending_units c.units.self) ≡ false = sym c.is_end.ensures ∙ c.if-is_end.false in
+    let other : begins_with (is_end sign c.units.depth) (pending_units c.units.self) ≡ false = sym c.ends_here.ensures ∙ c.if-ends_here.false in
     let step : up_to sign r (pending_units c.units.self) c.units.depth ≡ with_first (unit_of c.in-Unit.unit) (up_to sign r (pending_units c.take.new.self) c.match-unit.depth) =
     elim c.match-unit.branch [
       | in-Open w ↦ let e : c.match-unit.depth ≡ suc c.units.depth = omega (arith, w.depth-is) in before_open sign r _ _ _ _ c.in-Unit.unit taken w.in-Open.is e

@@ -2,7 +2,7 @@ use Rattle.std.proofs.Common.{rules, map, ◌≡◌, ◌∙◌, ◌-◌, suc, ap
 use Rattle.latex2mathml_tex_grammar.specs.{Arguments.and_then, Arguments.argument, Arguments.argument_before, Arguments.arguments, Arguments.with_first, Macros.parameters}
 use Rattle.latex2mathml_tex_units.specs.Pending.{pending_units, units_in}
 use Rattle.latex2mathml_tex_units.proofs.Grouping.{arguments_on, each_next, none_between, with_all}
-use Rattle.latex2mathml_tex_units.proofs.macros.pending.Pending.take_each.Goals as goal
+use Rattle.latex2mathml_tex_units.proofs.macros.pending.Pending.take_plain_arguments.Goals as goal
 
 pub all-preserved : goal.all-preserved
 all-preserved c =

@@ -2,10 +2,10 @@
 use Rattle.std.proofs.Common.{◌≡◌, drop}
 use Rattle.latex2mathml_tex_grammar.specs.Lengths as lengths
 use Rattle.latex2mathml_tex_commands.specs.Lengths.{IsSmall, length_in}
-use Rattle.latex2mathml_tex_commands.proofs.lengths.width_of.Given as goal
+use Rattle.latex2mathml_tex_commands.proofs.lengths.Length.with_all.Given as goal
 
 abbrev pub invariant-characters : goal.invariant-characters
 invariant-characters l = record {
-  so_far : lengths.length_of l.text ≡ lengths.with_all (length_in l.length) (drop l.c-index l.text);
+  so_far : lengths.with_all (length_in l.fn.self) l.text ≡ lengths.with_all (length_in l.length) (drop l.c-index l.text);
   small : IsSmall l.length;
 }
