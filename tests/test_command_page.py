@@ -19,7 +19,7 @@ DRAWN = {
 BEHIND = re.compile(r"`(\[.\]|\{\w+\})`")  # what the page says to follow the name of an environment
 BELOW = "{1}x"  # an arrow is before what is above it
 # the arguments of macros that do not take every formula
-FIRST_ARGUMENTS = {"\\colorbox": "red", "\\lower #1\\hbox": "1em", "\\raise #1\\hbox": "1em", "\\raisebox": "1em"}
+FIRST_ARGUMENTS = {"\\colorbox": "red", "\\lower #1\\hbox": "1em", "\\raise #1\\hbox": "1em", "\\raisebox": "1em", "\\skew": "3"}
 # the macros that begin and end a formula in words
 SIGNS_IN_WORDS = ["\\(", "\\)"]
 # those that are opening braces, and the closing ones
