@@ -74,6 +74,9 @@ def text(element):
 def scripted(element, lower, upper):
     base, *_ = children = [row([child]) for child in element]
     below, above = (children[place] if place else () for place in (lower, upper))
+    # a space is below what it makes wide
+    if element[0].tag.rpartition("}")[2] == "mspace" and element.get("accent") == "true":
+        return list(above)
     if len(base) == 1 and isinstance(base[0], tuple) and base[0][0] == "scripts":
         _, inner, inner_below, inner_above = base[0]
         if not (below and inner_below) and not (above and inner_above):

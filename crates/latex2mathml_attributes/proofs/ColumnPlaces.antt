@@ -1,7 +1,7 @@
 -- The columns that the code finds are those of the definitions.
 use Rattle.std.proofs.Common.{◌≡◌, ℕ, zero, suc, ◌%◌, ◌<◌, ◌≤◌, Bool, false, ◌||◌, List, [], ◌∷◌, drop, length, take, refl, sym, ap, ◌∙◌, arith}
 use Rattle.std.proofs.Math.ListN.{get_or}
-use Rattle.latex2mathml_elements.specs.Columns.{Centered, Column, RightAligned, Continued, Opened, Unspaced, SpaceBefore, InPairs, Listed, any_lined, column_at, spaced, unlined}
+use Rattle.latex2mathml_elements.specs.Columns.{Centered, Column, RightAligned, Continued, Opened, Unspaced, SpaceBefore, SpaceAround, InDiagram, InPairs, Listed, any_lined, column_at, spaced, unlined}
 use Rattle.latex2mathml_elements.specs.Lines.{Line, NoLine, is_drawn}
 use Rattle.latex2mathml_attributes.specs.{Columns.behind_line, Columns.line_before}
 
@@ -18,6 +18,18 @@ second_of_pair zero h = absurd (omega arith)
 second_of_pair (suc zero) h = refl
 second_of_pair (suc (suc zero)) h = absurd (omega arith)
 second_of_pair (suc (suc (suc k))) h = second_of_pair (suc k) (omega arith)
+
+-- Diagrams
+
+pub objects_at : (k : ℕ) → k % 2 ≡ 0 → column_at InDiagram k ≡ spaced Opened SpaceAround Centered
+objects_at zero h = refl
+objects_at (suc zero) h = absurd (omega arith)
+objects_at (suc (suc k)) h = objects_at k (omega arith)
+
+pub arrows_at : (k : ℕ) → k % 2 ≡ 1 → column_at InDiagram k ≡ spaced Opened Unspaced Centered
+arrows_at zero h = absurd (omega arith)
+arrows_at (suc zero) h = refl
+arrows_at (suc (suc k)) h = arrows_at k (omega arith)
 
 -- Columns that are listed
 

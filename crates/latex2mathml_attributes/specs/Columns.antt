@@ -1,5 +1,5 @@
 -- The columns of the code, as values of the definitions.
-use Rattle.std.specs.Prelude.{ℕ, zero, suc, ℤ, pos, negsuc, ◌<◌, ◌≤◌, ◌==◌, ◌%◌, ◌/◌, Bool, false, nat_lt, List, [], ◌∷◌, ◌++◌, codes, length, map, take, if◌then◌else◌}
+use Rattle.std.specs.Prelude.{ℕ, zero, suc, ℤ, pos, negsuc, ◌<◌, ◌≤◌, ◌==◌, ◌%◌, ◌/◌, Bool, true, false, nat_lt, List, [], ◌∷◌, ◌++◌, codes, length, map, take, if◌then◌else◌}
 use Rattle.latex2mathml_elements.specs.Columns as defined
 use Rattle.latex2mathml_elements.specs.Lines as lines
 use Rattle.latex2mathml_elements.specs.Print.{alignment_style, alignment_text}
@@ -107,12 +107,18 @@ abbrev pub columns_with : Kind → lines.Line → List defined.Column → define
 columns_with (kind.Alike density alignment) line listed = defined.Alike (density_of density) (alignment_of alignment)
 columns_with kind.InPairs line listed = defined.InPairs
 columns_with kind.AroundRelation line listed = defined.AroundRelation
+columns_with kind.InDiagram line listed = defined.InDiagram
 columns_with kind.Broken line listed = defined.Broken
 columns_with kind.BrokenAfterFirst line listed = defined.BrokenAfterFirst
 columns_with kind.Listed line listed = defined.Listed line listed
 
 abbrev pub columns_of : Columns → defined.Columns
 columns_of c = columns_with c.kind (line_of c.before) (take c.len (columns_in c.listed))
+
+-- whether columns are those of a diagram
+abbrev pub are_in_diagram : defined.Columns → Bool
+are_in_diagram defined.InDiagram = true
+are_in_diagram columns = false
 
 -- the columns are a list, and more can be listed
 abbrev pub has_room : defined.Columns → Bool

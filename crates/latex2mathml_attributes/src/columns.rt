@@ -2,9 +2,9 @@
 ghost use Rattle.std.specs.Prelude.{◌≡◌, ◌<◌, ◌≤◌, ◌++◌, [], OnOk, get_or, pos, string_bytes};
 ghost use Rattle.latex2mathml_elements.specs.Print.{cell_tag, spacing_style};
 ghost use Rattle.latex2mathml_elements.specs.Struts.{deepened, least_depth, least_height, strut};
-ghost use Rattle.latex2mathml_elements.specs.Columns.{Alike, AroundRelation, Broken, Centered, InPairs, Listed, are_lined, behind_row, between, column_at, density_in, in_last_row, spaced, unlined};
+ghost use Rattle.latex2mathml_elements.specs.Columns.{Alike, AroundRelation, Broken, Centered, InDiagram, InPairs, Listed, are_lined, behind_row, between, column_at, density_in, in_last_row, spaced, unlined};
 ghost use Rattle.latex2mathml_attributes.specs.Arounds.{extent_of};
-ghost use Rattle.latex2mathml_attributes.specs.Columns.{IsSmall, alignment_of, behind_line, cell_start, column_of, columns_of, columns_in, density_of, has_room, line_before, listed_behind, listed_of, numbered, spacing_of};
+ghost use Rattle.latex2mathml_attributes.specs.Columns.{IsSmall, alignment_of, are_in_diagram, behind_line, cell_start, column_of, columns_of, columns_in, density_of, has_room, line_before, listed_behind, listed_of, numbered, spacing_of};
 ghost use Rattle.latex2mathml_attributes.specs.Lines.{line_of};
 
 use crate::extent::Extent;
@@ -73,6 +73,7 @@ enum Kind {
     Alike(Density, Alignment),
     InPairs,
     AroundRelation,
+    InDiagram,
     Broken,
     BrokenAfterFirst,
     Listed,
@@ -226,6 +227,16 @@ impl Columns {
         }
     }
 
+    /// Returns columns for the objects of a diagram, and the arrows between them.
+    pub fn in_diagram() -> Columns
+        ensures { columns_of result ≡ InDiagram }
+    {
+        Columns {
+            kind: Kind::InDiagram,
+            ..Columns::none(Line::Nothing)
+        }
+    }
+
     /// Returns columns for the lines of a formula that is broken: the first is at the left, the last at the right, and those
     /// between them are in the middle.
     pub fn broken() -> Columns
@@ -294,6 +305,7 @@ impl Columns {
             }
             Kind::InPairs => column_of_pair(place),
             Kind::AroundRelation => column_around_relation(place),
+            Kind::InDiagram => column_of_diagram(place),
             Kind::Broken => {
                 Column::spaced(
                     Density::Opened,
@@ -351,10 +363,20 @@ impl Columns {
     {
         match self.kind {
             Kind::Alike(density, _) => density,
-            Kind::InPairs | Kind::AroundRelation | Kind::Broken | Kind::BrokenAfterFirst =>
-                Density::Opened,
+            Kind::InPairs
+            | Kind::AroundRelation
+            | Kind::InDiagram
+            | Kind::Broken
+            | Kind::BrokenAfterFirst => Density::Opened,
             Kind::Listed => Density::Usual,
         }
+    }
+
+    /// Whether they are those of a diagram.
+    pub fn are_in_diagram(&self) -> bool
+        ensures { result ≡ are_in_diagram (columns_of self.now) }
+    {
+        matches!(self.kind, Kind::InDiagram)
     }
 
     /// Whether lines are drawn next to columns.
@@ -414,6 +436,16 @@ fn column_around_relation(place: usize) -> Column
         _ => Alignment::Centered,
     };
     Column::spaced(Density::Opened, Spacing::Around, alignment)
+}
+
+/// Returns the column that follows `place` others, where every other one has the objects of a diagram.
+fn column_of_diagram(place: usize) -> Column
+    ensures { column_of result ≡ column_at InDiagram place }
+{
+    if place % 2 == 0 {
+        return Column::spaced(Density::Opened, Spacing::Around, Alignment::Centered);
+    }
+    Column::spaced(Density::Opened, Spacing::Unspaced, Alignment::Centered)
 }
 
 /// Returns this depth with this space below it. A negative space takes from it, but no more than all of it.

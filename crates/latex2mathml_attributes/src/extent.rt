@@ -2,7 +2,7 @@
 ghost use Rattle.std.specs.Prelude.{◌≡◌, ℕ, List, ◌++◌, MatchOption, OnOk, codes, string_bytes, unsigned_abs};
 ghost use Rattle.std.specs.Bool.{⊤};
 ghost use Rattle.latex2mathml_elements.specs.Extents;
-ghost use Rattle.latex2mathml_elements.specs.Extents.{black_text, ems, extent_text, length_if_any, wide};
+ghost use Rattle.latex2mathml_elements.specs.Extents.{ems, extent_text, length_if_any, wide};
 ghost use Rattle.latex2mathml_trees.specs.Width.{thousandths_text};
 ghost use Rattle.latex2mathml_elements.specs.Tables.{line_as};
 ghost use Rattle.latex2mathml_attributes.specs.{Arounds.extent_of, Lines.line_of};

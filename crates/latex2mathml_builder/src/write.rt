@@ -1,5 +1,5 @@
 //! Writes elements as markup.
-ghost use Rattle.std.specs.Prelude.{◌≡◌, ◌+◌, ◌<◌, ◌≤◌, ◌∷◌, ◌++◌, [], false, IfOk, OnOk, codes, length, option_map, set, string_bytes};
+ghost use Rattle.std.specs.Prelude.{◌≡◌, ◌+◌, ◌<◌, ◌≤◌, ◌++◌, [], false, IfOk, OnOk, codes, length, option_map, string_bytes};
 ghost use Rattle.latex2mathml_elements.specs.Attributes.{styled};
 ghost use Rattle.latex2mathml_elements.specs.Element.{children, space};
 ghost use Rattle.latex2mathml_elements.specs.Print.{attributes_text, container_name, pair_name, print, prints, start_tag, table_attributes, triple_name};

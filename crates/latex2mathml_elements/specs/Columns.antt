@@ -51,6 +51,8 @@ pub data Columns : Type 0 where
   InPairs : Columns
   -- the left side of a relation, the relation, and its right side, followed by centered ones
   AroundRelation : Columns
+  -- the objects of a diagram, with space around each, and between two of them their arrow
+  InDiagram : Columns
   -- the lines of a formula that is broken: the first is at the left, the last at the right, and those between them in the middle
   Broken : Columns
   -- such lines without the first one
@@ -74,6 +76,9 @@ column_at AroundRelation zero = spaced Opened SpaceAround RightAligned
 column_at AroundRelation (suc zero) = spaced Opened SpaceAround Centered
 column_at AroundRelation (suc (suc zero)) = spaced Opened SpaceAround LeftAligned
 column_at AroundRelation (suc (suc (suc k))) = spaced Opened SpaceAround Centered
+column_at InDiagram zero = spaced Opened SpaceAround Centered
+column_at InDiagram (suc zero) = spaced Opened Unspaced Centered
+column_at InDiagram (suc (suc k)) = column_at InDiagram k
 column_at Broken k = spaced Opened (between k) Continued
 column_at BrokenAfterFirst k = spaced Opened (between k) Centered
 column_at (Listed line []) k = unlined Centered
@@ -95,6 +100,7 @@ abbrev pub density_in : Columns → Density
 density_in (Alike density alignment) = density
 density_in InPairs = Opened
 density_in AroundRelation = Opened
+density_in InDiagram = Opened
 density_in Broken = Opened
 density_in BrokenAfterFirst = Opened
 density_in (Listed line columns) = Usual

@@ -4,6 +4,7 @@ pub mod Beginnings
 pub mod Closing
 pub mod ColoredBoxes
 pub mod Commanded
+pub mod Diagrams
 pub mod Digits
 pub mod Endings
 pub mod Finished

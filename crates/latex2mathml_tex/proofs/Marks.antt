@@ -70,6 +70,8 @@ module _ (r : Refusal) where
     row_refuses (ending.Delimiters opening) place xs k = on (core_refuses l k)
     row_refuses (ending.Formula n) place xs k = on (part_refuses l k)
     row_refuses (ending.Cell t) place xs k = on (core_refuses l k)
+    row_refuses (ending.FirstLabel labeled) place xs k = on (core_refuses l k)
+    row_refuses (ending.SecondLabel labeled) place xs k = on (core_refuses l k)
 
     frame_refuses : (f : Frame) (xs : List Element) → Refuses (enter s f xs l) r → Whole s (Refused r)
     frame_refuses (frame.Row e place c above) xs k = row_refuses e place (drop (row_count above) xs) k

@@ -58,6 +58,8 @@ is_left ending.Degree place u l m next = refl
 is_left ending.BelowArrow place u l m next = refl
 is_left (ending.Delimiters opening) place u l m next = refl
 is_left (ending.Formula n) place u l m next = refl
+is_left (ending.FirstLabel k) place u l m next = next_stays l (unit_of u) m next
+is_left (ending.SecondLabel k) place u l m next = next_stays l (unit_of u) m next
 
 module _ (p : Parser) (e : Ending) (place : ℕ) (row : CodeRow) (c : Context) (others : List Frame) (inner : IsInnermost p.style p.frames.stack.items (frame.Row e place c row) others) where
   module _ (s : Start) (h : Holds s p state.Next) where

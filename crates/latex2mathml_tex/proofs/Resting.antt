@@ -70,6 +70,8 @@ closes_by s p ending.Degree place xs u rest left style leads = record { style = 
 closes_by s p ending.BelowArrow place xs u rest left style leads = record { style = style; leads = rw left at leads }
 closes_by s p (ending.Delimiters opening) place xs u rest left style leads = record { style = style; leads = rw left at leads }
 closes_by s p (ending.Formula n) place xs u rest left style leads = record { style = style; leads = rw left at leads }
+closes_by s p (ending.FirstLabel k) place xs u rest left style leads = record { style = style; before = rest; next = left; leads = leads }
+closes_by s p (ending.SecondLabel k) place xs u rest left style leads = record { style = style; before = rest; next = left; leads = leads }
 
 pub row_finished : (s : Start) (p : Parser) (b : Built) (style : CodeStyle) (row whole : CodeRow) → row_with whole (elements_in b) ≡ finished (style_of style) (row_with row (elements_of p)) → drop whole.count (elements_in b) ≡ drop (row_count row) (elements_of p) → (e : Ending) (place : ℕ) (u : CodeUnit) → EndsRow e place style row u s p → Closes e place whole u s (record p { builder = b })
 row_finished s p b style row whole is below e place u g =

@@ -7,7 +7,7 @@ use Rattle.std.specs.Char.{is_ascii_alphabetic, is_ascii_digit}
 use Rattle.std.specs.Str.{byte}
 use Rattle.latex2mathml_tex_grammar.specs.{Next.digits_next, Next.past_space, Rules.a_number, Rules.character_rule}
 use Rattle.latex2mathml_tex_grammar.specs.Rules as rules
-use Rattle.latex2mathml_tex_grammar.specs.Rules.{WholeText, InBraces, InBrackets, InDollars, InDelimiters, InCell, ByName, ByBrace, ByText}
+use Rattle.latex2mathml_tex_grammar.specs.Rules.{WholeText, InBraces, InBrackets, InDollars, InDelimiters, InCell, InLabel, ByName, OfDiagram, ByBrace, ByText}
 use Rattle.latex2mathml_tex_grammar.specs.Starts.{RuleStart, atom_start, ends}
 use Rattle.latex2mathml_tex_grammar.specs.Units.{Character, Next, Open}
 use Rattle.latex2mathml_tex_atoms.specs.Models.{context_of, empty_row}
@@ -19,7 +19,7 @@ use Rattle.latex2mathml_tex_grammar.specs.Makes
 use Rattle.latex2mathml_tex_atoms.specs.{Models.kind_of, Shapes.IsPut}
 use Rattle.latex2mathml_tex_atoms.specs.declared.{atoms.Context.Context, atoms.Core.Core, atoms.Row.Row, atoms.Scripts.Scripts}
 use Rattle.latex2mathml_tex.specs.Frames.{Start, ending_of}
-use Rattle.latex2mathml_tex.specs.RowCharacters.{IsRowInnermost, ends_or_marks, is_symbol}
+use Rattle.latex2mathml_tex.specs.RowCharacters.{IsRowInnermost, ends_or_marks, is_label, is_symbol}
 use Rattle.latex2mathml_tex.specs.RowSymbols.{ReadSymbol, lone_scripts}
 use Rattle.latex2mathml_tex.specs.Steps.{Begins, BeginsIn, CanBegin, Follows, Holds, Ready, Took, elements_of, left_of, level_within}
 use Rattle.latex2mathml_tex.specs.declared.parse.Parser.{Parser}
@@ -29,41 +29,45 @@ use Rattle.latex2mathml_tex.specs.declared.parse.frames.Ending.TheVariants as en
 use Rattle.latex2mathml_tex.specs.declared.parse.frames.Frame.TheVariants as frame
 use Rattle.latex2mathml_tex.proofs.{Beginning.group_begins, Beginning.unit_begins, Beginnings.rule_begun, Operands.core_in_row, Putting.past_digits, Putting.past_none, Putting.put_held, RowAwaits.row_awaits}
 
--- none of six tests
-record None6 (a b c d e f : Bool) : Type 0 where
+-- none of seven tests
+record None7 (a b c d e f g : Bool) : Type 0 where
   first : a ≡ false
   second : b ≡ false
   third : c ≡ false
   fourth : d ≡ false
   fifth : e ≡ false
   sixth : f ≡ false
+  seventh : g ≡ false
 
-none_of : (a b c d e f : Bool) → (a || b || c || d || e || f) ≡ false → None6 a b c d e f
-none_of false false false false false false h = record { first = refl; second = refl; third = refl; fourth = refl; fifth = refl; sixth = refl }
-none_of true b c d e f h = absurd (cc)
-none_of false true c d e f h = absurd (cc)
-none_of false false true d e f h = absurd (cc)
-none_of false false false true e f h = absurd (cc)
-none_of false false false false true f h = absurd (cc)
-none_of false false false false false true h = absurd (cc)
+none_of : (a b c d e f g : Bool) → (a || b || c || d || e || f || g) ≡ false → None7 a b c d e f g
+none_of false false false false false false false h = record { first = refl; second = refl; third = refl; fourth = refl; fifth = refl; sixth = refl; seventh = refl }
+none_of true b c d e f g h = absurd (cc)
+none_of false true c d e f g h = absurd (cc)
+none_of false false true d e f g h = absurd (cc)
+none_of false false false true e f g h = absurd (cc)
+none_of false false false false true f g h = absurd (cc)
+none_of false false false false false true g h = absurd (cc)
+none_of false false false false false false true h = absurd (cc)
 
 turned : (a b : ℕ) → (a == b) ≡ false → (b == a) ≡ false
 turned a b h = grind (arith, nat_tests)
 
 module _ (c : ℕ) (none : ends_or_marks c ≡ false) where
-  each : None6 (c == byte "&") (c == byte "_") (c == byte "^") (c == byte "'") (c == byte "]") (c == byte "$")
-  each = none_of (c == byte "&") (c == byte "_") (c == byte "^") (c == byte "'") (c == byte "]") (c == byte "$") none
+  each : None7 (c == byte "&") (c == byte "_") (c == byte "^") (c == byte "'") (c == byte "]") (c == byte "$") (c == byte "@")
+  each = none_of (c == byte "&") (c == byte "_") (c == byte "^") (c == byte "'") (c == byte "]") (c == byte "$") (c == byte "@") none
 
   -- the character ends no row
-  pub ends_none : (e : rules.Ending) → ends e (Character c) ≡ false
-  ends_none WholeText = refl
-  ends_none (InBraces place) = refl
-  ends_none (InBrackets place) = turned c (byte "]") each.fifth
-  ends_none (InDollars place) = turned c (byte "$") each.sixth
-  ends_none (InDelimiters place) = refl
-  ends_none (InCell ByName place) = rw (turned c (byte "&") each.first) refl
-  ends_none (InCell ByBrace place) = refl
-  ends_none (InCell ByText place) = rw (turned c (byte "&") each.first) refl
+  pub ends_none : (e : rules.Ending) → is_label e ≡ false → ends e (Character c) ≡ false
+  ends_none WholeText h = refl
+  ends_none (InBraces place) h = refl
+  ends_none (InBrackets place) h = turned c (byte "]") each.fifth
+  ends_none (InDollars place) h = turned c (byte "$") each.sixth
+  ends_none (InDelimiters place) h = refl
+  ends_none (InCell ByName place) h = rw (turned c (byte "&") each.first) refl
+  ends_none (InCell OfDiagram place) h = rw (turned c (byte "&") each.first, turned c (byte "@") each.seventh) refl
+  ends_none (InCell ByBrace place) h = refl
+  ends_none (InCell ByText place) h = rw (turned c (byte "&") each.first) refl
+  ends_none (InLabel direction place) h = absurd (cc)
 
   -- the character begins an atom by its rule
   pub begins_by_rule : (e : rules.Ending) → atom_start e (Character c) ≡ RuleStart
@@ -73,6 +77,7 @@ module _ (c : ℕ) (none : ends_or_marks c ≡ false) where
   begins_by_rule (InDollars place) = rw (each.fourth, each.second, each.third) refl
   begins_by_rule (InDelimiters place) = rw (each.fourth, each.second, each.third) refl
   begins_by_rule (InCell end place) = rw (each.fourth, each.second, each.third) refl
+  begins_by_rule (InLabel direction place) = rw (each.fourth, each.second, each.third) refl
 
 module _ (p : Parser) (i : Input) (u : Unit) (c : ℕ) (is : u.piece ≡ piece.Character c) where
   -- no white space precedes the character
@@ -81,15 +86,16 @@ module _ (p : Parser) (i : Input) (u : Unit) (c : ℕ) (is : u.piece ≡ piece.C
 
   -- the rule of the character begins in the innermost row
   pub character_begins : (s : Start) (k : Context) → IsRowInnermost p.style p.frames.stack.items k → ends_or_marks c ≡ false → past_space (left_of p) ≡ Next (unit_of u) (units_at i) → Holds s p state.Next → BeginsIn k (character_rule (context_of k) c u.place) 0 s (record p { input = i })
-  character_begins s k (e, (place, (row, (others, inner)))) none next h =
+  character_begins s k (e, (place, (row, (others, (inner, plain))))) none next h =
       let took : Took u s (record p { input = i }) = record { style = h.style; before = left_of p; next = next; leads = h.claims } in
       let q = record p { input = i } in
-      let begun = rule_begun s q u e (place, (row, (k, (others, inner)))) (λ at. rw is (ends_none c none (ending_of e at))) took (λ at. rw is (begins_by_rule c none (ending_of e at))) in
+      let begun = rule_begun s q u e (place, (row, (k, (others, inner)))) (λ at. rw is (ends_none c none (ending_of e at) (plain at))) took (λ at. rw is (begins_by_rule c none (ending_of e at))) in
       unit_begins s q (frame.Row e place k row) k u (piece.Character c) refl is (others, inner) begun
 
 -- an opening brace ends no row, and begins a group in each
 open_ends_none : (e : rules.Ending) → ends e Open ≡ false
 open_ends_none (InCell ByName place) = refl
+open_ends_none (InCell OfDiagram place) = refl
 open_ends_none (InCell ByBrace place) = refl
 open_ends_none (InCell ByText place) = refl
 open_ends_none e = refl
@@ -100,7 +106,7 @@ open_begins_by_rule e = refl
 
 -- a group begins in the innermost row
 pub group_begins_there : (p : Parser) (i : Input) (u : Unit) → u.piece ≡ piece.Open → left_of p ≡ Next (unit_of u) (units_at i) → (s : Start) (k : Context) → IsRowInnermost p.style p.frames.stack.items k → Holds s p state.Next → (row : Row) → row ≡ empty_row → Leads (level_within (frame.Row ending.Group u.place k row) 0 s (record p { input = i })) (units_at i)
-group_begins_there p i u is next s k (e, (place, (own, (others, inner)))) h row none =
+group_begins_there p i u is next s k (e, (place, (own, (others, (inner, plain))))) h row none =
     let q = record p { input = i } in
     let past : past_space (left_of p) ≡ Next (unit_of u) (units_at i) = ap past_space next ∙ rw is refl in
     let took : Took u s q = record { style = h.style; before = left_of p; next = past; leads = h.claims } in
@@ -115,11 +121,11 @@ symbol_begins p i u c there is taken s k row none h =
 
 -- what follows an atom that was put in the innermost row
 pub scripts_follow : (p : Parser) (k : Context) → IsRowInnermost p.style p.frames.stack.items k → (c : Core) (scripts : Scripts) → scripts ≡ record { primes = 0; below = false; above = false; is_exchanged = false; limits = c.limits; takes_limits = takes_limits (kind_of c.kind); high = false } → (s : Start) → Holds s p (state.Core c) → Holds s p (state.Atom c scripts)
-scripts_follow p k (e, (place, (row, (others, inner)))) c scripts none s g = core_in_row s p c scripts (frame.Row e place k row) e place k row (others, inner) refl none g
+scripts_follow p k (e, (place, (row, (others, (inner, plain))))) c scripts none s g = core_in_row s p c scripts (frame.Row e place k row) e place k row (others, inner) refl none g
 
 -- the innermost row waits for an atom that was put
 pub scripts_ready : (p : Parser) (b : Built) (k : Context) → IsRowInnermost p.style p.frames.stack.items k → (c : Core) (scripts : Scripts) (made : Makes.Core) → scripts ≡ record { primes = 0; below = false; above = false; is_exchanged = false; limits = c.limits; takes_limits = takes_limits (kind_of c.kind); high = false } → IsPut c made (elements_of p) (elements_in b) → CanBegin 0 p → Ready (record p { builder = b }) (state.Atom c scripts)
-scripts_ready p b k (e, (place, (row, (others, inner)))) c scripts made none put can = record {
+scripts_ready p b k (e, (place, (row, (others, (inner, plain))))) c scripts made none put can = record {
   elements = rw (none, put.element) (omega (arith, can.elements));
   may_come = let waits = row_awaits p e place row k others inner can in record { accepted = waits.accepted; nested = waits.nested };
 }
@@ -130,7 +136,7 @@ still_innermost p q k (frames, style) row = rw (frames, style) row
 
 -- the innermost row waits for what follows an atom that was read
 pub scripts_due : (p : Parser) (k : Context) → IsRowInnermost p.style p.frames.stack.items k → (c : Core) (n : ℕ) → Follows n p (state.Core c) → Follows n p (state.Atom c (lone_scripts c))
-scripts_due p k (e, (place, (row, (others, inner)))) c n follows =
+scripts_due p k (e, (place, (row, (others, (inner, plain))))) c n follows =
     let can : CanBegin 0 p = record { elements = omega (arith, follows.ready.elements); awaits = follows.ready.may_come } in
     let waits = row_awaits p e place row k others inner can in
     record {
@@ -159,8 +165,8 @@ symbol_put p i b k row less c made put begins ready =
 pub digit_rule : (k : rules.Context) (c place : ℕ) → is_ascii_digit c ≡ true → character_rule k c place ≡ a_number k c
 digit_rule k c place digit = rw digit refl
 
--- none of nine tests
-record None9 (a b c d e f g h i : Bool) : Type 0 where
+-- none of ten tests
+record None10 (a b c d e f g h i j : Bool) : Type 0 where
   first : a ≡ false
   second : b ≡ false
   third : c ≡ false
@@ -170,21 +176,23 @@ record None9 (a b c d e f g h i : Bool) : Type 0 where
   seventh : g ≡ false
   eighth : h ≡ false
   ninth : i ≡ false
+  tenth : j ≡ false
 
-none_of_9 : (a b c d e f g h i : Bool) → not (a || b || c || d || e || f || g || h || i) ≡ true → None9 a b c d e f g h i
-none_of_9 false false false false false false false false false t = record { first = refl; second = refl; third = refl; fourth = refl; fifth = refl; sixth = refl; seventh = refl; eighth = refl; ninth = refl }
-none_of_9 true b c d e f g h i t = absurd (cc)
-none_of_9 false true c d e f g h i t = absurd (cc)
-none_of_9 false false true d e f g h i t = absurd (cc)
-none_of_9 false false false true e f g h i t = absurd (cc)
-none_of_9 false false false false true f g h i t = absurd (cc)
-none_of_9 false false false false false true g h i t = absurd (cc)
-none_of_9 false false false false false false true h i t = absurd (cc)
-none_of_9 false false false false false false false true i t = absurd (cc)
-none_of_9 false false false false false false false false true t = absurd (cc)
+none_of_10 : (a b c d e f g h i j : Bool) → not (a || b || c || d || e || f || g || h || i || j) ≡ true → None10 a b c d e f g h i j
+none_of_10 false false false false false false false false false false t = record { first = refl; second = refl; third = refl; fourth = refl; fifth = refl; sixth = refl; seventh = refl; eighth = refl; ninth = refl; tenth = refl }
+none_of_10 true b c d e f g h i j t = absurd (cc)
+none_of_10 false true c d e f g h i j t = absurd (cc)
+none_of_10 false false true d e f g h i j t = absurd (cc)
+none_of_10 false false false true e f g h i j t = absurd (cc)
+none_of_10 false false false false true f g h i j t = absurd (cc)
+none_of_10 false false false false false true g h i j t = absurd (cc)
+none_of_10 false false false false false false true h i j t = absurd (cc)
+none_of_10 false false false false false false false true i j t = absurd (cc)
+none_of_10 false false false false false false false false true j t = absurd (cc)
+none_of_10 false false false false false false false false false true t = absurd (cc)
 
-symbol_tests : (c : ℕ) → is_symbol c ≡ true → None9 (c == byte ".") (c == byte "~") (c == byte "&") (c == byte "#") (c == byte "$") (c == byte "_") (c == byte "^") (c == byte "'") (c == byte "]")
-symbol_tests c plain = none_of_9 (c == byte ".") (c == byte "~") (c == byte "&") (c == byte "#") (c == byte "$") (c == byte "_") (c == byte "^") (c == byte "'") (c == byte "]") plain
+symbol_tests : (c : ℕ) → is_symbol c ≡ true → None10 (c == byte ".") (c == byte "~") (c == byte "&") (c == byte "#") (c == byte "$") (c == byte "_") (c == byte "^") (c == byte "'") (c == byte "]") (c == byte "@")
+symbol_tests c plain = none_of_10 (c == byte ".") (c == byte "~") (c == byte "&") (c == byte "#") (c == byte "$") (c == byte "_") (c == byte "^") (c == byte "'") (c == byte "]") (c == byte "@") plain
 
 -- digits, letters and symbols end no row, and continue no atom
 
@@ -195,7 +203,7 @@ pub letter_is_plain : (c : ℕ) → is_ascii_alphabetic c ≡ true → ends_or_m
 letter_is_plain c h = grind (arith, nat_tests)
 
 pub symbol_is_plain : (c : ℕ) → is_symbol c ≡ true → ends_or_marks c ≡ false
-symbol_is_plain c plain = let each = symbol_tests c plain in rw (each.third, each.sixth, each.seventh, each.eighth, each.ninth, each.fifth) refl
+symbol_is_plain c plain = let each = symbol_tests c plain in rw (each.third, each.sixth, each.seventh, each.eighth, each.ninth, each.fifth, each.tenth) refl
 
 module _ (k : rules.Context) (c place : ℕ) (no_digit : is_ascii_digit c ≡ false) where
   pub letter_rule : is_ascii_alphabetic c ≡ true → character_rule k c place ≡ gives (core (Makes.letter k.alphabet c))

@@ -6,7 +6,7 @@ use Rattle.std.specs.Str.{bytes_eq}
 use Rattle.latex2mathml_tex_grammar.specs.{Commands.command_entries, Commands.meaning_of, CommandsFromM.commands_from_m, CommandsUpToL.commands_up_to_l, Next.past_space}
 use Rattle.latex2mathml_tex_grammar.specs.Meaning.{Changes, Meaning}
 use Rattle.latex2mathml_tex_grammar.specs.Rules as rules
-use Rattle.latex2mathml_tex_grammar.specs.Rules.{WholeText, InBraces, InBrackets, InDollars, InDelimiters, InCell, ByName, ByBrace, ByText, meaning_rule}
+use Rattle.latex2mathml_tex_grammar.specs.Rules.{WholeText, InBraces, InBrackets, InDollars, InDelimiters, InCell, InLabel, ByName, OfDiagram, ByBrace, ByText, meaning_rule}
 use Rattle.latex2mathml_tex_grammar.specs.Starts.{RuleStart, atom_start, change_meant, ends}
 use Rattle.latex2mathml_tex_grammar.specs.Units.{Command, Next, Units}
 use Rattle.latex2mathml_tex_atoms.specs.Models.{context_of}
@@ -97,6 +97,8 @@ module _ (name : List ℕ) (m : Meaning) (is : meaning_of name ≡ Some m) (begi
   ends_none (InDollars place) = refl
   ends_none (InDelimiters place) = is_not (codes "right") right_ends
   ends_none (InCell ByName place) = rw (is_not (codes "end") end_ends, is_not (codes "\\") break_ends, is_not (codes "cr") cr_ends, is_not (codes "newline") newline_ends) refl
+  ends_none (InCell OfDiagram place) = rw (is_not (codes "end") end_ends, is_not (codes "\\") break_ends, is_not (codes "cr") cr_ends, is_not (codes "newline") newline_ends) refl
+  ends_none (InLabel direction place) = rw (is_not (codes "end") end_ends, is_not (codes "\\") break_ends, is_not (codes "cr") cr_ends, is_not (codes "newline") newline_ends) refl
   ends_none (InCell ByBrace place) = rw (is_not (codes "\\") break_ends, is_not (codes "cr") cr_ends, is_not (codes "newline") newline_ends) refl
   ends_none (InCell ByText place) = rw (is_not (codes "\\") break_ends, is_not (codes "cr") cr_ends, is_not (codes "newline") newline_ends) refl
 
@@ -107,6 +109,7 @@ module _ (name : List ℕ) (m : Meaning) (is : meaning_of name ≡ Some m) (begi
   begins_by_rule (InBraces place) = rw (is_no (codes "limits") limits_mark, is_no (codes "nolimits") nolimits_mark, is_no (codes "displaylimits") displaylimits_mark, is, no_change m begins) refl
   begins_by_rule (InBrackets place) = rw (is_no (codes "limits") limits_mark, is_no (codes "nolimits") nolimits_mark, is_no (codes "displaylimits") displaylimits_mark, is, no_change m begins) refl
   begins_by_rule (InDollars place) = rw (is_no (codes "limits") limits_mark, is_no (codes "nolimits") nolimits_mark, is_no (codes "displaylimits") displaylimits_mark, is, no_change m begins) refl
+  begins_by_rule (InLabel direction place) = rw (is_no (codes "limits") limits_mark, is_no (codes "nolimits") nolimits_mark, is_no (codes "displaylimits") displaylimits_mark, is, no_change m begins) refl
   begins_by_rule (InCell end place) = rw (is_no (codes "limits") limits_mark, is_no (codes "nolimits") nolimits_mark, is_no (codes "displaylimits") displaylimits_mark, is, no_change m begins) refl
 
 -- two units with which the same units begin are one piece
@@ -120,7 +123,7 @@ module _ (p : Parser) (i : Input) (u : Unit) (text : List ℕ) (is : piece_of u.
 
   -- the rule of the command begins in the innermost row
   pub command_begins : (s : Start) (k : Context) (m : Meaning) → IsRowInnermost p.style p.frames.stack.items k → meaning_of text ≡ Some m → begins_atoms m ≡ true → past_space (left_of p) ≡ Next (unit_of u) (units_at i) → Holds s p state.Next → BeginsIn k (meaning_rule u.place (context_of k) m) 0 s (record p { input = i })
-  command_begins s k m (e, (place, (row, (others, inner)))) meant begins next h =
+  command_begins s k m (e, (place, (row, (others, (inner, plain))))) meant begins next h =
       let q = record p { input = i } in
       let took : Took u s q = record { style = h.style; before = left_of p; next = next; leads = h.claims } in
       let begun = rule_begun s q u e (place, (row, (k, (others, inner)))) (λ at. rw is (ends_none text m meant begins (ending_of e at))) took (λ at. rw is (begins_by_rule text m meant begins (ending_of e at))) in

@@ -1,19 +1,19 @@
 -- What holds of the parser where tables begin and end.
 use Rattle.std.specs.Prelude.{⊤}
-use Rattle.std.proofs.Common.{◌≡◌, ℕ, ◌+◌, ◌<◌, ◌≤◌, List, [], ◌∷◌, Option, Some, None, true, drop, option_map, reverse, sum_by, take, Result, refl, sym, ap, subst, ◌∙◌, arith}
+use Rattle.std.proofs.Common.{◌≡◌, ℕ, ◌+◌, ◌<◌, ◌≤◌, List, [], ◌∷◌, Option, Some, None, true, false, drop, option_map, reverse, sum_by, take, Result, refl, sym, ap, subst, ◌∙◌, arith}
 use Rattle.std.specs.{Borrow.Bor, declared.alloc.AllocError.AllocError}
 use Rattle.std.specs.Str.{bytes_eq}
 use mathlib.Core.List.{reverse_aux}
 use Rattle.latex2mathml_elements.specs.Attributes as attributes
 use Rattle.latex2mathml_elements.specs.Attributes.{Attributes}
-use Rattle.latex2mathml_elements.specs.Columns.{Columns, Alike, Centered, Dense}
+use Rattle.latex2mathml_elements.specs.Columns.{Columns, Alike, Centered, Dense, InDiagram}
 use Rattle.latex2mathml_elements.specs.{Element.Element, Element.table, Tables.attributes_in}
 use Rattle.latex2mathml_builder.specs.{Built.Built, Built.elements_in, Stacks.table_with}
-use Rattle.latex2mathml_attributes.specs.Columns.{columns_of}
+use Rattle.latex2mathml_attributes.specs.Columns.{are_in_diagram, columns_of}
 use Rattle.latex2mathml_attributes.specs.declared.columns.Columns.{Columns as CodeColumns}
 use Rattle.latex2mathml_attributes.specs.{Names.math_style_of, declared.attributes.MathStyle.MathStyle}
 use Rattle.latex2mathml_tex_grammar.specs.{Atoms.Plain, Atoms.atom, Makes.core, Refusal.Refusal}
-use Rattle.latex2mathml_tex_grammar.specs.Rules.{ByBrace, ByText, Context as RuleContext, Rule, ended_table, gives, passes_over, reads_rows, rows_of_text, rows_rule, styled, takes_found}
+use Rattle.latex2mathml_tex_grammar.specs.Rules.{ByBrace, ByName, ByText, OfDiagram, TableEnd, Context as RuleContext, end_in, Rule, ended_table, gives, passes_over, reads_rows, rows_of_text, rows_rule, styled, takes_found}
 use Rattle.latex2mathml_tex_grammar.specs.Scanning.{BeforeArgument, BeforeRow, Name, Spot, past, past_break}
 use Rattle.latex2mathml_tex_grammar.specs.Symbols as symbols
 use Rattle.latex2mathml_tex_grammar.specs.Tables.{Lines, a_table, between_any, height_of, rows_of, rows_onto, said_style, table_class}
@@ -24,7 +24,7 @@ use Rattle.latex2mathml_tex_commands.specs.Meanings.{style_of}
 use Rattle.latex2mathml_tex_atoms.specs.Models.{context_of}
 use Rattle.latex2mathml_tex.specs.Steps.{Begins, BeginsIn, BeginsTable, EndsRows, Follows, HasElements, Holds, InnermostIs, Advances, MakesTable, TookText, elements_of, frame_weight, left_of, level, to_do}
 use Rattle.latex2mathml_tex_units.specs.Environments.{delimiter_texts, environment_of}
-use Rattle.latex2mathml_tex.specs.Tables.{after_rows}
+use Rattle.latex2mathml_tex.specs.Tables.{after_rows, behind_environment}
 use Rattle.latex2mathml_tex.specs.Innermost.{frame_context}
 use Rattle.latex2mathml_tex_atoms.specs.Models.{core_with}
 use Rattle.latex2mathml_tex_units.specs.declared.{environments.Environment.Environment, error.TexError.TexError, input.Input.Input}
@@ -99,11 +99,29 @@ passed_step p i spot n m new st answer units h step =
 
 -- Rows begin
 
-pub rows_begin : (s : Start) (p : Parser) (e : Bor Environment) (columns : CodeColumns) (place : ℕ) (c : Context) → BeginsIn c (rows_rule place (context_of c) e.now.name.now (environment_of e.now) (columns_of columns)) 0 s p → BeginsTable (kind.Environment e) columns place s p
-rows_begin s p e columns place c g =
-    let around = context_at (level 0 s p) in
-    let k = subst (λ c. RuleLeads (rows_rule place c e.now.name.now (environment_of e.now) (columns_of columns)) (CoreMade (level 0 s p)) (left_of p)) g.context g.leads in
-    record { style = g.style; leads = λ o d. rows_due (after_rows (kind.Environment e) (columns_of columns) around) k o d }
+-- columns are those of a diagram, or they are not
+diagram_ends : (columns : Columns) → are_in_diagram columns ≡ true → end_in columns ≡ OfDiagram
+diagram_ends InDiagram h = refl
+diagram_ends columns h = cc
+
+name_ends : (columns : Columns) → are_in_diagram columns ≡ false → end_in columns ≡ ByName
+name_ends InDiagram h = cc
+name_ends columns h = refl
+
+module _ (s : Start) (p : Parser) (e : Bor Environment) (columns : CodeColumns) (place : ℕ) (c : Context) (g : BeginsIn c (rows_rule place (context_of c) e.now.name.now (environment_of e.now) (columns_of columns)) 0 s p) where
+  abbrev rows_by : TableEnd → Rule
+  rows_by end = reads_rows end place (columns_of columns) (styled (context_at (level 0 s p)) (environment_of e.now).style) (behind_environment e.now (columns_of columns) (context_at (level 0 s p)))
+
+  rows_lead : (end : TableEnd) → end_in (columns_of columns) ≡ end → RuleLeads (rows_by end) (CoreMade (level 0 s p)) (left_of p)
+  rows_lead end is =
+      subst (λ k. RuleLeads (rows_by k) (CoreMade (level 0 s p)) (left_of p)) is
+      (subst (λ c. RuleLeads (rows_rule place c e.now.name.now (environment_of e.now) (columns_of columns)) (CoreMade (level 0 s p)) (left_of p)) g.context g.leads)
+
+  pub rows_begin : are_in_diagram (columns_of columns) ≡ false → BeginsTable (kind.Environment e) columns place s p
+  rows_begin none = record { style = g.style; leads = λ o d. rows_due (after_rows (kind.Environment e) (columns_of columns) (context_at (level 0 s p))) (rows_lead ByName (name_ends (columns_of columns) none)) o d }
+
+  pub diagram_begins : are_in_diagram (columns_of columns) ≡ true → BeginsTable (kind.Diagram e) columns place s p
+  diagram_begins some = record { style = g.style; leads = λ o d. rows_due (after_rows (kind.Diagram e) (columns_of columns) (context_at (level 0 s p))) (rows_lead OfDiagram (diagram_ends (columns_of columns) some)) o d }
 
 pub substack_begins : (s : Start) (p : Parser) (columns : CodeColumns) (place : ℕ) (c : Context) → columns_of columns ≡ Alike Dense Centered → BeginsIn c (reads_rows ByBrace place (Alike Dense Centered) (styled (context_of c) symbols.InScript) (λ lines end. gives (a_table None (Alike Dense Centered) symbols.InScript (context_of c).style lines))) 0 s p → BeginsTable kind.Braces columns place s p
 substack_begins s p columns place c dense g =

@@ -73,10 +73,10 @@ module _ (s : Start) (p : Parser) (t : Table) (place : ℕ) where
 -- What ends a cell
 
 -- the next cell of a table is due, where these are its rows and its cells, within this level
-abbrev Due : Table → ℕ → List Element → List Element → Level → Units → Type 0
+abbrev pub Due : Table → ℕ → List Element → List Element → Level → Units → Type 0
 Due t place rows cells l m = (o : Outcome Lines) → ReadsRows (table_end t) place (columns_of t.columns) (cell_context t (context_at l)) rows cells m o → RowsLead (behind_rows t (context_at l)) (CoreMade l) o
 
-goes_on : (s : Start) (q : Parser) (t : Table) (place : ℕ) (rows cells ys : List Element) → s.style ≡ style_of q.style → rows_of t (elements_of q) ≡ rows → cells_of t (elements_of q) ≡ cells → drop (t.cells + t.rows) (elements_of q) ≡ ys → Due t place rows cells (inside s q.frames.stack.items ys) (left_of q) → GoesOnTable t place s q
+pub goes_on : (s : Start) (q : Parser) (t : Table) (place : ℕ) (rows cells ys : List Element) → s.style ≡ style_of q.style → rows_of t (elements_of q) ≡ rows → cells_of t (elements_of q) ≡ cells → drop (t.cells + t.rows) (elements_of q) ≡ ys → Due t place rows cells (inside s q.frames.stack.items ys) (left_of q) → GoesOnTable t place s q
 goes_on s q t place rows cells ys style r c d due = record {
   style = style;
   leads = subst (λ ys. Due t place (rows_of t (elements_of q)) (cells_of t (elements_of q)) (inside s q.frames.stack.items ys) (left_of q)) (sym d)
@@ -133,7 +133,7 @@ some_first (suc n) [] some there = absurd (omega arith)
 some_first (suc n) (x ∷ xs) some there = (x, (take n xs, refl))
 
 -- no element is lost where a sign is all of a cell
-lone_length : (last : Kind) (xs : List Element) → length (lone last xs) ≡ length xs
+pub lone_length : (last : Kind) (xs : List Element) → length (lone last xs) ≡ length xs
 lone_length last [] = refl
 lone_length last (x ∷ []) = refl
 lone_length last (x ∷ y ∷ xs) = refl
@@ -144,7 +144,7 @@ kept_last columns (row ∷ rows) (x ∷ cells) cell h = refl
 kept_last columns (row ∷ rows) [] (x ∷ cell) h = refl
 kept_last columns (row ∷ rows) [] [] h = absurd (let none = h refl refl in omega (arith, none))
 
-count_below : (n k : ℕ) (xs : List Element) → k + n ≤ length xs → n ≤ length (drop k xs)
+pub count_below : (n k : ℕ) (xs : List Element) → k + n ≤ length xs → n ≤ length (drop k xs)
 count_below n k xs h = simp length-drop (omega (arith, h))
 
 count_left : (n m k : ℕ) (xs : List Element) → k + (m + n) ≤ length xs → n ≤ length (drop m (drop k xs))

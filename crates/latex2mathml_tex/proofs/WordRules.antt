@@ -11,7 +11,7 @@ use Rattle.latex2mathml_tex_grammar.specs.Units.{Character, Command, Open, Piece
 use Rattle.latex2mathml_builder.specs.Built.{Built, elements_in}
 use Rattle.latex2mathml_tex_atoms.specs.Wording.{Replaced}
 use Rattle.latex2mathml_tex_grammar.specs.Words as words
-use Rattle.latex2mathml_tex_grammar.specs.Words.{with_accent_ended, Accented, BeginsFormula, IsWord, NoWord, Shown, alphabet_after, alphabet_behind, font_in, formula_alphabet, meaning_rule, word_character, word_rule, word_space}
+use Rattle.latex2mathml_tex_grammar.specs.Words.{with_accent_ended, BeginsFormula, IsWord, NoWord, Shown, alphabet_after, font_in, formula_alphabet, meaning_rule, word_character, word_rule, word_space}
 use Rattle.latex2mathml_tex_units.specs.Errors.{refusal_of}
 use Rattle.latex2mathml_tex_commands.specs.Meanings.{alphabet_of}
 use Rattle.latex2mathml_tex.specs.{Frames.Start, Levels.Leads, Levels.PartMade, WordCommands.rule_of}

@@ -10,19 +10,21 @@ use Rattle.latex2mathml_tex_grammar.specs.{Formulas.alone, Formulas.formula_cont
 use Rattle.latex2mathml_tex_grammar.specs.Rows.{Operand, Row, as_base, row_element}
 use Rattle.latex2mathml_tex_grammar.specs.Rules as rules
 use Rattle.latex2mathml_tex_grammar.specs.Separators.{text_columns}
-use Rattle.latex2mathml_tex_grammar.specs.Rules.{Context, begun, Rule, gives, of_one, of_two, reads_operand, rows_of_text, slashed, struck_atom, takes_delimiter, WholeText, InBraces, InBrackets, InDollars, InDelimiters, InCell}
+use Rattle.latex2mathml_tex_grammar.specs.Rules.{Context, begun, Rule, gives, of_one, of_two, a_label, after_label, reads_operand, rows_of_text, slashed, struck_atom, takes_delimiter, WholeText, InBraces, InBrackets, InDollars, InDelimiters, InCell, InLabel}
 use Rattle.latex2mathml_tex_grammar.specs.Words.{words_atom}
-use Rattle.latex2mathml_tex.specs.Levels.{AtomMade, as_operand, as_words, CoreMade, Level, OperandMade, PartMade, RuleLeads, ScriptsLead, Then}
+use Rattle.latex2mathml_tex.specs.Levels.{AtomMade, as_operand, as_words, CoreMade, Level, OperandMade, PartMade, ScriptsLead, Then}
 use Rattle.latex2mathml_tex.specs.Levels as level
 use Rattle.latex2mathml_tex_commands.specs.Meanings.{alphabet_of, box_of, class_of, fraction_rule_of, limit_place_of, style_of}
 use Rattle.latex2mathml_tex_atoms.specs.Models.{context_of, core_with, has_script, operand_with, row_count, row_with, script_count, scripts_with, top}
 use Rattle.latex2mathml_tex_atoms.specs.Outlines.{outline_of}
-use Rattle.latex2mathml_tex.specs.Tables.{TableMade, table_end}
+use Rattle.latex2mathml_tex.specs.Tables.{ArrowMade, TableMade, cells_of, rows_of, table_end}
+use Rattle.latex2mathml_tex_grammar.specs.Diagrams.{Direction, first_label, joined_arrow}
+use Rattle.latex2mathml_tex_commands.specs.Diagrams.{direction_of}
 use Rattle.latex2mathml_tex_commands.specs.Delimiters.{delimiter_text}
 use Rattle.latex2mathml_tex_atoms.specs.declared.atoms.{Core.Core as CodeCore, Operand.Operand as CodeOperand, Scripts.Scripts}
 use Rattle.latex2mathml_tex.specs.declared.parse.Form.{Form}
 use Rattle.latex2mathml_tex.specs.declared.parse.Form.TheVariants as form
-use Rattle.latex2mathml_tex.specs.declared.parse.frames.{Ending.Ending, First.First, Frame.Frame, Last.Last}
+use Rattle.latex2mathml_tex.specs.declared.parse.frames.{Ending.Ending, First.First, Frame.Frame, Labeled.Labeled, Last.Last}
 use Rattle.latex2mathml_tex.specs.declared.parse.frames.Ending.TheVariants as ending
 use Rattle.latex2mathml_tex.specs.declared.parse.frames.First.TheVariants as first
 use Rattle.latex2mathml_tex.specs.declared.parse.frames.Frame.TheVariants as frame
@@ -60,6 +62,8 @@ ending_of ending.BelowArrow place = InBrackets place
 ending_of (ending.Delimiters opening) place = InDelimiters place
 ending_of (ending.Formula n) place = InDollars place
 ending_of (ending.Cell t) place = InCell (table_end t) place
+ending_of (ending.FirstLabel k) place = InLabel (direction_of k.direction) place
+ending_of (ending.SecondLabel k) place = InLabel (direction_of k.direction) place
 
 -- the context of what is due at a level
 abbrev pub context_at : Level → Context
@@ -82,6 +86,15 @@ after_delimiters opening row = takes_delimiter (λ closing. gives (between_delim
 abbrev pub labeled_arrow : Element → Element → Element → Core
 labeled_arrow sign label above = core (atom (Plain Relation) true (triple Munderover plain sign label (arrow_label above)))
 
+-- what follows the first label of an arrow in a diagram
+abbrev pub behind_first_label : Direction → ℕ → Context → Element → Row → Rule
+behind_first_label d place around arrow first =
+    after_label place d (a_label place around d (λ second. gives (joined_arrow d arrow (first_label d (row_element first.elements)) (row_element second.elements))))
+
+-- where the outcome of such an arrow leads, within this level; these elements are those of its table
+abbrev pub LabeledMade : Labeled → List Element → Level → Outcome Core → Type 0
+LabeledMade k xs l = ArrowMade k.table k.place (rows_of k.table xs) (cells_of k.table xs) (context_at l) (CoreMade l)
+
 -- where the outcome of a row leads, within this level; these elements are below the row's own
 abbrev pub RowMade : Start → Ending → ℕ → List Element → Level → Outcome Row → Type 0
 RowMade s ending.Text place xs l = Whole s
@@ -92,6 +105,8 @@ RowMade s ending.BelowArrow place xs l = Then (λ row. of_one place (rules.style
 RowMade s (ending.Delimiters opening) place xs l = Then (after_delimiters (delimiter_text opening)) (CoreMade l)
 RowMade s (ending.Formula n) place xs l = λ o. PartMade l (as_words (take n xs) o)
 RowMade s (ending.Cell t) place xs l = TableMade t place xs (context_at l) (CoreMade l)
+RowMade s (ending.FirstLabel k) place xs l = Then (behind_first_label (direction_of k.direction) place (context_at l) (top xs)) (LabeledMade k (drop 1 xs) l)
+RowMade s (ending.SecondLabel k) place xs l = Then (λ row. after_label place (direction_of k.direction) (gives (joined_arrow (direction_of k.direction) (top (drop 1 xs)) (top xs) (row_element row.elements)))) (LabeledMade k (drop 2 xs) l)
 
 -- Operands
 
@@ -178,6 +193,8 @@ abbrev pub ending_count : Ending → ℕ
 ending_count ending.BelowArrow = 1
 ending_count (ending.Formula n) = n
 ending_count (ending.Cell t) = t.cells + t.rows
+ending_count (ending.FirstLabel k) = 1 + (k.table.cells + k.table.rows)
+ending_count (ending.SecondLabel k) = 2 + (k.table.cells + k.table.rows)
 ending_count e = 0
 
 abbrev pub last_count : Last → ℕ

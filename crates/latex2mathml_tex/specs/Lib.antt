@@ -1,5 +1,6 @@
 pub mod Answers
 pub mod Choices
+pub mod Diagrams
 pub mod Frames
 pub mod Innermost
 pub mod Levels

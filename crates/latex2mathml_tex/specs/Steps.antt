@@ -23,7 +23,7 @@ use Rattle.latex2mathml_tex_grammar.specs.{Symbols.Alphabet, Symbols.Class, Word
 use Rattle.latex2mathml_tex_grammar.specs.Starts as starts
 use Rattle.latex2mathml_tex_grammar.specs.Units as grammar
 use Rattle.latex2mathml_tex_grammar.specs.{Formulas.shown}
-use Rattle.latex2mathml_tex_grammar.specs.Units.{Units, Next, End, Stop}
+use Rattle.latex2mathml_tex_grammar.specs.Units.{Units, Next, End}
 use Rattle.latex2mathml_tex_units.specs.{Errors.refusal_of, Taking.piece_of, Taking.unit_of}
 use Rattle.latex2mathml_tex.specs.Innermost.{IsInnermost}
 use Rattle.latex2mathml_tex.specs.Frames.{RowMade, ScriptMade, Start, Whole, after_first, base_of, context_at, element_count, ending_count, ending_of, first_count, inside, primes_put, within}
@@ -317,16 +317,22 @@ pub record ClosesRow (e : Ending) (place : ℕ) (xs : CodeRow) (s : Start) (p : 
   pub style : s.style ≡ style_of p.style
   pub leads : RowMade s e place (drop xs.count (elements_of p)) (level (xs.count + ending_count e) s p) (Read (row_with xs (elements_of p)) (left_of p))
 
--- A cell ends with this unit, which was taken; its frame is taken off.
-pub record ClosesCell (t : Table) (place : ℕ) (xs : CodeRow) (u : Unit) (s : Start) (p : Parser) : Type 0 where
+-- The row ends before this unit, which was taken; its frame is taken off.
+pub record ClosesBefore (e : Ending) (place : ℕ) (xs : CodeRow) (u : Unit) (s : Start) (p : Parser) : Type 0 where
   pub style : s.style ≡ style_of p.style
   pub before : Units
   pub next : past_space before ≡ Next (unit_of u) (left_of p)
-  pub leads : RowMade s (ending.Cell t) place (drop xs.count (elements_of p)) (level (xs.count + (t.cells + t.rows)) s p) (Read (row_with xs (elements_of p)) before)
+  pub leads : RowMade s e place (drop xs.count (elements_of p)) (level (xs.count + ending_count e) s p) (Read (row_with xs (elements_of p)) before)
+
+-- A cell ends with this unit.
+abbrev pub ClosesCell : Table → ℕ → CodeRow → Unit → Start → Parser → Type 0
+ClosesCell t place xs u s p = ClosesBefore (ending.Cell t) place xs u s p
 
 -- The row ends with this unit.
 abbrev pub Closes : Ending → ℕ → CodeRow → Unit → Start → Parser → Type 0
 Closes (ending.Cell t) place xs u s p = ClosesCell t place xs u s p
+Closes (ending.FirstLabel k) place xs u s p = ClosesBefore (ending.FirstLabel k) place xs u s p
+Closes (ending.SecondLabel k) place xs u s p = ClosesBefore (ending.SecondLabel k) place xs u s p
 Closes e place xs u s p = ClosesRow e place xs s p
 
 -- The next cell of a table is due.
@@ -385,9 +391,11 @@ TookValue place spot value no_value old new None =
     × ((new ≡ record old { input = new.input; refusal = new.refusal })
     × ((refusal_of new.refusal ≡ Some r) × ((unit_count (left_of new) ≤ unit_count (left_of old)) × NoValue place spot value no_value (left_of old) r)))
 
--- what a row leaves if it ends with this unit, which was taken: a cell leaves what ends it
+-- what a row leaves if it ends with this unit, which was taken: a cell or a label leaves what ends it
 abbrev pub IsLeft : Ending → Unit → Units → Units → Type 0
 IsLeft (ending.Cell t) u rest left = past_space rest ≡ Next (unit_of u) left
+IsLeft (ending.FirstLabel k) u rest left = past_space rest ≡ Next (unit_of u) left
+IsLeft (ending.SecondLabel k) u rest left = past_space rest ≡ Next (unit_of u) left
 IsLeft e u rest left = rest ≡ left
 
 -- The row ends with this unit, as it was read so far in this style.

@@ -1,18 +1,18 @@
 -- The tables that the parser reads, as the definitions have them.
-use Rattle.std.specs.Prelude.{◌≡◌, ℕ, List, drop, None, take}
+use Rattle.std.specs.Prelude.{◌≡◌, ℕ, List, ◌∷◌, drop, None, take}
 use Rattle.std.specs.Str.{bytes_eq}
 use Rattle.latex2mathml_elements.specs.Columns.{Columns as DefinedColumns}
 use Rattle.latex2mathml_attributes.specs.Columns.{columns_of}
-use Rattle.latex2mathml_tex_grammar.specs.{Next.past_space, Reading.ReadsBehindCell, Rows.Row, Tables.Lines, Tables.a_table, Tables.cell_of}
+use Rattle.latex2mathml_tex_grammar.specs.{Next.past_space, Reading.ReadsBehindCell, Reading.ReadsRows, Rows.Row, Tables.Lines, Tables.a_table, Tables.cell_of}
 use Rattle.latex2mathml_tex_grammar.specs.Makes.{Core}
 use Rattle.latex2mathml_tex_grammar.specs.Reading.{Outcome, Read, Refused}
 use Rattle.latex2mathml_elements.specs.{Element.Element, Lines.Line, Lines.NoLine}
-use Rattle.latex2mathml_tex_grammar.specs.Rules.{Context, TableEnd, ByName, ByBrace, ByText, Rule, gives, styled, takes_found, ended_table}
+use Rattle.latex2mathml_tex_grammar.specs.Rules.{Context, TableEnd, ByName, OfDiagram, ByBrace, ByText, Rule, gives, styled, takes_found, ended_table}
 use Rattle.latex2mathml_tex_grammar.specs.Scanning.{BeforeArgument, Name}
 use Rattle.latex2mathml_tex_grammar.specs.Starts as starts
 use Rattle.latex2mathml_tex_grammar.specs.Symbols as symbols
 use Rattle.latex2mathml_tex_grammar.specs.Units.{Unit, Units, Next, End}
-use Rattle.latex2mathml_tex_units.specs.Environments.{environment_of}
+use Rattle.latex2mathml_tex_units.specs.{Environments.environment_of, declared.environments.Environment.Environment}
 use Rattle.latex2mathml_tex_commands.specs.Meanings.{style_of}
 use Rattle.latex2mathml_tex.specs.Levels.{RuleLeads}
 use Rattle.latex2mathml_tex.specs.declared.parse.frames.{Table.Table, TableKind.TableKind}
@@ -22,12 +22,14 @@ use Rattle.latex2mathml_tex.specs.declared.parse.tables.CellEnd.TheVariants as c
 
 abbrev pub cell_end_of : CellEnd → starts.CellEnd
 cell_end_of cell_end.PartsCells = starts.PartsCells
+cell_end_of cell_end.BeginsArrow = starts.BeginsArrow
 cell_end_of cell_end.EndsRow = starts.EndsRow
 cell_end_of cell_end.EndsTable = starts.EndsTable
 
 -- how a table ends
 abbrev pub ended_by : TableKind → TableEnd
 ended_by (kind.Environment e) = ByName
+ended_by (kind.Diagram e) = OfDiagram
 ended_by kind.Braces = ByBrace
 ended_by kind.Text = ByText
 
@@ -37,18 +39,24 @@ table_end t = ended_by t.kind
 -- the style of its cells
 abbrev pub style_in : TableKind → symbols.Style
 style_in (kind.Environment e) = style_of e.now.style
+style_in (kind.Diagram e) = style_of e.now.style
 style_in kind.Braces = symbols.InScript
 style_in kind.Text = symbols.InDisplay
 
 abbrev pub cell_context : Table → Context → Context
 cell_context t around = styled around (style_in t.kind)
 
+-- what follows the rows of an environment, if it is in this context
+abbrev pub behind_environment : Environment → DefinedColumns → Context → Lines → ℕ → Rule
+behind_environment e columns around lines at =
+    takes_found (BeforeArgument Name) at (λ other. ended_table at around (environment_of e) columns lines (bytes_eq other e.name.now))
+
 -- what follows the rows of a table, if the table is in this context
 abbrev pub after_rows : TableKind → DefinedColumns → Context → Lines → ℕ → Rule
 after_rows kind.Braces columns around lines at = gives (a_table None columns symbols.InScript around.style lines)
 after_rows kind.Text columns around lines at = gives (a_table None columns symbols.InDisplay around.style lines)
-after_rows (kind.Environment e) columns around lines at =
-    takes_found (BeforeArgument Name) at (λ other. ended_table at around (environment_of e.now) columns lines (bytes_eq other e.now.name.now))
+after_rows (kind.Environment e) columns around lines at = behind_environment e.now columns around lines at
+after_rows (kind.Diagram e) columns around lines at = behind_environment e.now columns around lines at
 
 abbrev pub behind_rows : Table → Context → Lines → ℕ → Rule
 behind_rows t around = after_rows t.kind (columns_of t.columns) around
@@ -84,3 +92,9 @@ rows_of t xs = take t.rows (drop t.cells xs)
 abbrev pub TableMade : Table → ℕ → List Element → Context → (Outcome Core → Type 0) → Outcome Row → Type 0
 TableMade t place xs around K =
     CellMade (table_end t) place (columns_of t.columns) (cell_context t around) (rows_of t xs) (cells_of t xs) (RowsLead (behind_rows t around) K)
+
+-- where the outcome of an arrow leads, which is the next cell of a table after these rows and these cells
+abbrev pub ArrowMade : Table → ℕ → List Element → List Element → Context → (Outcome Core → Type 0) → Outcome Core → Type 0
+ArrowMade t place rows cells around K (Read x m) =
+    (o : Outcome Lines) → ReadsRows (table_end t) place (columns_of t.columns) (cell_context t around) rows (x.atom.element ∷ cells) m o → RowsLead (behind_rows t around) K o
+ArrowMade t place rows cells around K (Refused r) = K (Refused r)

@@ -14,6 +14,7 @@ mod arrows;
 mod begin;
 mod boxes;
 mod deliver;
+mod diagrams;
 mod environments;
 mod fractions;
 pub(crate) mod frames;

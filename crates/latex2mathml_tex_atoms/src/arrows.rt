@@ -20,7 +20,7 @@ pub fn put_arrow(builder: &mut Builder, sign: char) -> Result<(), AllocError>
 }
 
 /// Makes the top element the label of an arrow.
-fn put_label(builder: &mut Builder) -> Result<(), AllocError>
+pub(crate) fn put_label(builder: &mut Builder) -> Result<(), AllocError>
     requires { 1 ≤ length (elements_in builder.old) }
     ensures { OnOk result (ReplacesTop Makes.arrow_label builder.old builder.new) }
 {

@@ -6,7 +6,7 @@ ghost use Rattle.latex2mathml_tex_grammar.specs.Makes;
 ghost use Rattle.latex2mathml_tex_grammar.specs.Rows;
 ghost use Rattle.latex2mathml_tex_grammar.specs.Rules.{in_size};
 ghost use Rattle.latex2mathml_tex_grammar.specs.Words as words;
-ghost use Rattle.latex2mathml_tex_commands.specs.Meanings.{class_of, limit_place_of, style_of, text_size_of};
+ghost use Rattle.latex2mathml_tex_commands.specs.Meanings.{class_of, text_size_of};
 ghost use Rattle.latex2mathml_tex_atoms.specs.Models.{IsFinished, begun, has_script, empty_row, before_of, context_of, font_of, is_relation, is_upright, joining_of, kind_of, script_count, usual_context};
 ghost use Rattle.latex2mathml_tex_atoms.specs.Adding.{IsAdded};
 

@@ -8,6 +8,7 @@ pub mod arrows;
 pub mod atoms;
 pub mod boxes;
 pub mod delimiters;
+pub mod diagrams;
 pub mod fonts;
 pub mod fractions;
 mod operands;

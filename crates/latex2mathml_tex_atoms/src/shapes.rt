@@ -1,9 +1,9 @@
 //! The elements of atoms, rows and constructs, as the top elements of the builder.
-ghost use Rattle.std.specs.Prelude.{◌≡◌, ◌+◌, ◌≤◌, ◌&&◌, ◌∷◌, List, [], false, true, zero, pos, IfOk, OnOk, drop, length, option_map, take};
+ghost use Rattle.std.specs.Prelude.{◌≡◌, ◌+◌, ◌≤◌, ◌&&◌, ◌∷◌, List, false, true, zero, pos, IfOk, OnOk, drop, length, option_map, take};
 ghost use Rattle.latex2mathml_elements.specs.{Attributes.plain, Element.Element, Element.pair, Element.space};
 ghost use Rattle.latex2mathml_elements.specs.Attributes as attributes;
 ghost use Rattle.latex2mathml_builder.specs.Built.{Puts, elements_in};
-ghost use Rattle.latex2mathml_attributes.specs.Names.{attributes_of, form_of, pair_of, side_of, size_of, space_of, stretch_of};
+ghost use Rattle.latex2mathml_attributes.specs.Names.{attributes_of, form_of, pair_of, side_of, space_of, stretch_of};
 ghost use Rattle.latex2mathml_tex_grammar.specs.Atoms;
 ghost use Rattle.latex2mathml_tex_grammar.specs.Makes;
 ghost use Rattle.latex2mathml_tex_grammar.specs.Meaning;

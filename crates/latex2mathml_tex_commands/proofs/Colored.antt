@@ -5,7 +5,7 @@ use Rattle.std.specs.{Bool.Decides, Char.to_ascii_lowercase}
 use Rattle.std.specs.Str.{byte, str_eq_ignore_ascii_case}
 use Rattle.std.specs.Bool.{⊤}
 use Rattle.latex2mathml_elements.specs.Colors.{Color}
-use Rattle.latex2mathml_tex_grammar.specs.Colors.{color, color_behind_model, color_entries, color_of, color_of_digits, digit_value, digit_values, entry_color, named_color, with_components, with_digit}
+use Rattle.latex2mathml_tex_grammar.specs.Colors.{color, color_entries, color_of, color_of_digits, digit_value, digit_values, entry_color, named_color, with_components, with_digit}
 use Rattle.latex2mathml_tex_commands.specs.{Colors.component, Colors.entry_of, declared.colors.Named.Named}
 use Rattle.latex2mathml_tex_grammar.proofs.OneList.{is_byte}
 

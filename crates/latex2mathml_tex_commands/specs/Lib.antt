@@ -1,6 +1,7 @@
 pub mod Alphabets
 pub mod Colors
 pub mod Delimiters
+pub mod Diagrams
 pub mod Keys
 pub mod Lengths
 pub mod Meanings

@@ -1,8 +1,8 @@
 //! The colors that authors name.
-ghost use Rattle.std.specs.Prelude.{◌≡◌, ◌<◌, ◌≤◌, ◌∷◌, ℕ, [], List, MatchOption, None, Some, map, option_map};
+ghost use Rattle.std.specs.Prelude.{◌≡◌, ◌<◌, MatchOption, None, Some, map, option_map};
 ghost use Rattle.latex2mathml_attributes.specs.Arounds.{color_of};
 ghost use Rattle.latex2mathml_tex_grammar.specs.Colors;
-ghost use Rattle.latex2mathml_tex_grammar.specs.Colors.{color_entries, color_of_digits, color_of_three, component_of, digit_value, digit_values, entry_color, is_number, model_color, named_color, with_components};
+ghost use Rattle.latex2mathml_tex_grammar.specs.Colors.{are_digits, color_entries, color_of_digits, color_of_three, component_of, digit_value, digit_values, entry_color, is_number, model_color, with_components};
 ghost use Rattle.latex2mathml_tex_commands.specs.Colors.{component, entry_of};
 
 use crate::lengths::decimal_times;
@@ -220,7 +220,7 @@ fn model_color(model: &str, components: &str) -> Option<Color>
     } else if model == "gray" {
         let gray = component_of(255, components);
         with_components(gray, gray, gray)
-    } else if model == "HTML" {
+    } else if model == "HTML" && components.len() == 6 {
         color_of_digits(components.as_bytes())
     } else {
         None
@@ -246,7 +246,7 @@ fn component_of(one: u64, text: &str) -> Option<u8>
     requires { one < 256 }
     ensures { result ≡ component_of one text.now }
 {
-    if !is_number(text.as_bytes()) {
+    if !is_number(text) {
         return None;
     }
     let component = decimal_times(text, one);
@@ -256,11 +256,20 @@ fn component_of(one: u64, text: &str) -> Option<u8>
     Some(component as u8)
 }
 
-/// Whether these characters are a number: digits, and points.
-fn is_number(text: &[u8]) -> bool
+/// Whether these characters are a number: digits, before which, behind which or among which there may be one point.
+fn is_number(text: &str) -> bool
     ensures { result ≡ is_number text.now }
 {
-    !text.is_empty() && text.iter().all(|&c| c.is_ascii_digit() || c == b'.')
+    let (whole, decimals) = around(text, '.');
+    let is_any = !whole.is_empty() || !decimals.is_empty();
+    are_digits(whole.as_bytes()) && are_digits(decimals.as_bytes()) && is_any
+}
+
+/// Whether all of these characters are digits.
+fn are_digits(text: &[u8]) -> bool
+    ensures { result ≡ are_digits text.now }
+{
+    text.iter().all(|c| c.is_ascii_digit())
 }
 
 /// Returns the color of three or six hexadecimal digits, if these are such digits.

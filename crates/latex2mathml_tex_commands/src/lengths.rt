@@ -1,5 +1,5 @@
 //! Lengths, as they are written.
-ghost use Rattle.std.specs.Prelude.{◌≡◌, ℕ, ◌*◌, ◌<◌, ◌≤◌, MatchOption, None, Some};
+ghost use Rattle.std.specs.Prelude.{◌≡◌, ◌*◌, ◌<◌, ◌≤◌, MatchOption, None, Some};
 ghost use Rattle.latex2mathml_tex_grammar.specs.Colors;
 ghost use Rattle.latex2mathml_tex_grammar.specs.Lengths;
 ghost use Rattle.latex2mathml_tex_commands.specs.Lengths.{IsSmall, length_in};

@@ -6,6 +6,7 @@
 pub mod alphabets;
 pub mod colors;
 pub mod commands;
+pub mod diagrams;
 pub mod lengths;
 pub mod meaning;
 pub mod named;

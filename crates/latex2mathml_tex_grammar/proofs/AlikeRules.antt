@@ -3,19 +3,20 @@ use Rattle.std.proofs.Common.{◌≡◌, ◌==◌, ℕ, ℤ, Bool, nat_le, lengt
 use Rattle.std.proofs.lemmas.Bool.{cases_Bool}
 use Rattle.std.specs.{Char.is_ascii_alphabetic, Char.is_ascii_digit, Str.byte, Str.bytes_eq}
 use Rattle.latex2mathml_elements.specs.Element.{Element}
-use Rattle.latex2mathml_elements.specs.Columns.{Columns}
+use Rattle.latex2mathml_elements.specs.Columns.{Columns, Alike, Usual, Centered, LeftAligned, RightAligned}
+use Rattle.latex2mathml_tex_grammar.specs.Diagrams.{DiagramArrow, Labeled, LongEquals, HighBars, NoArrow, Direction, Rightwards, Leftwards, Upwards, Downwards, direction_sign, sign_of_arrow}
 use Rattle.latex2mathml_tex_grammar.specs.Environments.{Environment, Bracket, NoBracket, Position, Alignment, columns_of, written_out, environment_of}
 use Rattle.latex2mathml_tex_grammar.specs.Scanning.{Spot, Argument, Name, ColumnList, RepeatedColumns, Number, ColorName, InLength, AtBracket, AtUnit, BeforeLengthInBraces}
 use Rattle.latex2mathml_tex_grammar.specs.Tables.{Lines}
 use Rattle.latex2mathml_tex_grammar.specs.{Commands.meaning_of, Commands.symbol_of, Delimiters.delimiter_of, Makes.Core, Makes.Outline, Refusal.Refusal, Rows.Row, Rows.Operand, Symbols.Alphabet, Symbols.Style, Symbols.Symbol, Words.Words}
 use Rattle.latex2mathml_tex_grammar.specs.Meaning.{Meaning, takes_words, Shows, FunctionName, Dots, Spacing, Styled, Words as TakesWordsIn, Fraction, Root, Accent, Brace, Stack, StackedRelation, OperatorName, Negation, Slash, Sized, Left, Middle, Right, Limits, NoLimits, Classed, Changes, BeginTable, EndTable, LineBreak, Substack, Skip, SkipInBraces, Boxed, Smash, ContinuedFraction, GeneralFraction, Choice, Raise, InColor, Highlight, Rectangle, Arrow}
-use Rattle.latex2mathml_tex_grammar.specs.Rules.{Context, Ending, WholeText, InBraces, InBrackets, InDollars, InDelimiters, begun, Rule, gives, refuses, reads_operand, reads_core, reads_atoms, reads_words, takes_if, if_follows, takes_digits, takes_delimiter, of_one, of_two, decimal, after_digits, a_number, a_symbol, begins_none, character_rule, struck_atom, command_rule, rule, TableEnd, ByName, ByBrace, InCell, takes_found, passes_over, reads_rows, ended_table, rows_rule, listed_rule, argument_rule, alignment_rule, bracket_rule, environment_rule, most_columns, ByText, in_brackets, with_value, a_length, a_bar, a_color, a_left_brace, a_right_brace, empty_braces, an_outer_delimiter, has_width, a_line, numbered_style, a_style, an_outlined_fraction}
+use Rattle.latex2mathml_tex_grammar.specs.Rules.{Context, Ending, WholeText, InBraces, InBrackets, InDollars, InDelimiters, InLabel, begun, Rule, a_character, a_label, arrow_rule, gives, refuses, reads_operand, reads_core, reads_atoms, reads_words, takes_if, if_follows, takes_digits, takes_delimiter, of_one, of_two, decimal, after_digits, a_number, a_symbol, begins_none, character_rule, struck_atom, command_rule, rule, TableEnd, ByName, OfDiagram, ByBrace, InCell, takes_found, passes_over, reads_rows, ended_table, rows_rule, listed_rule, argument_rule, alignment_rule, bracket_rule, environment_rule, most_columns, ByText, in_brackets, with_value, a_length, a_bar, a_color, a_left_brace, a_right_brace, empty_braces, an_outer_delimiter, has_width, a_line, numbered_style, a_style, an_outlined_fraction}
 use Rattle.latex2mathml_tex_grammar.specs.{Colors.color_of, Lengths.width_of}
 use Rattle.latex2mathml_elements.specs.Colors.{Color}
 use Rattle.latex2mathml_tex_grammar.specs.Spacing.{Standing, BeforeWords, InWords, BetweenDollars, standing_behind, behind_unit, AreAlike, same_piece}
 use Rattle.latex2mathml_tex_grammar.specs.Starts.{atom_start, ends, unended, is_close, is_character, is_command, left_behind, is_break}
 use Rattle.latex2mathml_tex_grammar.specs.Units.{Piece, Space, Open, Close, Command, Character, Unit, Units}
-use Rattle.latex2mathml_tex_grammar.proofs.{OneList.is_byte, Plain.a_character_plain, Plain.close_plain, Plain.delimiter_plain, Plain.named, Plain.open_plain, Plain.negated_of_plain, Plain.right_plain, Plain.takes_none, Plain.TakesNone, Plain.break_plain, Plain.cr_plain, Plain.newline_plain, Plain.end_plain, Scans.either_holds}
+use Rattle.latex2mathml_tex_grammar.proofs.{OneList.is_byte, Plain.a_character_plain, Plain.close_plain, Plain.delimiter_plain, Plain.sign_of_arrow_plain, Plain.named, Plain.open_plain, Plain.negated_of_plain, Plain.right_plain, Plain.takes_none, Plain.TakesNone, Plain.break_plain, Plain.cr_plain, Plain.newline_plain, Plain.end_plain, Scans.either_holds}
 use Rattle.latex2mathml_tex_grammar.proofs.Spaces.{IsCalm, in_formula, in_dollars, IsPlain, ArePlain, AllPlain, character_plain, digit_plain}
 
 -- Endings
@@ -28,6 +29,7 @@ pub data AlikeEndings : Ending → Ending → Type 0 where
   both_dollars : {p q : ℕ} → AlikeEndings (InDollars p) (InDollars q)
   both_delimiters : {p q : ℕ} → AlikeEndings (InDelimiters p) (InDelimiters q)
   both_cells : (end : TableEnd) {p q : ℕ} → AlikeEndings (InCell end p) (InCell end q)
+  both_labels : (direction : Direction) {p q : ℕ} → AlikeEndings (InLabel direction p) (InLabel direction q)
 
 pub same_ends : {e f : Ending} → AlikeEndings e f → (piece : Piece) → ends e piece ≡ ends f piece
 same_ends both_whole piece = refl
@@ -38,6 +40,8 @@ same_ends both_delimiters piece = refl
 same_ends (both_cells ByName) piece = refl
 same_ends (both_cells ByBrace) piece = refl
 same_ends (both_cells ByText) piece = refl
+same_ends (both_cells OfDiagram) piece = refl
+same_ends (both_labels direction) piece = refl
 
 pub same_start : {e f : Ending} → AlikeEndings e f → (piece : Piece) → atom_start e piece ≡ atom_start f piece
 same_start both_whole piece = refl
@@ -46,6 +50,7 @@ same_start both_brackets piece = refl
 same_start both_dollars piece = refl
 same_start both_delimiters piece = refl
 same_start (both_cells end) piece = refl
+same_start (both_labels direction) piece = refl
 
 pub same_begun : {e f : Ending} → AlikeEndings e f → begun e ≡ begun f
 same_begun both_whole = refl
@@ -54,6 +59,7 @@ same_begun both_brackets = refl
 same_begun both_dollars = refl
 same_begun both_delimiters = refl
 same_begun (both_cells end) = refl
+same_begun (both_labels direction) = refl
 
 pub unended_too : {e f : Ending} → AlikeEndings e f → unended e ≡ None → unended f ≡ None
 unended_too both_whole h = refl
@@ -64,6 +70,8 @@ unended_too both_delimiters h = cc
 unended_too (both_cells ByName) h = cc
 unended_too (both_cells ByBrace) h = cc
 unended_too (both_cells ByText) h = refl
+unended_too (both_cells OfDiagram) h = cc
+unended_too (both_labels direction) h = cc
 
 same_some : {r q : Refusal} → Some r ≡ Some q → r ≡ q
 same_some e = cc
@@ -77,6 +85,8 @@ never_ended_too both_delimiters h = (_, rw (sym (same_some h)) refl, refl)
 never_ended_too (both_cells ByName) h = (_, rw (sym (same_some h)) refl, refl)
 never_ended_too (both_cells ByBrace) h = (_, rw (sym (same_some h)) refl, refl)
 never_ended_too (both_cells ByText) h = cc
+never_ended_too (both_cells OfDiagram) h = (_, rw (sym (same_some h)) refl, refl)
+never_ended_too (both_labels direction) h = (_, rw (sym (same_some h)) refl, refl)
 
 -- where atoms with this ending are, where the whole of them is here
 abbrev pub inside : Ending → Standing → Standing
@@ -86,6 +96,7 @@ inside (InBrackets place) at = at
 inside (InDollars place) at = BetweenDollars at
 inside (InDelimiters place) at = at
 inside (InCell end place) at = at
+inside (InLabel direction place) at = at
 
 close_ends : (piece : Piece) → is_close piece ≡ true → IsPlain piece
 close_ends Close h = close_plain
@@ -119,6 +130,8 @@ break_command name h =
 pub cell_ends : (end : TableEnd) (place : ℕ) (piece : Piece) → ends (InCell end place) piece ≡ true → IsPlain piece
 cell_ends ByName place (Command name) h =
     takes_none name (either_holds _ _ (either_holds _ _ (named (codes "end") name end_plain) (λ k. absurd (cc))) (break_command name) h)
+cell_ends OfDiagram place (Command name) h =
+    takes_none name (either_holds _ _ (either_holds _ _ (either_holds _ _ (named (codes "end") name end_plain) (λ k. absurd (cc))) (λ k. absurd (cc))) (break_command name) h)
 cell_ends ByBrace place (Command name) h = takes_none name (break_command name h)
 cell_ends ByText place (Command name) h = takes_none name (break_command name h)
 cell_ends end place (Character c) h = elim (cases_Bool (c == byte "$")) [
@@ -130,15 +143,46 @@ cell_ends end place (Character c) h = elim (cases_Bool (c == byte "$")) [
     dollar_in_cell ByName place h = cc
     dollar_in_cell ByBrace place h = cc
     dollar_in_cell ByText place h = cc
+    dollar_in_cell OfDiagram place h = cc
 cell_ends ByBrace place Close h = close_plain
 cell_ends ByName place Close h = cc
 cell_ends ByText place Close h = cc
+cell_ends OfDiagram place Close h = cc
 cell_ends ByName place Space h = cc
 cell_ends ByName place Open h = cc
+cell_ends OfDiagram place Space h = cc
+cell_ends OfDiagram place Open h = cc
 cell_ends ByBrace place Space h = cc
 cell_ends ByBrace place Open h = cc
 cell_ends ByText place Space h = cc
 cell_ends ByText place Open h = cc
+
+-- what ends a label is plain
+
+no_dollar_sign : (direction : Direction) → (direction_sign direction == byte "$") ≡ false
+no_dollar_sign Rightwards = refl
+no_dollar_sign Leftwards = refl
+no_dollar_sign Upwards = refl
+no_dollar_sign Downwards = refl
+
+arrow_sign_ends : (direction : Direction) (piece : Piece) → is_character (direction_sign direction) piece ≡ true → IsPlain piece
+arrow_sign_ends direction (Character c) h = character_plain c (subst (λ d. (d == byte "$") ≡ false) (is_byte (direction_sign direction) c h) (no_dollar_sign direction))
+arrow_sign_ends direction Space h = cc
+arrow_sign_ends direction Open h = cc
+arrow_sign_ends direction Close h = cc
+arrow_sign_ends direction (Command name) h = cc
+
+label_ends : (direction : Direction) (place : ℕ) (piece : Piece) → ends (InLabel direction place) piece ≡ true → IsPlain piece
+label_ends direction place piece h = elim (cases_Bool (is_character (direction_sign direction) piece)) [
+  | inl s ↦ arrow_sign_ends direction piece s
+  | inr s ↦ cell_ends OfDiagram place piece (rw s at h)
+]
+
+arrow_sign_plain : (direction : Direction) → ArePlain (a_character (direction_sign direction))
+arrow_sign_plain Rightwards = a_character_plain (byte ">") refl
+arrow_sign_plain Leftwards = a_character_plain (byte "<") refl
+arrow_sign_plain Upwards = a_character_plain (byte "A") refl
+arrow_sign_plain Downwards = a_character_plain (byte "V") refl
 
 dollar_ends : (at : Standing) (piece : Piece) → is_character (byte "$") piece ≡ true → standing_behind piece (BetweenDollars at) ≡ at
 dollar_ends at (Character c) h = subst (λ d. standing_behind (Character d) (BetweenDollars at) ≡ at) (is_byte (byte "$") c h) refl
@@ -155,6 +199,7 @@ ended_behind {at} (InBrackets place) piece h calm = bracket_ends piece h at calm
 ended_behind {at} (InDollars place) piece h calm = dollar_ends at piece h
 ended_behind {at} (InDelimiters place) piece h calm = right_ends piece h at calm
 ended_behind {at} (InCell end place) piece h calm = cell_ends end place piece h at calm
+ended_behind {at} (InLabel direction place) piece h calm = label_ends direction place piece h at calm
 
 -- so the units that are left after atoms are alike
 pub left_too : {e f : Ending} {l m : Units} (at : Standing) → AlikeEndings e f → (u v : Unit) → u.piece ≡ v.piece → ends e u.piece ≡ true → IsCalm (inside e at) → AreAlike (standing_behind u.piece (inside e at)) l m → AreAlike at (left_behind e u l) (left_behind f v m)
@@ -164,6 +209,7 @@ left_too {e} {l = l} {m = m} at both_brackets u v same s calm i = subst (λ k. A
 left_too {e} {l = l} {m = m} at both_dollars u v same s calm i = subst (λ k. AreAlike k l m) (ended_behind e u.piece s calm) i
 left_too {e} {l = l} {m = m} at both_delimiters u v same s calm i = subst (λ k. AreAlike k l m) (ended_behind e u.piece s calm) i
 left_too at (both_cells end) u v same s calm i = same_piece same i
+left_too at (both_labels direction) u v same s calm i = same_piece same i
 
 -- Rules
 
@@ -251,9 +297,9 @@ in_brackets_plain c h = (a_character_plain (byte "[") refl, (a_character_plain c
 
 alignment_too : {at : Standing} (p q : ℕ) (c : Context) (name : List ℕ) (e : Environment) → AlikeRules at at (alignment_rule p c name e) (alignment_rule q c name e)
 alignment_too p q c name e =
-    if_too (in_brackets_plain (byte "l") refl) (λ letter. rows_of_too p q c name e _)
-    (if_too (in_brackets_plain (byte "c") refl) (λ letter. rows_of_too p q c name e _)
-    (if_too (in_brackets_plain (byte "r") refl) (λ letter. rows_of_too p q c name e _) (rows_of_too p q c name e _)))
+    if_too {tests = in_brackets (byte "l")} (in_brackets_plain (byte "l") refl) (λ letter. rows_of_too p q c name e (Alike Usual LeftAligned))
+    (if_too {tests = in_brackets (byte "c")} (in_brackets_plain (byte "c") refl) (λ letter. rows_of_too p q c name e (Alike Usual Centered))
+    (if_too {tests = in_brackets (byte "r")} (in_brackets_plain (byte "r") refl) (λ letter. rows_of_too p q c name e (Alike Usual RightAligned)) (rows_of_too p q c name e e.columns)))
 
 bracket_too : {at : Standing} (p q : ℕ) (c : Context) (name : List ℕ) (e : Environment) (bracket : Bracket) → AlikeRules at at (bracket_rule p c name e bracket) (bracket_rule q c name e bracket)
 bracket_too p q c name e NoBracket = argument_too p q c name e e.argument
@@ -263,6 +309,17 @@ bracket_too p q c name e Alignment = alignment_too p q c name e
 environment_too : {at : Standing} (p q : ℕ) (c : Context) (name : List ℕ) (e : Option Environment) → AlikeRules at at (environment_rule p c name e) (environment_rule q c name e)
 environment_too p q c name None = refuses_too refl
 environment_too p q c name (Some e) = bracket_too p q c name e e.bracket
+
+-- diagrams
+
+label_too : {at : Standing} (p q : ℕ) (c : Context) (direction : Direction) {f g : Row → Rule} → ((x : Row) → AlikeRules at at (f x) (g x)) → AlikeRules at at (a_label p c direction f) (a_label q c direction g)
+label_too p q c direction h = atoms_too (both_labels direction) refl (λ label. if_too (arrow_sign_plain direction, tt) (λ sign. h label) (refuses_too refl))
+
+pub arrow_too : {at : Standing} (p q : ℕ) (c : Context) (arrow : DiagramArrow) → AlikeRules at at (arrow_rule p c arrow) (arrow_rule q c arrow)
+arrow_too p q c (Labeled direction) = label_too p q c direction (λ first. label_too p q c direction (λ second. gives_too))
+arrow_too p q c LongEquals = gives_too
+arrow_too p q c HighBars = gives_too
+arrow_too p q c NoArrow = gives_too
 
 -- lengths and colors
 
@@ -348,7 +405,7 @@ command_too p q c name (Some (Styled alphabet)) calm = as_is calm one_too
 command_too p q c name (Some (TakesWordsIn alphabet)) calm = words_follow calm (words_too (λ ws. gives_too))
 command_too p q c name (Some (Fraction bar own)) calm = as_is calm two_too
 command_too p q c name (Some ContinuedFraction) calm =
-    as_is calm (if_too (in_brackets_plain (byte "l") refl) (λ left. two_too) (if_too (in_brackets_plain (byte "r") refl) (λ right. two_too) two_too))
+    as_is calm (if_too (in_brackets_plain (byte "l") refl) (λ left. two_too) (if_too {tests = in_brackets (byte "r")} (in_brackets_plain (byte "r") refl) (λ right. two_too) two_too))
 command_too p q c name (Some GeneralFraction) calm =
     as_is calm (outer_delimiter_too p q (λ opening. outer_delimiter_too p q (λ closing. line_too p q (λ has_line. style_too p q (λ own.
     outlined_too p q c (record { opening = opening; closing = closing; has_line = has_line; own = own }))))))
@@ -387,6 +444,9 @@ rules_too {at} p q c (Character character) calm = elim (cases_Bool (character ==
   | inr s ↦ plain_rule (character_plain character s at calm) (characters_too p q c character)
 ]
 rules_too p q c (Command name) calm = command_too p q c name (meaning_of name) calm
+
+pub arrow_tests : AllPlain (sign_of_arrow ∷ [])
+arrow_tests = (sign_of_arrow_plain, tt)
 
 pub delimiter_tests : AllPlain (delimiter_of ∷ [])
 delimiter_tests = (delimiter_plain, tt)

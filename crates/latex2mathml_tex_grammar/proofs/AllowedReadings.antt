@@ -1,16 +1,18 @@
 -- No reading of units has a text with a character that XML forbids, where the units have none.
-use Rattle.std.proofs.Common.{ℕ, List, [], ◌∷◌, Option, None, subst, reverse}
+use Rattle.std.proofs.Common.{ℕ, List, [], ◌∷◌, Option, None, length, subst, reverse}
 use Rattle.latex2mathml_elements.specs.{Characters.IsAllowed, Dollars.IsDollarFree, Element.Element, Element.children}
 use Rattle.latex2mathml_elements.specs.Columns.{Columns}
 use Rattle.latex2mathml_tex_grammar.specs.{RowGaps.gap_at, RowLines.line_next, Scanning.BeforeRow, Scanning.past_gap, Tables.Lines, Tables.a_row, Atoms.Atom, Atoms.Before, Atoms.After, Atoms.Nothing, DefinitionTexts.Defines, Delimiters.delimiter_of, Formulas.IsReading, Formulas.row_print, Formulas.row_print_with_source, Formulas.shown, Formulas.source_text, Laws.ReadingsAreAllowed, Macros.Table, Rows.Row, Rows.Operand, Rows.empty_row, Rows.lone, Rows.row_element, Symbols.Alphabet, Symbols.Opening, Symbols.InDisplay, Symbols.Style, Separators.text_columns, Rows.with_atom}
 use Rattle.latex2mathml_elements.proofs.{Annotated.annotated_print_as_elements, OneElement.print_as_elements}
 use Rattle.latex2mathml_tex_grammar.specs.Makes.{Core, core, divider, is_display, number, Scripts}
-use Rattle.latex2mathml_tex_grammar.specs.Reading.{Outcome, ReadsRule, rule_gives, rule_refuses, operand_read, operand_refused, core_read, core_refused, core_missing, core_stopped, atoms_read, atoms_refused, words_read, words_refused, units_taken, units_missing, unit_follows, no_unit_follows, digits_taken, delimiter_taken, delimiter_missing, ReadsOperand, group_operand, group_refused, digit_operand, other_operand, other_refused, no_operand, operand_at_end, operand_stopped, ReadsScripts, scripts_end, mark_taken, script_read, script_refused, mark_refused, ReadsAtom, divider_read, divider_refused, on_empty_row, base_read, base_refused, ReadsAtoms, text_ends, never_ended, atoms_stopped, atoms_end, atom_read, atom_refused, rest_read, change_refused, ReadsWord, word_stands, group_of_words, formula_read, formula_refused, words_in_alphabet, no_word, word_missing, word_at_end, word_stopped, ReadsWords, words_end, words_never_ended, words_stopped, word_read, word_refused, found_taken, found_refused, passed_over, rows_read, rows_refused, ReadsRows, cell_read, cell_refused, ReadsBehindCell, next_cell, next_row, table_ends, rows_to_end, text_ends_table, Read, Refused}
-use Rattle.latex2mathml_tex_grammar.specs.Rules.{Context, Ending, before_first, begun, Rule, gives, takes_delimiter, TableEnd, WholeText, InBraces, InBrackets, InDollars, InDelimiters, InCell}
+use Rattle.latex2mathml_tex_grammar.specs.Reading.{Outcome, ReadsRule, rule_gives, rule_refuses, operand_read, operand_refused, core_read, core_refused, core_missing, core_stopped, atoms_read, atoms_refused, words_read, words_refused, units_taken, units_missing, unit_follows, no_unit_follows, digits_taken, delimiter_taken, delimiter_missing, ReadsOperand, group_operand, group_refused, digit_operand, other_operand, other_refused, no_operand, operand_at_end, operand_stopped, ReadsScripts, scripts_end, mark_taken, script_read, script_refused, mark_refused, ReadsAtom, divider_read, divider_refused, on_empty_row, base_read, base_refused, ReadsAtoms, text_ends, never_ended, atoms_stopped, atoms_end, atom_read, atom_refused, rest_read, change_refused, ReadsWord, word_stands, group_of_words, formula_read, formula_refused, words_in_alphabet, no_word, word_missing, word_at_end, word_stopped, ReadsWords, words_end, words_never_ended, words_stopped, word_read, word_refused, found_taken, found_refused, passed_over, rows_read, rows_refused, ReadsRows, cell_read, cell_refused, ReadsBehindCell, next_cell, arrow_read, arrow_refused, no_arrow, next_row, table_ends, rows_to_end, text_ends_table, Read, Refused}
+use Rattle.latex2mathml_tex_grammar.specs.Diagrams.{arrow_of, fills_cell, sign_of_arrow}
+use Rattle.latex2mathml_tex_grammar.specs.Rules.{Context, Ending, before_first, begun, Rule, gives, takes_delimiter, TableEnd, WholeText, InBraces, InBrackets, InDollars, InDelimiters, InCell, InLabel}
 use Rattle.latex2mathml_tex_grammar.specs.Starts.{mark_of, left_behind}
 use Rattle.latex2mathml_tex_grammar.specs.Units.{Unit, Units}
 use Rattle.latex2mathml_tex_grammar.specs.Words.{Formula, Words}
 use Rattle.latex2mathml_tex_grammar.proofs.Allowed.{IsAllowedPiece, AreAllowedUnits, IsAllowedCore, IsAllowedAtom, IsAllowedOperand, IsAllowedPart, IsAllowedRest, IsAllowedRow, AreAllowedScripts, AreAllowedWords, IsAllowedWordRule, IsAllowedStep, IsAllowedRule, IsAllowedOutcome, AreAllowedElements, AreAllowedLines}
+use Rattle.latex2mathml_tex_grammar.proofs.AllowedDiagrams.{arrow_allowed, before_allowed}
 use Rattle.latex2mathml_tex_grammar.proofs.AllowedMakes.{lone_allowed, number_allowed, row_children_allowed, row_element_allowed, scripted_allowed, single_allowed, with_atom_allowed}
 use Rattle.latex2mathml_tex_grammar.proofs.AllowedMacros.{expansion_allowed, macros_allowed}
 use Rattle.latex2mathml_tex_grammar.proofs.AllowedRests.{finished_allowed, rest_allowed}
@@ -33,6 +35,7 @@ left_allowed (InBrackets place) u m h k = k
 left_allowed (InDollars place) u m h k = k
 left_allowed (InDelimiters place) u m h k = k
 left_allowed (InCell end place) u m h k = (h, k)
+left_allowed (InLabel direction place) u m h k = (h, k)
 
 mutual
   rules : {r : Rule} {l : Units} {o : Outcome Core} → ReadsRule r l o → IsAllowedRule r → AreAllowedUnits l → IsAllowedOutcome IsAllowedCore o
@@ -121,6 +124,12 @@ mutual
 
   behind_cells : {end : TableEnd} {place : ℕ} {columns : Columns} {c : Context} {before cells cell : List Element} {l : Units} {o : Outcome Lines} → ReadsBehindCell end place columns c before cells cell l o → AreAllowedElements before → AreAllowedElements cells → AreAllowedElements cell → AreAllowedUnits l → IsAllowedOutcome AreAllowedLines o
   behind_cells (next_cell {cell = cell} {l = l} p s d) h i j k = tables d h (row_element_allowed cell j, i) (next_allowed l p k).1
+  behind_cells (arrow_read {c = c} {cells = cells} {cell = cell} {l = l} {m = m} {k = rest} {u = u} {sign = sign} p s f d ds) h i j k =
+      let taken = next_taken (sign_of_arrow ∷ []) m rest sign f (next_allowed l p k).1 in
+      let read = rules d (arrow_allowed u.place c (arrow_of sign)) taken.1 in
+      tables ds h (read.0, before_allowed (fills_cell (arrow_of sign) (length cells) cell) cell cells j i) read.1
+  behind_cells (arrow_refused p s f d) h i j k = tt
+  behind_cells (no_arrow p s f) h i j k = tt
   behind_cells (next_row {columns = columns} {rows = before} {cells = cells} {cell = cell} {l = l} {m = m} p s d) h i j k =
       let row = a_row columns (gap_at m) (row_element cell) cells in
       let all = lined_allowed (line_next (past_gap m)) (row ∷ before) (a_row_allowed columns (gap_at m) (row_element cell) cells (row_element_allowed cell j) i, h) in

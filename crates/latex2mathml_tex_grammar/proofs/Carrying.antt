@@ -3,12 +3,13 @@ use Rattle.std.proofs.Common.{◌≡◌, ℕ, ℤ, List, true, [], ◌∷◌, Op
 use Rattle.latex2mathml_elements.specs.Columns.{Columns}
 use Rattle.latex2mathml_tex_grammar.specs.{Atoms.Atom, Atoms.Before, Delimiters.delimiter_of, Makes.Core, Makes.Scripts, Refusal.MissingDelimiter, Refusal.Refusal, Rows.Row, Rows.Operand, Symbols.Alphabet, Words.Words}
 use Rattle.latex2mathml_tex_grammar.specs.Next.{digits_next, past_space}
-use Rattle.latex2mathml_tex_grammar.specs.Reading.{Outcome, Read, Refused, ReadsRule, rule_gives, rule_refuses, operand_read, operand_refused, core_read, core_refused, core_missing, core_stopped, atoms_read, atoms_refused, words_read, words_refused, units_taken, units_missing, unit_follows, no_unit_follows, digits_taken, delimiter_taken, delimiter_missing, ReadsOperand, group_operand, group_refused, digit_operand, other_operand, other_refused, no_operand, operand_at_end, operand_stopped, ReadsScripts, scripts_end, mark_taken, script_read, script_refused, mark_refused, ReadsAtom, divider_read, divider_refused, on_empty_row, base_read, base_refused, ReadsAtoms, text_ends, never_ended, atoms_stopped, atoms_end, atom_read, atom_refused, rest_read, change_refused, ReadsWord, word_stands, group_of_words, formula_read, formula_refused, words_in_alphabet, no_word, word_missing, word_at_end, word_stopped, ReadsWords, words_end, words_never_ended, words_stopped, word_read, word_refused, found_taken, found_refused, passed_over, rows_read, rows_refused, ReadsRows, cell_read, cell_refused, ReadsBehindCell, next_cell, next_row, table_ends, rows_to_end, text_ends_table}
+use Rattle.latex2mathml_tex_grammar.specs.Reading.{Outcome, Read, Refused, ReadsRule, rule_gives, rule_refuses, operand_read, operand_refused, core_read, core_refused, core_missing, core_stopped, atoms_read, atoms_refused, words_read, words_refused, units_taken, units_missing, unit_follows, no_unit_follows, digits_taken, delimiter_taken, delimiter_missing, ReadsOperand, group_operand, group_refused, digit_operand, other_operand, other_refused, no_operand, operand_at_end, operand_stopped, ReadsScripts, scripts_end, mark_taken, script_read, script_refused, mark_refused, ReadsAtom, divider_read, divider_refused, on_empty_row, base_read, base_refused, ReadsAtoms, text_ends, never_ended, atoms_stopped, atoms_end, atom_read, atom_refused, rest_read, change_refused, ReadsWord, word_stands, group_of_words, formula_read, formula_refused, words_in_alphabet, no_word, word_missing, word_at_end, word_stopped, ReadsWords, words_end, words_never_ended, words_stopped, word_read, word_refused, found_taken, found_refused, passed_over, rows_read, rows_refused, ReadsRows, cell_read, cell_refused, ReadsBehindCell, next_cell, arrow_read, arrow_refused, no_arrow, next_row, table_ends, rows_to_end, text_ends_table}
+use Rattle.latex2mathml_tex_grammar.specs.Diagrams.{arrow_of, sign_of_arrow}
 use Rattle.latex2mathml_tex_grammar.specs.Rules.{Context, Ending, begun, Rule, TableEnd, InCell}
 use Rattle.latex2mathml_tex_grammar.specs.Spacing.{Standing, InWords, standing_behind, AreAlike, both_end, same_piece}
 use Rattle.latex2mathml_tex_grammar.specs.Starts.{is_close}
 use Rattle.latex2mathml_tex_grammar.specs.Units.{Piece, Space, Open, Close, Command, Character, Unit, unit, Units, End, Next}
-use Rattle.latex2mathml_tex_grammar.proofs.AlikeRules.{AlikeEndings, both_braces, both_dollars, same_begun, same_ends, same_start, unended_too, never_ended_too, inside, WordsStand, before_words, within_words, AlikeRules, gives_too, refuses_too, operand_too, core_too, atoms_too, words_too, if_too, follows_too, digits_taken_too, delimiter_too, rules_too, delimiter_tests, both_cells, cell_ends, left_too, scanned_too, passed_too, rows_too}
+use Rattle.latex2mathml_tex_grammar.proofs.AlikeRules.{AlikeEndings, both_braces, both_dollars, same_begun, same_ends, same_start, unended_too, never_ended_too, inside, WordsStand, before_words, within_words, AlikeRules, gives_too, refuses_too, operand_too, core_too, atoms_too, words_too, if_too, follows_too, digits_taken_too, delimiter_too, rules_too, arrow_too, arrow_tests, delimiter_tests, both_cells, cell_ends, left_too, scanned_too, passed_too, rows_too}
 use Rattle.latex2mathml_tex_grammar.proofs.AlikeRests.{rest_too, no_rest_too}
 use Rattle.latex2mathml_tex_grammar.proofs.Plain.{change_start_plain, divider_plain, digit_start_plain, group_start_plain, step_plain}
 use Rattle.latex2mathml_tex_grammar.proofs.Spaces.{Front, next_stays, both_next, both_ended, both_stopped, fronts, fronts_of_words, looks_too, next_too, end_too, stop_too, refused_too, same_step, IsCalm, in_dollars, behind_plain, taken_too, missing_too, digits_too, IsPlain}
@@ -66,6 +67,7 @@ mutual
 
   cell_behind_ends : {end : TableEnd} {place : ℕ} {columns : Columns} {c : Context} {rows cells cell : List Element} {l n : Units} {lines : Lines} → ReadsBehindCell end place columns c rows cells cell l (Read lines n) → EndsInCell l → EndsInCell n
   cell_behind_ends (next_cell p s d) ended = rows_end d
+  cell_behind_ends (arrow_read p s f d ds) ended = rows_end ds
   cell_behind_ends (next_row p s d) ended = rows_end d
   cell_behind_ends (table_ends p s) ended = ended
   cell_behind_ends (text_ends_table p) ended = ended
@@ -226,6 +228,20 @@ mutual
   carry_behind_cell other ended (next_cell {u = u} p s d) calm h =
       let next = next_too h p in
       also (carry_rows other d calm (behind_plain u.piece (ended _ u p) calm next.alike)) (λ p. next_cell next.is s)
+  carry_behind_cell other ended (arrow_read {c = c} {u = u} {sign = sign} p s f d ds) calm h =
+      let next = next_too h p in
+      let taken = taken_too (sign_of_arrow ∷ []) arrow_tests calm (behind_plain u.piece (ended _ u p) calm next.alike) f in
+      let (n, alike, e) = read_is (carry_rule d (arrow_too u.place next.place c (arrow_of sign)) calm taken.alike) in
+      also (carry_rows other ds calm alike) (λ p. arrow_read next.is s taken.is e)
+  carry_behind_cell other ended (arrow_refused {c = c} {u = u} {sign = sign} p s f d) calm h =
+      let next = next_too h p in
+      let taken = taken_too (sign_of_arrow ∷ []) arrow_tests calm (behind_plain u.piece (ended _ u p) calm next.alike) f in
+      let (r, kind, e) = refused_is (carry_rule d (arrow_too u.place next.place c (arrow_of sign)) calm taken.alike) in
+      also_refused r kind (arrow_refused next.is s taken.is e)
+  carry_behind_cell other ended (no_arrow {u = u} p s f) calm h =
+      let next = next_too h p in
+      let alike = behind_plain u.piece (ended _ u p) calm next.alike in
+      also_refused _ refl (no_arrow next.is s (missing_too (sign_of_arrow ∷ []) arrow_tests calm alike f))
   carry_behind_cell other ended (next_row {columns = columns} {rows = rows} {cells = cells} {cell = cell} {u = u} p s d) calm h =
       let next = next_too h p in
       let alike = behind_plain u.piece (ended _ u p) calm next.alike in

@@ -1,12 +1,13 @@
 -- What follows one outcome of units also follows another one, where the two are the same.
-use Rattle.std.proofs.Common.{◌≡◌, ℕ, ℤ, Option, Some, None, refl, sym, ap, subst, List}
+use Rattle.std.proofs.Common.{◌≡◌, ℕ, ℤ, Option, Some, None, length, refl, sym, ap, subst, List, [], ◌∷◌}
 use Rattle.latex2mathml_elements.specs.Element.{Element}
 use Rattle.latex2mathml_elements.specs.Columns.{Columns}
 use Rattle.latex2mathml_tex_grammar.specs.{Atoms.Atom, Atoms.Before, Makes.Core, Makes.Scripts, Makes.no_scripts, Rows.Row, Rows.Operand, Rows.empty_row, Rows.with_atom}
 use Rattle.latex2mathml_tex_grammar.specs.Reading.{Outcome, Read, ReadsRule, ReadsOperand, ReadsScripts, ReadsAtom, divider_read, divider_refused, on_empty_row, base_read, base_refused, ReadsAtoms, ReadsWord, ReadsWords, ReadsRows, ReadsBehindCell}
 use Rattle.latex2mathml_tex_grammar.specs.Rests.{Rest, GoesOnIn, NoRest, rest_of}
-use Rattle.latex2mathml_tex_grammar.specs.Rules.{Context, Ending, InBraces, Rule, rule, TableEnd}
-use Rattle.latex2mathml_tex_grammar.specs.{Meaning.Change, Starts.atom_start, Starts.ChangeStart, Starts.step_next, Starts.step_of_mark, Starts.mark_of, Starts.Step, Starts.GoesOn, Starts.TakesOperand, Starts.Forbidden, Refusal.Kind, Refusal.Refusal, Refusal.refusal_at, Symbols.Alphabet, Words.Words, Words.WordRule, Words.TakesWords, Scanning.Found, Scanning.Given, Starts.CellEnd, Next.past_space, RowGaps.gap_at, RowLines.line_next, RowLines.lined, Scanning.past_break, Scanning.past_gap, Tables.Lines, Tables.cell_of}
+use Rattle.latex2mathml_tex_grammar.specs.Diagrams.{arrow_of, before_arrow, fills_cell, sign_of_arrow}
+use Rattle.latex2mathml_tex_grammar.specs.Rules.{Context, Ending, InBraces, Rule, rule, arrow_rule, TableEnd}
+use Rattle.latex2mathml_tex_grammar.specs.{Meaning.Change, Starts.atom_start, Starts.ChangeStart, Starts.step_next, Starts.step_of_mark, Starts.mark_of, Starts.Step, Starts.GoesOn, Starts.TakesOperand, Starts.Forbidden, Refusal.Kind, Refusal.Refusal, Refusal.refusal_at, Symbols.Alphabet, Words.Words, Words.WordRule, Words.TakesWords, Scanning.Found, Scanning.Given, Starts.CellEnd, Next.next_are, Next.past_space, RowGaps.gap_at, RowLines.line_next, RowLines.lined, Scanning.past_break, Scanning.past_gap, Tables.Lines, Tables.cell_of}
 use Rattle.latex2mathml_tex_grammar.specs.Units.{Unit, Units, Next, End}
 
 -- what holds of the unit that comes next, and of the units after it, holds whichever way it was found
@@ -113,6 +114,30 @@ rows_next {end} {place} {columns} {c} {rows} {cells} behind {o = o} p q d = next
 -- what ends a cell does one thing
 pub one_end : (end : Unit → CellEnd) {w m n : Units} {u v : Unit} {a b : CellEnd} → w ≡ Next u m → w ≡ Next v n → end u ≡ a → end v ≡ b → a ≡ b
 one_end end {u = u} {v = v} p q s t = (let same : u ≡ v = cc in cc)
+
+-- one arrow follows an at sign
+module _ {w m n : Units} {u v : Unit} (p : w ≡ Next u m) (q : w ≡ Next v n) where
+  pub one_sign : {sign other : List ℕ} {k j : Units} → next_are (sign_of_arrow ∷ []) m ≡ Some (sign, k) → next_are (sign_of_arrow ∷ []) n ≡ Some (other, j) → sign ≡ other
+  one_sign {sign} {other} {k} {j} f g =
+      let left : m ≡ n = cc in
+      let one : List ℕ × Units = (sign, k) in
+      let two : List ℕ × Units = (other, j) in
+      let same : one ≡ two = cc in
+      ap (λ t. t.0) same
+
+  pub sign_or_none : {sign : List ℕ} {k : Units} → next_are (sign_of_arrow ∷ []) m ≡ Some (sign, k) → next_are (sign_of_arrow ∷ []) n ≡ None → ⊥
+  sign_or_none f g = (let left : m ≡ n = cc in cc)
+
+  pub arrow_is : (c : Context) {sign other : List ℕ} {k j : Units} {o : Outcome Core} → next_are (sign_of_arrow ∷ []) m ≡ Some (sign, k) → next_are (sign_of_arrow ∷ []) n ≡ Some (other, j) → ReadsRule (arrow_rule v.place c (arrow_of other)) j o → ReadsRule (arrow_rule u.place c (arrow_of sign)) k o
+  arrow_is c {other = other} {j = j} {o = o} f g d =
+      let unit : v ≡ u = cc in
+      let left : n ≡ m = cc in
+      moved_some (λ sign k. ReadsRule (arrow_rule u.place c (arrow_of sign)) k o) f (subst (λ n. next_are (sign_of_arrow ∷ []) n ≡ Some (other, j)) left g) (subst (λ v. ReadsRule (arrow_rule v.place c (arrow_of other)) j o) unit d)
+
+pub arrow_moved : {end : TableEnd} {place : ℕ} {columns : Columns} {c : Context} {rows : List Element} (cells cell : List Element) {sign other : List ℕ} {x y : Core} {m n : Units} {o : Outcome Lines} → sign ≡ other → Read x m ≡ Read y n → ReadsRows end place columns c rows (y.atom.element ∷ before_arrow (fills_cell (arrow_of other) (length cells) cell) cell cells) n o → ReadsRows end place columns c rows (x.atom.element ∷ before_arrow (fills_cell (arrow_of sign) (length cells) cell) cell cells) m o
+arrow_moved {end} {place} {columns} {c} {rows} cells cell {sign} {y = y} {n = n} {o = o} same e d =
+    moved (λ x m. ReadsRows end place columns c rows (x.atom.element ∷ before_arrow (fills_cell (arrow_of sign) (length cells) cell) cell cells) m o) e
+    (subst (λ sign. ReadsRows end place columns c rows (y.atom.element ∷ before_arrow (fills_cell (arrow_of sign) (length cells) cell) cell cells) n o) (sym same) d)
 
 pub cell_moved : {end : TableEnd} {place : ℕ} {columns : Columns} {c : Context} {rows cells : List Element} {x y : Row} {m n : Units} {o : Outcome Lines} → Read x m ≡ Read y n → ReadsBehindCell end place columns c rows cells (cell_of y) n o → ReadsBehindCell end place columns c rows cells (cell_of x) m o
 cell_moved {end} {place} {columns} {c} {rows} {cells} {o = o} e d = moved (λ x m. ReadsBehindCell end place columns c rows cells (cell_of x) m o) e d

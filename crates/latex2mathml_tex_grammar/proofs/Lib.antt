@@ -2,6 +2,7 @@ pub mod Adding
 pub mod AlikeRests
 pub mod AlikeRules
 pub mod Allowed
+pub mod AllowedDiagrams
 pub mod AllowedMacros
 pub mod AllowedMakes
 pub mod AllowedReadings

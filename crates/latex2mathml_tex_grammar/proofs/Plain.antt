@@ -8,8 +8,9 @@ use Rattle.latex2mathml_tex_grammar.specs.{Rules.a_character, Rules.a_digit, Tex
 use Rattle.latex2mathml_tex_grammar.specs.Meaning.{takes_words}
 use Rattle.latex2mathml_tex_grammar.specs.Meaning.{Change, Changes, Meaning}
 use Rattle.latex2mathml_tex_grammar.specs.Starts.{change_meant, change_by, ChangeStart, Mark, Prime, Below, Above, LimitsAt, Step, atom_start, DividerStart, start_of_mark, OperandStart, DigitStart, GroupStart, NoStart, operand_start, is_no_operand, is_open, start_of_digit, mark_of, step_of_mark, is_command}
-use Rattle.latex2mathml_tex_grammar.specs.{Makes.Scripts, Rules.Ending, Rules.WholeText, Rules.InBraces, Rules.InBrackets, Rules.InDollars, Rules.InDelimiters, Rules.InCell}
+use Rattle.latex2mathml_tex_grammar.specs.{Makes.Scripts, Rules.Ending, Rules.WholeText, Rules.InBraces, Rules.InBrackets, Rules.InDollars, Rules.InDelimiters, Rules.InCell, Rules.InLabel}
 use Rattle.latex2mathml_tex_grammar.specs.Units.{Piece, Space, Open, Close, Command, Character}
+use Rattle.latex2mathml_tex_grammar.specs.Diagrams.{sign_of_arrow}
 use Rattle.latex2mathml_tex_grammar.proofs.Spaces.{in_formula, in_dollars, no_dollar, IsPlain, ArePlain, character_plain, digit_plain}
 
 pub open_plain : IsPlain Open
@@ -144,6 +145,13 @@ a_character_plain d h Space found e = cc
 a_character_plain d h Open found e = cc
 a_character_plain d h Close found e = cc
 
+pub sign_of_arrow_plain : ArePlain sign_of_arrow
+sign_of_arrow_plain (Character c) found e = character_plain c (no_dollar (λ c. sign_of_arrow (Character c)) refl c found e)
+sign_of_arrow_plain (Command name) found e = cc
+sign_of_arrow_plain Space found e = cc
+sign_of_arrow_plain Open found e = cc
+sign_of_arrow_plain Close found e = cc
+
 -- a mark is plain
 pub mark_plain : (piece : Piece) (mark : Mark) → mark_of piece ≡ Some mark → IsPlain piece
 mark_plain (Character c) mark e = character_plain c (no_dollar (λ c. mark_of (Character c)) refl c mark e)
@@ -195,6 +203,7 @@ divider_plain (InBraces place) piece e = absurd (none (change_by piece) (mark_of
 divider_plain (InBrackets place) piece e = absurd (none (change_by piece) (mark_of piece) e)
 divider_plain (InDollars place) piece e = absurd (none (change_by piece) (mark_of piece) e)
 divider_plain (InCell end place) piece e = absurd (none (change_by piece) (mark_of piece) e)
+divider_plain (InLabel direction place) piece e = absurd (none (change_by piece) (mark_of piece) e)
 
 -- and so is what changes the rest of its group
 
@@ -228,6 +237,7 @@ change_start_plain (InBraces place) piece change e = change_plain piece (is_chan
 change_start_plain (InBrackets place) piece change e = change_plain piece (is_change (change_by piece) (mark_of piece) e)
 change_start_plain (InDollars place) piece change e = change_plain piece (is_change (change_by piece) (mark_of piece) e)
 change_start_plain (InCell end place) piece change e = change_plain piece (is_change (change_by piece) (mark_of piece) e)
+change_start_plain (InLabel direction place) piece change e = change_plain piece (is_change (change_by piece) (mark_of piece) e)
 
 -- How operands begin
 

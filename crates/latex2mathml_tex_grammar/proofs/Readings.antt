@@ -1,7 +1,7 @@
 -- A text has exactly one reading or exactly one refusal.
 use Rattle.std.proofs.Common.{◌≡◌, ◌⊎◌, inl, inr, ℕ, List, ap, subst, refl, sym, ◌∙◌, Bool, true, false, ◌||◌, IsTrue, IsFalse, if◌then◌else◌}
 use Rattle.latex2mathml_tex_grammar.specs.{Expanding.expansion, Expansion.most_units, Expansion.most_uses, Formulas.IsExpansion, Formulas.IsReading, Formulas.IsRefusal, Formulas.formula_context, Laws.AreMacrosTheirNames, Laws.HasOneReading, Macros.SameMacros, Macros.Table, Refusal.Refusal, Rows.Row, Rules.Context, Rules.WholeText, Rules.begun, Symbols.Style, Cutting.units_of, Units.Units, Units.End}
-use Rattle.latex2mathml_tex_grammar.specs.Reading.{Outcome, Read, Refused, ReadsAtoms, text_ends, atoms_end, atom_read, rest_read, ReadsRule, rule_gives, rows_read, rows_to_end, ReadsRows, cell_read, ReadsBehindCell, next_cell, next_row, table_ends, text_ends_table}
+use Rattle.latex2mathml_tex_grammar.specs.Reading.{Outcome, Read, Refused, ReadsAtoms, text_ends, atoms_end, atom_read, rest_read, ReadsRule, rule_gives, rows_read, rows_to_end, ReadsRows, cell_read, ReadsBehindCell, next_cell, arrow_read, next_row, table_ends, text_ends_table}
 use Rattle.latex2mathml_tex_grammar.proofs.{Expanding.expansion_is, Expanding.is_expanded, OneList.has_units, OneList.units_are, SameTables.expansion_same, Total.has_one_outcome, Unique.one_atoms, Spaces.next_stays, Total.rule_outcome, Unique.one_rule}
 use Rattle.latex2mathml_tex_grammar.specs.Formulas.{ReadsFormula, as_atoms, as_rows, alone, asks_for_rows}
 use Rattle.std.proofs.lemmas.Bool.{cases_Bool}
@@ -10,7 +10,7 @@ use Rattle.latex2mathml_tex_grammar.specs.Makes.{Core}
 use Rattle.latex2mathml_tex_grammar.specs.Next.{past_space}
 use Rattle.latex2mathml_tex_grammar.specs.Rules.{ByText, InCell, rows_of_text}
 use Rattle.latex2mathml_tex_grammar.specs.Separators.{text_columns}
-use Rattle.latex2mathml_tex_grammar.specs.Starts.{PartsCells, EndsRow, EndsTable, ends, is_break, is_character}
+use Rattle.latex2mathml_tex_grammar.specs.Starts.{PartsCells, BeginsArrow, EndsRow, EndsTable, ends, is_break, is_character}
 use Rattle.latex2mathml_tex_grammar.specs.Tables.{Lines}
 use Rattle.latex2mathml_tex_grammar.specs.Units.{Unit, Next}
 use Rattle.latex2mathml_elements.specs.{Columns.Columns, Element.Element}
@@ -34,10 +34,11 @@ cell_leaves (atoms_end {l = l} {m = m} {u = u} p s) v k q = (let stays : past_sp
 cell_leaves (atom_read p s d ds) v k q = cell_leaves ds v k q
 cell_leaves (rest_read p s t r d) v k q = cell_leaves d v k q
 
-ends_no_table : (parts breaks : Bool) → parts || breaks ≡ true → (if parts then PartsCells else if breaks then EndsRow else EndsTable) ≡ EndsTable → ⊥
-ends_no_table true breaks h e = cc
-ends_no_table false true h e = cc
-ends_no_table false false h e = cc
+ends_no_table : (parts begins breaks : Bool) → parts || breaks ≡ true → (if parts then PartsCells else if begins then BeginsArrow else if breaks then EndsRow else EndsTable) ≡ EndsTable → ⊥
+ends_no_table true begins breaks h e = cc
+ends_no_table false true breaks h e = cc
+ends_no_table false false true h e = cc
+ends_no_table false false false h e = cc
 
 mutual
   pub rows_end_text : {place : ℕ} {columns : Columns} {c : Context} {rows cells : List Element} {l n : Units} {lines : Lines} → ReadsRows ByText place columns c rows cells l (Read lines n) → (at : ℕ) × (past_space n ≡ End at)
@@ -45,8 +46,9 @@ mutual
 
   cell_ends_text : {place : ℕ} {columns : Columns} {c : Context} {rows cells cell : List Element} {l n : Units} {lines : Lines} → ReadsBehindCell ByText place columns c rows cells cell l (Read lines n) → RestEndsCell l → (at : ℕ) × (past_space n ≡ End at)
   cell_ends_text (next_cell p s d) left = rows_end_text d
+  cell_ends_text (arrow_read p s f d ds) left = rows_end_text ds
   cell_ends_text (next_row p s d) left = rows_end_text d
-  cell_ends_text (table_ends {u = u} p s) left = absurd (ends_no_table (is_character (byte "&") u.piece) (is_break u.piece) (left u _ p) s)
+  cell_ends_text (table_ends {u = u} p s) left = absurd (ends_no_table (is_character (byte "&") u.piece) (is_character (byte "@") u.piece) (is_break u.piece) (left u _ p) s)
   cell_ends_text (text_ends_table {at = at} p) left = (at, p)
 
 abbrev pub EndsWithText : Outcome Row → Type 0

@@ -6,14 +6,15 @@ use Rattle.std.proofs.lemmas.Bool.{cases_Bool}
 use Rattle.std.specs.Bool.{⊤}
 use Rattle.latex2mathml_tex_grammar.specs.{Atoms.Atom, Atoms.Before, Rows.Row, Rows.Operand, Rows.empty_row, Rows.lone, Rows.row_element, Rows.with_atom, Rows.operand_of, Rows.single, Delimiters.delimiter_of, Laws.HasOneOutcome, Makes.Core, Makes.core, Makes.divider, Makes.Scripts, Makes.no_scripts, Meaning.Beside, Meaning.Change, RowGaps.gap_at, RowLines.line_next, RowLines.lined, Tables.Lines, Tables.begun_cell, Tables.cell_of, Tables.a_row, Tables.with_last}
 use Rattle.latex2mathml_tex_grammar.specs.Next.{follows, is_space_piece, past_space, next_are, digits_next, digits_here}
-use Rattle.latex2mathml_tex_grammar.specs.Reading.{Outcome, Read, Refused, ReadsRule, rule_gives, rule_refuses, operand_read, operand_refused, core_read, core_refused, core_missing, core_stopped, atoms_read, atoms_refused, words_read, words_refused, units_taken, units_missing, unit_follows, no_unit_follows, digits_taken, delimiter_taken, delimiter_missing, ReadsOperand, group_operand, group_refused, digit_operand, other_operand, other_refused, no_operand, operand_at_end, operand_stopped, ReadsScripts, scripts_end, mark_taken, script_read, script_refused, mark_refused, ReadsAtom, divider_read, divider_refused, on_empty_row, base_read, base_refused, ReadsAtoms, text_ends, never_ended, atoms_stopped, atoms_end, atom_read, atom_refused, rest_read, change_refused, ReadsWord, word_stands, group_of_words, formula_read, formula_refused, words_in_alphabet, no_word, word_missing, word_at_end, word_stopped, ReadsWords, words_end, words_never_ended, words_stopped, word_read, word_refused, found_taken, found_refused, passed_over, rows_read, rows_refused, ReadsRows, cell_read, cell_refused, ReadsBehindCell, next_cell, next_row, table_ends, rows_to_end, text_ends_table}
+use Rattle.latex2mathml_tex_grammar.specs.Reading.{Outcome, Read, Refused, ReadsRule, rule_gives, rule_refuses, operand_read, operand_refused, core_read, core_refused, core_missing, core_stopped, atoms_read, atoms_refused, words_read, words_refused, units_taken, units_missing, unit_follows, no_unit_follows, digits_taken, delimiter_taken, delimiter_missing, ReadsOperand, group_operand, group_refused, digit_operand, other_operand, other_refused, no_operand, operand_at_end, operand_stopped, ReadsScripts, scripts_end, mark_taken, script_read, script_refused, mark_refused, ReadsAtom, divider_read, divider_refused, on_empty_row, base_read, base_refused, ReadsAtoms, text_ends, never_ended, atoms_stopped, atoms_end, atom_read, atom_refused, rest_read, change_refused, ReadsWord, word_stands, group_of_words, formula_read, formula_refused, words_in_alphabet, no_word, word_missing, word_at_end, word_stopped, ReadsWords, words_end, words_never_ended, words_stopped, word_read, word_refused, found_taken, found_refused, passed_over, rows_read, rows_refused, ReadsRows, cell_read, cell_refused, ReadsBehindCell, next_cell, arrow_read, arrow_refused, no_arrow, next_row, table_ends, rows_to_end, text_ends_table}
+use Rattle.latex2mathml_tex_grammar.specs.Diagrams.{arrow_of, before_arrow, fills_cell, sign_of_arrow}
 use Rattle.latex2mathml_tex_grammar.specs.Refusal.{Refusal}
 use Rattle.latex2mathml_tex_grammar.specs.Rests.{Rest, GoesOnIn, NoRest, finished, rest_behind_name, rest_below, rest_in, rest_of}
 use Rattle.latex2mathml_tex_grammar.specs.{Colors.color_of, Meaning.Change, Meaning.ToAlphabet, Meaning.ToStyle, Meaning.ToSize, Meaning.ToColor, Meaning.Divides, Meaning.FractionRule, Rows.Upper}
 use Rattle.latex2mathml_tex_grammar.specs.Scanning.{BeforeColor}
 use Rattle.latex2mathml_elements.specs.Colors.{Color}
-use Rattle.latex2mathml_tex_grammar.specs.Rules.{Context, in_context, styled, Ending, WholeText, InBraces, InBrackets, InDollars, InDelimiters, begun, Rule, gives, refuses, reads_operand, reads_core, reads_atoms, reads_words, takes_if, if_follows, takes_digits, takes_delimiter, rule, a_digit, TableEnd, InCell, takes_found, passes_over, reads_rows}
-use Rattle.latex2mathml_tex_grammar.specs.Starts.{Mark, change_by, start_of_mark, is_command, step_of, AtomStart, DividerStart, ScriptStart, RuleStart, ChangeStart, OperandStart, NoStart, GroupStart, DigitStart, OtherStart, atom_start, operand_start, mark_of, Step, GoesOn, TakesOperand, Forbidden, step_of_mark, step_next, empty_base, ends, unended, is_close, left_behind, CellEnd, PartsCells, EndsRow, EndsTable, cell_end}
+use Rattle.latex2mathml_tex_grammar.specs.Rules.{Context, in_context, styled, Ending, WholeText, InBraces, InBrackets, InDollars, InDelimiters, InLabel, begun, Rule, arrow_rule, gives, refuses, reads_operand, reads_core, reads_atoms, reads_words, takes_if, if_follows, takes_digits, takes_delimiter, rule, a_digit, TableEnd, InCell, takes_found, passes_over, reads_rows}
+use Rattle.latex2mathml_tex_grammar.specs.Starts.{Mark, change_by, start_of_mark, is_command, step_of, AtomStart, DividerStart, ScriptStart, RuleStart, ChangeStart, OperandStart, NoStart, GroupStart, DigitStart, OtherStart, atom_start, operand_start, mark_of, Step, GoesOn, TakesOperand, Forbidden, step_of_mark, step_next, empty_base, ends, unended, is_close, left_behind, CellEnd, PartsCells, BeginsArrow, EndsRow, EndsTable, cell_end}
 use Rattle.latex2mathml_elements.specs.Columns.{Columns}
 use Rattle.latex2mathml_tex_grammar.specs.Scanning.{Spot, BeforeStar, BeforeLength, BeforeRow, Deed, Passes, Adds, Ends, Leaves, Misses, Refuses, deed, done, may_end, found_at_end, with_character, Found, Given, Missing, scan, behind_found, past, past_break, past_gap}
 use Rattle.latex2mathml_tex_grammar.specs.Symbols.{InText, InScript, Alphabet}
@@ -221,6 +222,7 @@ script_mark (InBraces place) piece e = has_mark (change_by piece) (mark_of piece
 script_mark (InBrackets place) piece e = has_mark (change_by piece) (mark_of piece) e
 script_mark (InDollars place) piece e = has_mark (change_by piece) (mark_of piece) e
 script_mark (InCell end place) piece e = has_mark (change_by piece) (mark_of piece) e
+script_mark (InLabel direction place) piece e = has_mark (change_by piece) (mark_of piece) e
 
 mark_no_space : (piece : Piece) (mark : Mark) → mark_of piece ≡ Some mark → is_space_piece piece ≡ false
 mark_no_space Space mark e = cc
@@ -302,6 +304,7 @@ size-left (InBrackets place) l m u h = omega arith
 size-left (InDollars place) l m u h = omega arith
 size-left (InDelimiters place) l m u h = omega arith
 size-left (InCell end place) l m u h = omega arith
+size-left (InLabel direction place) l m u h = omega arith
 
 atoms_total : (k : ℕ) → HasOutcomes k → (ending : Ending) (c : Context) (row : Row) (l : Units) → size l < suc k → Comes Row (ReadsAtoms ending c row l) (size l)
 atoms_total k has ending c row l h = elim (sees l) [
@@ -329,6 +332,14 @@ left_in_cell (rest_read p s t r d) = left_in_cell d
 behind_cell_total : (k : ℕ) → HasOutcomes k → (end : TableEnd) (place : ℕ) (columns : Columns) (c : Context) (rows cells cell : List Element) (l m : Units) (u : Unit) → past_space l ≡ Next u m → size m < size l → size m < k → (ends : CellEnd) → cell_end u.piece ≡ ends → RowsCome (ReadsBehindCell end place columns c rows cells cell l) (size l)
 behind_cell_total k has end place columns c rows cells cell l m u p less h PartsCells s =
     with_rows (has.of_rows end place columns c rows (row_element cell ∷ cells) m h) (omega arith) (λ o. next_cell p s)
+behind_cell_total k has end place columns c rows cells cell l m u p less h BeginsArrow s = elim (find_next (sign_of_arrow ∷ []) m) [
+  | finds sign n f fits ↦ elim (has.of_rule (arrow_rule u.place c (arrow_of sign)) n (omega arith)) [
+    | comes_to x j left d ↦
+        with_rows (has.of_rows end place columns c rows (x.atom.element ∷ before_arrow (fills_cell (arrow_of sign) (length cells) cell) cell cells) j (omega arith)) (omega arith) (λ o. arrow_read p s f d)
+    | is_refused r d ↦ rows_none r (arrow_refused p s f d)
+  ]
+  | finds_none f ↦ rows_none _ (no_arrow p s f)
+]
 behind_cell_total k has end place columns c rows cells cell l m u p less h EndsRow s =
     let short = size-past_break m in
     with_rows (has.of_rows end place columns c (lined (line_next (past_gap m)) (a_row columns (gap_at m) (row_element cell) cells ∷ rows)) [] (past_break m) (omega arith)) (omega arith) (λ o. next_row p s)

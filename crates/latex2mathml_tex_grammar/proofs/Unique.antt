@@ -3,11 +3,11 @@ use Rattle.std.proofs.Common.{◌≡◌, ℕ, Option, refl, ap, List, ◌∷◌}
 use Rattle.latex2mathml_elements.specs.Element.{Element}
 use Rattle.latex2mathml_elements.specs.Columns.{Columns}
 use Rattle.latex2mathml_tex_grammar.specs.{Atoms.Atom, Atoms.Before, Makes.Core, Makes.Scripts, Rows.Row, Rows.Operand}
-use Rattle.latex2mathml_tex_grammar.specs.Reading.{Outcome, Refused, ReadsRule, rule_gives, rule_refuses, operand_read, operand_refused, core_read, core_refused, core_missing, core_stopped, atoms_read, atoms_refused, words_read, words_refused, units_taken, units_missing, unit_follows, no_unit_follows, digits_taken, delimiter_taken, delimiter_missing, ReadsOperand, group_operand, group_refused, digit_operand, other_operand, other_refused, no_operand, operand_at_end, operand_stopped, ReadsScripts, scripts_end, mark_taken, script_read, script_refused, mark_refused, ReadsAtom, divider_read, divider_refused, on_empty_row, base_read, base_refused, ReadsAtoms, text_ends, never_ended, atoms_stopped, atoms_end, atom_read, atom_refused, rest_read, change_refused, ReadsWord, word_stands, group_of_words, formula_read, formula_refused, words_in_alphabet, no_word, word_missing, word_at_end, word_stopped, ReadsWords, words_end, words_never_ended, words_stopped, word_read, word_refused, found_taken, found_refused, passed_over, rows_read, rows_to_end, rows_refused, ReadsRows, cell_read, cell_refused, ReadsBehindCell, next_cell, next_row, table_ends, text_ends_table}
+use Rattle.latex2mathml_tex_grammar.specs.Reading.{Outcome, Refused, ReadsRule, rule_gives, rule_refuses, operand_read, operand_refused, core_read, core_refused, core_missing, core_stopped, atoms_read, atoms_refused, words_read, words_refused, units_taken, units_missing, unit_follows, no_unit_follows, digits_taken, delimiter_taken, delimiter_missing, ReadsOperand, group_operand, group_refused, digit_operand, other_operand, other_refused, no_operand, operand_at_end, operand_stopped, ReadsScripts, scripts_end, mark_taken, script_read, script_refused, mark_refused, ReadsAtom, divider_read, divider_refused, on_empty_row, base_read, base_refused, ReadsAtoms, text_ends, never_ended, atoms_stopped, atoms_end, atom_read, atom_refused, rest_read, change_refused, ReadsWord, word_stands, group_of_words, formula_read, formula_refused, words_in_alphabet, no_word, word_missing, word_at_end, word_stopped, ReadsWords, words_end, words_never_ended, words_stopped, word_read, word_refused, found_taken, found_refused, passed_over, rows_read, rows_to_end, rows_refused, ReadsRows, cell_read, cell_refused, ReadsBehindCell, next_cell, arrow_read, arrow_refused, no_arrow, next_row, table_ends, text_ends_table}
 use Rattle.latex2mathml_tex_grammar.specs.Rules.{Context, Ending, Rule, TableEnd}
 use Rattle.latex2mathml_tex_grammar.specs.{Starts.step_of_mark, Starts.mark_of, Symbols.Alphabet, Words.Words, Starts.cell_end, Rows.row_element, Tables.Lines, Tables.a_row}
 use Rattle.latex2mathml_tex_grammar.specs.Units.{Unit, Units}
-use Rattle.latex2mathml_tex_grammar.proofs.Following.{one_rest, rest_is, refused_alike, atom_or_change, core_is, group_is, operand_is, atom_is, rule_moved, taken_moved, found_moved, rows_moved, rows_moved_to_end, rows_next, next_row_next, one_end, cell_moved, base_moved, atoms_moved, words_moved, one_step, same_second, ended_there, word_is, scripts_go_on, script_moved}
+use Rattle.latex2mathml_tex_grammar.proofs.Following.{one_rest, rest_is, refused_alike, atom_or_change, core_is, group_is, operand_is, atom_is, rule_moved, taken_moved, found_moved, rows_moved, rows_moved_to_end, rows_next, next_row_next, one_end, one_sign, sign_or_none, arrow_is, arrow_moved, cell_moved, base_moved, atoms_moved, words_moved, one_step, same_second, ended_there, word_is, scripts_go_on, script_moved}
 
 mutual
   -- a rule has one outcome
@@ -277,7 +277,40 @@ mutual
   one_behind_cell (next_row p s d) (table_ends q t) = cc (one_end (λ u. cell_end u.piece) p q s t)
   one_behind_cell (table_ends p s) (next_cell q t e) = cc (one_end (λ u. cell_end u.piece) p q s t)
   one_behind_cell (table_ends p s) (next_row q t e) = cc (one_end (λ u. cell_end u.piece) p q s t)
+  one_behind_cell (arrow_read {c = c} {cells = cells} {cell = cell} p s f d ds) (arrow_read q t g e es) = one_rows ds (arrow_moved cells cell (one_sign p q f g) (one_rule d (arrow_is p q c f g e)) es)
+  one_behind_cell (arrow_read {c = c} p s f d ds) (arrow_refused q t g e) = cc (one_rule d (arrow_is p q c f g e))
+  one_behind_cell (arrow_refused {c = c} p s f d) (arrow_read q t g e es) = cc (one_rule d (arrow_is p q c f g e))
+  one_behind_cell (arrow_refused {c = c} p s f d) (arrow_refused q t g e) = cc (one_rule d (arrow_is p q c f g e))
+  one_behind_cell (arrow_read p s f d ds) (no_arrow q t g) = absurd (sign_or_none p q f g)
+  one_behind_cell (arrow_refused p s f d) (no_arrow q t g) = absurd (sign_or_none p q f g)
+  one_behind_cell (no_arrow p s f) (arrow_read q t g e es) = absurd (sign_or_none q p g f)
+  one_behind_cell (no_arrow p s f) (arrow_refused q t g e) = absurd (sign_or_none q p g f)
+  one_behind_cell (no_arrow {u = u} p s f) (no_arrow {u = v} q t g) = (let unit : u ≡ v = cc in cc)
+  one_behind_cell (arrow_read p s f d ds) (next_cell q t e) = cc (one_end (λ u. cell_end u.piece) p q s t)
+  one_behind_cell (arrow_read p s f d ds) (next_row q t e) = cc (one_end (λ u. cell_end u.piece) p q s t)
+  one_behind_cell (arrow_read p s f d ds) (table_ends q t) = cc (one_end (λ u. cell_end u.piece) p q s t)
+  one_behind_cell (arrow_refused p s f d) (next_cell q t e) = cc (one_end (λ u. cell_end u.piece) p q s t)
+  one_behind_cell (arrow_refused p s f d) (next_row q t e) = cc (one_end (λ u. cell_end u.piece) p q s t)
+  one_behind_cell (arrow_refused p s f d) (table_ends q t) = cc (one_end (λ u. cell_end u.piece) p q s t)
+  one_behind_cell (no_arrow p s f) (next_cell q t e) = cc (one_end (λ u. cell_end u.piece) p q s t)
+  one_behind_cell (no_arrow p s f) (next_row q t e) = cc (one_end (λ u. cell_end u.piece) p q s t)
+  one_behind_cell (no_arrow p s f) (table_ends q t) = cc (one_end (λ u. cell_end u.piece) p q s t)
+  one_behind_cell (next_cell p s d) (arrow_read q t g e es) = cc (one_end (λ u. cell_end u.piece) p q s t)
+  one_behind_cell (next_cell p s d) (arrow_refused q t g e) = cc (one_end (λ u. cell_end u.piece) p q s t)
+  one_behind_cell (next_cell p s d) (no_arrow q t g) = cc (one_end (λ u. cell_end u.piece) p q s t)
+  one_behind_cell (next_row p s d) (arrow_read q t g e es) = cc (one_end (λ u. cell_end u.piece) p q s t)
+  one_behind_cell (next_row p s d) (arrow_refused q t g e) = cc (one_end (λ u. cell_end u.piece) p q s t)
+  one_behind_cell (next_row p s d) (no_arrow q t g) = cc (one_end (λ u. cell_end u.piece) p q s t)
+  one_behind_cell (table_ends p s) (arrow_read q t g e es) = cc (one_end (λ u. cell_end u.piece) p q s t)
+  one_behind_cell (table_ends p s) (arrow_refused q t g e) = cc (one_end (λ u. cell_end u.piece) p q s t)
+  one_behind_cell (table_ends p s) (no_arrow q t g) = cc (one_end (λ u. cell_end u.piece) p q s t)
   one_behind_cell (text_ends_table p) (text_ends_table q) = refl
+  one_behind_cell (text_ends_table p) (arrow_read q t g e es) = cc
+  one_behind_cell (arrow_read p s f d ds) (text_ends_table q) = cc
+  one_behind_cell (text_ends_table p) (arrow_refused q t g e) = cc
+  one_behind_cell (arrow_refused p s f d) (text_ends_table q) = cc
+  one_behind_cell (text_ends_table p) (no_arrow q t g) = cc
+  one_behind_cell (no_arrow p s f) (text_ends_table q) = cc
   one_behind_cell (text_ends_table p) (next_cell q t e) = cc
   one_behind_cell (text_ends_table p) (next_row q t e) = cc
   one_behind_cell (text_ends_table p) (table_ends q t) = cc

@@ -1,6 +1,6 @@
 -- The colors that authors name: by the names of style sheets, by digits in hexadecimal, or by components in a model, as in
 -- `[rgb]1,0.5,0`.
-use Rattle.std.specs.Prelude.{ℕ, ◌+◌, ◌*◌, ◌-◌, ◌==◌, ◌||◌, Bool, false, nat_lt, List, [], ◌∷◌, Option, Some, None, codes, if◌then◌else◌, take}
+use Rattle.std.specs.Prelude.{ℕ, ◌+◌, ◌*◌, ◌-◌, ◌==◌, ◌||◌, ◌&&◌, Bool, true, false, length, nat_lt, List, [], ◌∷◌, Option, Some, None, codes, if◌then◌else◌, take}
 use Rattle.std.specs.{Char.is_ascii_digit, List.after_first, List.before_first, List.list_all, Str.byte, Str.bytes_eq, Str.str_eq_ignore_ascii_case}
 use Rattle.latex2mathml_tex_grammar.specs.Lengths.{Length, no_length, rounded, with_all}
 use Rattle.latex2mathml_elements.specs.Colors.{Color}
@@ -206,14 +206,28 @@ abbrev pub with_components : Option ℕ → Option ℕ → Option ℕ → Option
 with_components (Some red) (Some green) (Some blue) = Some (color red green blue)
 with_components red green blue = None
 
--- whether these characters are a number: digits, and points
+-- what is before the point of a number, and what is behind it
+abbrev pub before_point : List ℕ → List ℕ
+before_point = before_first (λ c. c == byte ".")
+
+abbrev pub behind_point : List ℕ → List ℕ
+behind_point = after_first (λ c. c == byte ".")
+
+-- whether all of these characters are digits, and whether there is one
+abbrev pub are_digits : List ℕ → Bool
+are_digits = list_all is_ascii_digit
+
+abbrev pub is_any : List ℕ → Bool
+is_any [] = false
+is_any (c ∷ cs) = true
+
+-- whether these characters are a number: digits, before which, behind which or among which there may be one point
 abbrev pub is_number : List ℕ → Bool
-is_number [] = false
-is_number cs = list_all (λ c. is_ascii_digit c || c == byte ".") cs
+is_number cs = are_digits (before_point cs) && are_digits (behind_point cs) && (is_any (before_point cs) || is_any (behind_point cs))
 
 -- the number that these characters spell, as in lengths; decimals after the fifth make no difference
 abbrev pub decimal_of : List ℕ → Length
-decimal_of cs = with_all (with_all no_length (before_first (λ c. c == byte ".") cs)) (byte "." ∷ take 5 (after_first (λ c. c == byte ".") cs))
+decimal_of cs = with_all (with_all no_length (before_point cs)) (byte "." ∷ take 5 (behind_point cs))
 
 -- a component, unless it is too large
 abbrev pub within_byte : ℕ → Option ℕ
@@ -245,7 +259,7 @@ model_color model cs =
     if bytes_eq model (codes "rgb") then color_of_three 255 cs
     else if bytes_eq model (codes "RGB") then color_of_three 1 cs
     else if bytes_eq model (codes "gray") then gray_of (component_of 255 cs)
-    else if bytes_eq model (codes "HTML") then color_of_digits (digit_values cs)
+    else if bytes_eq model (codes "HTML") && length cs == 6 then color_of_digits (digit_values cs)
     else None
 
 -- the color of components behind the name of their model

@@ -1,7 +1,7 @@
 -- The environments: each is a table. A name is its bytes.
 use Rattle.std.specs.Prelude.{ℕ, ◌+◌, ◌-◌, ◌*◌, ◌==◌, ◌||◌, Bool, true, false, List, [], ◌∷◌, ◌++◌, Option, Some, None, codes, if◌then◌else◌}
 use Rattle.std.specs.{List.after_first, List.before_first, List.repeat, Str.byte, Str.bytes_eq}
-use Rattle.latex2mathml_elements.specs.Columns.{Centered, LeftAligned, RightAligned, Density, Dense, Usual, Stretched, Opened, SpaceAround, Column, Columns, Alike, InPairs, AroundRelation, Broken, Listed, column_at}
+use Rattle.latex2mathml_elements.specs.Columns.{Centered, LeftAligned, RightAligned, Density, Dense, Usual, Stretched, Opened, SpaceAround, Column, Columns, Alike, InPairs, AroundRelation, InDiagram, Broken, Listed, column_at}
 use Rattle.latex2mathml_elements.specs.Lines.{Line, NoLine, OneLine, TwoLines, Dashes}
 use Rattle.latex2mathml_tex_grammar.specs.Scanning.{Argument, ColumnList, Number}
 use Rattle.latex2mathml_tex_grammar.specs.Symbols.{Style, InDisplay, InText, InScript}
@@ -146,6 +146,7 @@ unfoldable pub environments : List (List ℕ × Environment)
 environments =
     (codes "Bmatrix", between (codes "{") (codes "}") matrix) ∷
     (codes "Bmatrix*", between (codes "{") (codes "}") (starred matrix)) ∷
+    (codes "CD", cells_in InDiagram InText) ∷
     (codes "Vmatrix", between (0xE2 ∷ 0x80 ∷ 0x96 ∷ []) (0xE2 ∷ 0x80 ∷ 0x96 ∷ []) matrix) ∷  -- ‖
     (codes "Vmatrix*", between (0xE2 ∷ 0x80 ∷ 0x96 ∷ []) (0xE2 ∷ 0x80 ∷ 0x96 ∷ []) (starred matrix)) ∷  -- ‖
     (codes "align", pairs) ∷
@@ -158,6 +159,7 @@ environments =
     (codes "bmatrix", between (codes "[") (codes "]") matrix) ∷
     (codes "bmatrix*", between (codes "[") (codes "]") (starred matrix)) ∷
     (codes "cases", between (codes "{") [] (cases InText)) ∷
+    (codes "darray", with_argument ColumnList (placed (record matrix { style = InDisplay }))) ∷
     (codes "dcases", between (codes "{") [] (cases InDisplay)) ∷
     (codes "displaymath", lines) ∷
     (codes "drcases", between [] (codes "}") (cases InDisplay)) ∷

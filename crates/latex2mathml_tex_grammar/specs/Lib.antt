@@ -11,6 +11,7 @@ pub mod DefinitionLaws
 pub mod DefinitionTexts
 pub mod Definitions
 pub mod Delimiters
+pub mod Diagrams
 pub mod Dots
 pub mod Environments
 pub mod Examples

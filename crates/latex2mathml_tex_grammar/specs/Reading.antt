@@ -5,11 +5,12 @@ use Rattle.latex2mathml_elements.specs.{Columns.Columns, Element.Element}
 use Rattle.latex2mathml_tex_grammar.specs.{Atoms.Atom, Atoms.Before, Delimiters.delimiter_of, Rows.Row, Rows.empty_row, Rows.lone, Rows.row_element, Rows.with_atom, Rows.Operand, Rows.operand_of, Rows.single}
 use Rattle.latex2mathml_tex_grammar.specs.Makes.{Core, core, number, divider, Scripts, no_scripts, scripted}
 use Rattle.latex2mathml_tex_grammar.specs.{Meaning.Beside, Meaning.Change, Next.past_space, Next.next_are, Next.follows, Next.digits_next, Next.refusal_here}
+use Rattle.latex2mathml_tex_grammar.specs.Diagrams.{arrow_of, before_arrow, fills_cell, sign_of_arrow}
 use Rattle.latex2mathml_tex_grammar.specs.{RowGaps.gap_at, RowLines.line_next, RowLines.lined}
-use Rattle.latex2mathml_tex_grammar.specs.Refusal.{Kind, MissingArgument, UnclosedBrace, MissingDelimiter, Refusal, refusal_at}
+use Rattle.latex2mathml_tex_grammar.specs.Refusal.{Kind, MissingArgument, UnclosedBrace, MissingDelimiter, IncompleteArrow, Refusal, refusal_at}
 use Rattle.latex2mathml_tex_grammar.specs.Rests.{GoesOnIn, NoRest, finished, rest_of}
-use Rattle.latex2mathml_tex_grammar.specs.Rules.{Context, in_context, styled, Ending, InBraces, InDollars, begun, Rule, gives, refuses, reads_operand, reads_core, reads_atoms, reads_words, takes_if, if_follows, takes_digits, takes_delimiter, rule, TableEnd, InCell, takes_found, passes_over, reads_rows}
-use Rattle.latex2mathml_tex_grammar.specs.Starts.{DividerStart, ScriptStart, RuleStart, ChangeStart, NoStart, GroupStart, DigitStart, OtherStart, atom_start, operand_start, mark_of, GoesOn, TakesOperand, Forbidden, step_of_mark, step_next, empty_base, ends, unended, is_close, left_behind, PartsCells, EndsRow, EndsTable, cell_end}
+use Rattle.latex2mathml_tex_grammar.specs.Rules.{Context, in_context, styled, Ending, InBraces, InDollars, begun, Rule, gives, refuses, reads_operand, reads_core, reads_atoms, reads_words, takes_if, if_follows, takes_digits, takes_delimiter, rule, arrow_rule, TableEnd, InCell, takes_found, passes_over, reads_rows}
+use Rattle.latex2mathml_tex_grammar.specs.Starts.{DividerStart, ScriptStart, RuleStart, ChangeStart, NoStart, GroupStart, DigitStart, OtherStart, atom_start, operand_start, mark_of, GoesOn, TakesOperand, Forbidden, step_of_mark, step_next, empty_base, ends, unended, is_close, left_behind, PartsCells, BeginsArrow, EndsRow, EndsTable, cell_end}
 use Rattle.latex2mathml_tex_grammar.specs.Scanning.{Spot, BeforeRow, Given, Missing, scan, past, past_break, past_gap}
 use Rattle.latex2mathml_tex_grammar.specs.Symbols.{InText, InScript, Alphabet}
 use Rattle.latex2mathml_tex_grammar.specs.{Tables.Lines, Tables.begun_cell, Tables.cell_of, Tables.a_row, Tables.with_last}
@@ -284,6 +285,25 @@ mutual
         → cell_end u.piece ≡ PartsCells
         → ReadsRows end place columns c rows (row_element cell ∷ cells) m o
         → ReadsBehindCell end place columns c rows cells cell l o
+    -- an arrow, which is a cell, and the cells after it
+    arrow_read : {end : TableEnd} {place : ℕ} {columns : Columns} {c : Context} {rows cells cell : List Element} {l m k n : Units} {u : Unit} {sign : List ℕ} {x : Core} {o : Outcome Lines}
+        → past_space l ≡ Next u m
+        → cell_end u.piece ≡ BeginsArrow
+        → next_are (sign_of_arrow ∷ []) m ≡ Some (sign, k)
+        → ReadsRule (arrow_rule u.place c (arrow_of sign)) k (Read x n)
+        → ReadsRows end place columns c rows (x.atom.element ∷ before_arrow (fills_cell (arrow_of sign) (length cells) cell) cell cells) n o
+        → ReadsBehindCell end place columns c rows cells cell l o
+    arrow_refused : {end : TableEnd} {place : ℕ} {columns : Columns} {c : Context} {rows cells cell : List Element} {l m k : Units} {u : Unit} {sign : List ℕ} {r : Refusal}
+        → past_space l ≡ Next u m
+        → cell_end u.piece ≡ BeginsArrow
+        → next_are (sign_of_arrow ∷ []) m ≡ Some (sign, k)
+        → ReadsRule (arrow_rule u.place c (arrow_of sign)) k (Refused r)
+        → ReadsBehindCell end place columns c rows cells cell l (Refused r)
+    no_arrow : {end : TableEnd} {place : ℕ} {columns : Columns} {c : Context} {rows cells cell : List Element} {l m : Units} {u : Unit}
+        → past_space l ≡ Next u m
+        → cell_end u.piece ≡ BeginsArrow
+        → next_are (sign_of_arrow ∷ []) m ≡ None
+        → ReadsBehindCell end place columns c rows cells cell l (Refused (refusal_at IncompleteArrow u.place))
     -- a row of these cells, with the space below it, and the line and the rows after it
     next_row : {end : TableEnd} {place : ℕ} {columns : Columns} {c : Context} {rows cells cell : List Element} {l m : Units} {u : Unit} {o : Outcome Lines}
         → past_space l ≡ Next u m

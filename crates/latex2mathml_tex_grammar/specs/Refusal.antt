@@ -41,6 +41,8 @@ pub data Kind : Type 0 where
   NothingToNegate : Kind
   -- a sign that is allowed in tables only
   OutsideTable : Kind
+  -- what follows an at sign in a diagram is no arrow, or one without its last sign
+  IncompleteArrow : Kind
   -- no name follows `\begin` or `\end`
   MissingName : Kind
   -- no environment has this name

@@ -2,14 +2,15 @@
 -- gives an atom or a refusal.
 use Rattle.std.specs.Prelude.{ℕ, zero, ℤ, pos, ◌==◌, ◌||◌, Bool, nat_le, length, true, false, List, [], ◌∷◌, ◌++◌, Option, Some, None, if◌then◌else◌}
 use Rattle.std.specs.{Char.is_ascii_alphabetic, Char.is_ascii_digit, Str.byte, Str.bytes_eq}
-use Rattle.latex2mathml_elements.specs.{Attributes.Above, Columns.Columns, Columns.Centered, Columns.LeftAligned, Columns.RightAligned, Columns.Dense, Columns.Usual, Columns.Alike, Columns.density_in, Element.Element}
+use Rattle.latex2mathml_elements.specs.{Attributes.Above, Columns.Columns, Columns.Centered, Columns.LeftAligned, Columns.RightAligned, Columns.Dense, Columns.Usual, Columns.Alike, Columns.InDiagram, Columns.density_in, Element.Element}
 use Rattle.latex2mathml_tex_grammar.specs.{Atoms.After, Atoms.Before, Atoms.Nothing, Atoms.Plain, Atoms.atom, Commands.meaning_of, Commands.symbol_of, Delimiters.delimiter_of, Delimiters.negated_of, Dots.centered_dots, Dots.centers_dots, Dots.low_dots, Rows.Row, Rows.Operand, Rows.as_base, Rows.empty_row, Rows.row_element}
 use Rattle.latex2mathml_tex_grammar.specs.Environments.{Environment, Bracket, NoBracket, Position, Alignment, columns_of, fitted, listed, written_out, environment_of}
 use Rattle.latex2mathml_tex_grammar.specs.Makes.{Core, core, letter, upright_letter, number, relation, symbol, function_name, spacing, braced, group, classed, no_letters, operator_name, accent, brace, stack, stacked_relation, fraction, square_root, root, between_delimiters, sized, struck, blank, boxed_atom, bar, arrow, Outline, outlined_fraction, choice}
 use Rattle.latex2mathml_tex_grammar.specs.Meaning.{Meaning, Shows, FunctionName, Dots, Spacing, Styled, Words as TakesWordsIn, Fraction, Root, Accent, Brace, Stack, StackedRelation, OperatorName, Negation, Slash, Sized, Left, Middle, Right, Limits, NoLimits, Classed, Changes, Beside, ByStyle, FractionRule, BeginTable, EndTable, LineBreak, Substack, Skip, SkipInBraces, Box, Smashed, WithoutHeight, WithoutDepth, Boxed, Smash, Raise, InColor, Highlight, Rectangle, Arrow, Raised, Colored, OnColor, ContinuedFraction, GeneralFraction, Bar, Choice}
-use Rattle.latex2mathml_tex_grammar.specs.Refusal.{UnknownCommand, MissingArgument, MissingDelimiter, ChangeAsArgument, UnopenedBrace, RightWithoutLeft, MiddleWithoutLeft, LimitsWithoutOperator, NothingToNegate, OutsideTable, MisplacedCharacter, Refusal, refusal_at, UnknownEnvironment, EndWithoutBegin, OtherName, TooManyColumns, LengthTooLarge, UnknownColor}
+use Rattle.latex2mathml_tex_grammar.specs.Refusal.{UnknownCommand, MissingArgument, MissingDelimiter, ChangeAsArgument, UnopenedBrace, RightWithoutLeft, MiddleWithoutLeft, LimitsWithoutOperator, NothingToNegate, OutsideTable, MisplacedCharacter, Refusal, refusal_at, UnknownEnvironment, EndWithoutBegin, OtherName, TooManyColumns, IncompleteArrow, LengthTooLarge, UnknownColor}
 use Rattle.latex2mathml_tex_grammar.specs.Scanning.{Spot, Argument, Name, ColumnList, RepeatedColumns, Number, BeforeArgument, BeforeBrace, BeforePosition, AtUnit, BeforeLengthInBraces, BeforeStar, InLength, AtBracket, ColorName, BeforeColor}
 use Rattle.latex2mathml_tex_grammar.specs.{Colors.color_of, Lengths.width_of}
+use Rattle.latex2mathml_tex_grammar.specs.Diagrams.{Direction, DiagramArrow, Labeled, LongEquals, HighBars, NoArrow, direction_sign, in_diagram, labeled_arrow, long_equals, high_bars}
 use Rattle.latex2mathml_elements.specs.Colors.{Color}
 use Rattle.latex2mathml_tex_grammar.specs.Symbols.{Style, InDisplay, InText, InScript, smaller, TextSize, NormalSize, at_full_size, Alphabet, Upright, Opening, Ordinary, Relation, Symbol}
 use Rattle.latex2mathml_tex_grammar.specs.Tables.{Lines, a_table}
@@ -36,10 +37,11 @@ lettered c alphabet = record c { alphabet = Some alphabet }
 abbrev pub in_size : Context → TextSize → Context
 in_size c size = record c { style = at_full_size c.style; size = size }
 
--- how a table ends: an environment with `\end`; rows in braces, each of one cell, with their brace; and rows that are a
--- whole text with the text
+-- how a table ends: an environment with `\end`, and so does a diagram, whose cells also end at arrows; rows in braces, each of one
+-- cell, with their brace; and rows that are a whole text with the text
 pub data TableEnd : Type 0 where
   ByName : TableEnd
+  OfDiagram : TableEnd
   ByBrace : TableEnd
   ByText : TableEnd
 
@@ -53,6 +55,8 @@ pub data Ending : Type 0 where
   InDelimiters : ℕ → Ending
   -- in a cell of a table: up to what ends the cell
   InCell : TableEnd → ℕ → Ending
+  -- in a label of an arrow: up to the sign of the arrow, or what ends the cells of its diagram
+  InLabel : Direction → ℕ → Ending
 
 -- What precedes the first atom of a row with this ending. A formula begins as if after an opening sign. A group may be one sign,
 -- which keeps its space as an operand.
@@ -205,10 +209,15 @@ abbrev pub ended_table : ℕ → Context → Environment → Columns → Lines �
 ended_table place c e columns lines true = gives (a_table e.delimiters columns e.style c.style lines)
 ended_table place c e columns lines false = refuses (refusal_at OtherName place)
 
+-- how an environment in these columns ends
+abbrev pub end_in : Columns → TableEnd
+end_in InDiagram = OfDiagram
+end_in columns = ByName
+
 -- the rows of an environment of this name, in these columns
 abbrev pub rows_rule : ℕ → Context → List ℕ → Environment → Columns → Rule
 rows_rule place c name e columns =
-    reads_rows ByName place columns (styled c e.style)
+    reads_rows (end_in columns) place columns (styled c e.style)
     (λ lines end. takes_found (BeforeArgument Name) end (λ other. ended_table end c e columns lines (bytes_eq other name)))
 
 -- how many columns an author may list
@@ -251,6 +260,24 @@ bracket_rule place c name e Alignment = alignment_rule place c name e
 abbrev pub environment_rule : ℕ → Context → List ℕ → Option Environment → Rule
 environment_rule place c name None = refuses (refusal_at (UnknownEnvironment name) place)
 environment_rule place c name (Some e) = bracket_rule place c name e e.bracket
+
+-- what follows a label of an arrow, after the sign of the arrow, which must come next
+abbrev pub after_label : ℕ → Direction → Rule → Rule
+after_label place direction more =
+    takes_if (a_character (direction_sign direction) ∷ []) (λ sign. more) (refuses (refusal_at IncompleteArrow place))
+
+-- a label of an arrow, and what follows it
+abbrev pub a_label : ℕ → Context → Direction → (Row → Rule) → Rule
+a_label place c direction more = reads_atoms (InLabel direction place) (styled c InScript) (λ label. after_label place direction (more label))
+
+-- an arrow of a diagram, with its labels
+abbrev pub arrow_rule : ℕ → Context → DiagramArrow → Rule
+arrow_rule place c (Labeled direction) =
+    a_label place c direction (λ first. a_label place c direction (λ second.
+    gives (labeled_arrow direction (row_element first.elements) (row_element second.elements))))
+arrow_rule place c LongEquals = gives long_equals
+arrow_rule place c HighBars = gives high_bars
+arrow_rule place c NoArrow = gives (in_diagram (row_element []))
 
 -- rows in braces, each of one cell, as small as a script
 abbrev pub a_substack : ℕ → Context → Rule

@@ -4,8 +4,9 @@ use Rattle.std.specs.{Str.byte, Str.bytes_eq}
 use Rattle.latex2mathml_elements.specs.Element.{Element}
 use Rattle.latex2mathml_tex_grammar.specs.{Atoms.Atom, Atoms.Plain, Atoms.atom, Commands.meaning_of, Makes.Scripts, Makes.behind_primes, Rows.Operand, Rows.row_element, Rules.a_digit}
 use Rattle.latex2mathml_tex_grammar.specs.Meaning.{Change, Changes, Meaning, LimitPlace, Beside, ByStyle, Stacked}
-use Rattle.latex2mathml_tex_grammar.specs.Refusal.{Kind, UnclosedBrace, UnclosedBracket, UnclosedDollar, LeftWithoutRight, LimitsWithoutOperator, SecondSubscript, SecondSuperscript, Refusal, refusal_at, BeginWithoutEnd}
-use Rattle.latex2mathml_tex_grammar.specs.Rules.{Ending, WholeText, InBraces, InBrackets, InDollars, InDelimiters, InCell, ByName, ByBrace, ByText}
+use Rattle.latex2mathml_tex_grammar.specs.Refusal.{Kind, UnclosedBrace, UnclosedBracket, UnclosedDollar, LeftWithoutRight, LimitsWithoutOperator, SecondSubscript, SecondSuperscript, Refusal, refusal_at, BeginWithoutEnd, IncompleteArrow}
+use Rattle.latex2mathml_tex_grammar.specs.Diagrams.{direction_sign}
+use Rattle.latex2mathml_tex_grammar.specs.Rules.{Ending, WholeText, InBraces, InBrackets, InDollars, InDelimiters, InCell, InLabel, ByName, OfDiagram, ByBrace, ByText}
 use Rattle.latex2mathml_tex_grammar.specs.Symbols.{Ordinary}
 use Rattle.latex2mathml_tex_grammar.specs.Units.{Piece, Open, Close, Command, Character, Unit, Units, Next, End, Stop}
 
@@ -30,15 +31,24 @@ is_close piece = false
 abbrev pub is_break : Piece → Bool
 is_break piece = is_command (codes "\\") piece || is_command (codes "cr") piece || is_command (codes "newline") piece
 
--- what ends a cell: it separates it from the next cell, or ends its row, or ends the table
+-- what ends a cell: it separates it from the next cell, or begins the arrow of a diagram, or ends its row, or ends the table
 pub data CellEnd : Type 0 where
   PartsCells : CellEnd
+  BeginsArrow : CellEnd
   EndsRow : CellEnd
   EndsTable : CellEnd
 
 -- what a unit that ends a cell does
 abbrev pub cell_end : Piece → CellEnd
-cell_end piece = if is_character (byte "&") piece then PartsCells else if is_break piece then EndsRow else EndsTable
+cell_end piece =
+    if is_character (byte "&") piece then PartsCells
+    else if is_character (byte "@") piece then BeginsArrow
+    else if is_break piece then EndsRow
+    else EndsTable
+
+-- whether a unit ends a cell of a diagram
+abbrev pub ends_in_diagram : Piece → Bool
+ends_in_diagram piece = is_command (codes "end") piece || is_character (byte "&") piece || is_character (byte "@") piece || is_break piece
 
 -- whether the unit is the ending
 abbrev pub ends : Ending → Piece → Bool
@@ -48,13 +58,16 @@ ends (InBrackets place) piece = is_character (byte "]") piece
 ends (InDollars place) piece = is_character (byte "$") piece
 ends (InDelimiters place) piece = is_command (codes "right") piece
 ends (InCell ByName place) piece = is_command (codes "end") piece || is_character (byte "&") piece || is_break piece
+ends (InCell OfDiagram place) piece = ends_in_diagram piece
 ends (InCell ByBrace place) piece = is_close piece || is_break piece
 ends (InCell ByText place) piece = is_character (byte "&") piece || is_break piece
+ends (InLabel direction place) piece = is_character (direction_sign direction) piece || ends_in_diagram piece
 
 -- the units that are left after atoms, where these are the ending and the units after it: what ends a cell says how the
--- table goes on, and is not taken with the cell
+-- table goes on, and is not taken with the cell. What ends a label may also end the cell in which it is.
 abbrev pub left_behind : Ending → Unit → Units → Units
 left_behind (InCell end place) u l = Next u l
+left_behind (InLabel direction place) u l = Next u l
 left_behind ending u l = l
 
 -- why atoms are refused if their ending is missing, where there has to be one
@@ -65,8 +78,10 @@ unended (InBrackets place) = Some (refusal_at UnclosedBracket place)
 unended (InDollars place) = Some (refusal_at UnclosedDollar place)
 unended (InDelimiters place) = Some (refusal_at LeftWithoutRight place)
 unended (InCell ByName place) = Some (refusal_at BeginWithoutEnd place)
+unended (InCell OfDiagram place) = Some (refusal_at BeginWithoutEnd place)
 unended (InCell ByBrace place) = Some (refusal_at UnclosedBrace place)
 unended (InCell ByText place) = None
+unended (InLabel direction place) = Some (refusal_at IncompleteArrow place)
 
 -- Atoms and operands begin with a unit
 

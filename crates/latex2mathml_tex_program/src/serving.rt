@@ -1,5 +1,5 @@
 //! Runs the program, from its input to its exit status.
-ghost use Rattle.std.specs.Prelude.{◌≡◌, ◌++◌, ℕ, [], IfErr, IfOk, IfSome, IsTrue, List, codes, string_bytes};
+ghost use Rattle.std.specs.Prelude.{IfErr, IfOk, IfSome, IsTrue, string_bytes};
 ghost use Rattle.std.specs.Io.KnownBytes.{IsAtEnd};
 ghost use Rattle.latex2mathml.specs.Streams.{CanGoOn};
 ghost use Rattle.latex2mathml_tex_units.specs.{Errors.refusal_of, MacroTables.Holding};
@@ -12,7 +12,7 @@ use crate::reply::{line, replies};
 use crate::request::Request;
 use latex2mathml::{Sink, Source, read_text, write_text};
 use latex2mathml_tex::{Macros, TexError};
-use std::alloc::{AllocError, Global};
+use std::alloc::Global;
 
 const DONE: u8 = 0;
 

@@ -1,6 +1,6 @@
 -- The environments of the code, as the definitions describe them.
 use Rattle.std.specs.Prelude.{ℕ, List, option_map, Option}
-use Rattle.latex2mathml_elements.specs.Columns.{Centered, LeftAligned, Dense, Usual, Stretched, Opened, Columns, Alike, InPairs, AroundRelation, Broken}
+use Rattle.latex2mathml_elements.specs.Columns.{Centered, LeftAligned, Dense, Usual, Stretched, Opened, Columns, Alike, InPairs, AroundRelation, InDiagram, Broken}
 use Rattle.latex2mathml_tex_grammar.specs.Environments as environments
 use Rattle.latex2mathml_tex_commands.specs.{Delimiters.delimiter_text, Meanings.style_of}
 use Rattle.latex2mathml_tex_units.specs.Scans.{argument_of}
@@ -16,6 +16,7 @@ layout_of layout.Broken = Broken
 layout_of layout.Small = Alike Dense Centered
 layout_of layout.InPairs = InPairs
 layout_of layout.AroundRelation = AroundRelation
+layout_of layout.Diagram = InDiagram
 
 abbrev pub bracket_of : Bracket → environments.Bracket
 bracket_of bracket.Nothing = environments.NoBracket

@@ -33,6 +33,7 @@ kind_text kind.SecondInfix = codes "a second \\over or the like in one group"
 kind_text kind.MissingDelimiter = codes "a delimiter is missing"
 kind_text kind.NothingToNegate = codes "nothing to negate"
 kind_text kind.OutsideTable = codes "a sign of tables outside of a table"
+kind_text kind.IncompleteArrow = codes "an arrow is not complete"
 kind_text kind.MissingName = codes "the name of an environment is missing"
 kind_text (kind.UnknownEnvironment name) = codes "unknown environment " ++ name
 kind_text kind.BeginWithoutEnd = codes "\\begin without \\end"

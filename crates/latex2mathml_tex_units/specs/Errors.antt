@@ -30,6 +30,7 @@ kind_of_error kind.SecondInfix = Some refusal.SecondInfix
 kind_of_error kind.MissingDelimiter = Some refusal.MissingDelimiter
 kind_of_error kind.NothingToNegate = Some refusal.NothingToNegate
 kind_of_error kind.OutsideTable = Some refusal.OutsideTable
+kind_of_error kind.IncompleteArrow = Some refusal.IncompleteArrow
 kind_of_error kind.MissingName = Some refusal.MissingName
 kind_of_error (kind.UnknownEnvironment name) = Some (refusal.UnknownEnvironment (string_bytes name))
 kind_of_error kind.BeginWithoutEnd = Some refusal.BeginWithoutEnd

@@ -50,6 +50,8 @@ pub enum Layout {
     InPairs,
     /// The two sides of a relation, and the relation between them.
     AroundRelation,
+    /// The objects of a diagram, and the arrows between them.
+    Diagram,
 }
 
 impl Layout {
@@ -65,6 +67,7 @@ impl Layout {
             Layout::Small => Columns::alike(Density::Dense, Alignment::Centered),
             Layout::InPairs => Columns::in_pairs(),
             Layout::AroundRelation => Columns::around_relation(),
+            Layout::Diagram => Columns::in_diagram(),
         }
     }
 }
@@ -103,9 +106,10 @@ fn environments() -> &'static [Environment]
 }
 
 #[rattlefmt::skip]
-static ENVIRONMENTS: [Environment; 40] = [
+static ENVIRONMENTS: [Environment; 42] = [
     Environment { name: "Bmatrix", delimiters: Some((Some('{'), Some('}'))), layout: Layout::Matrix, style: Style::InText, bracket: Bracket::Nothing, argument: None },
     Environment { name: "Bmatrix*", delimiters: Some((Some('{'), Some('}'))), layout: Layout::Matrix, style: Style::InText, bracket: Bracket::Alignment, argument: None },
+    Environment { name: "CD", delimiters: None, layout: Layout::Diagram, style: Style::InText, bracket: Bracket::Nothing, argument: None },
     Environment { name: "Vmatrix", delimiters: Some((Some('‖'), Some('‖'))), layout: Layout::Matrix, style: Style::InText, bracket: Bracket::Nothing, argument: None },
     Environment { name: "Vmatrix*", delimiters: Some((Some('‖'), Some('‖'))), layout: Layout::Matrix, style: Style::InText, bracket: Bracket::Alignment, argument: None },
     Environment { name: "align", delimiters: None, layout: Layout::InPairs, style: Style::InDisplay, bracket: Bracket::Nothing, argument: None },
@@ -118,6 +122,7 @@ static ENVIRONMENTS: [Environment; 40] = [
     Environment { name: "bmatrix", delimiters: Some((Some('['), Some(']'))), layout: Layout::Matrix, style: Style::InText, bracket: Bracket::Nothing, argument: None },
     Environment { name: "bmatrix*", delimiters: Some((Some('['), Some(']'))), layout: Layout::Matrix, style: Style::InText, bracket: Bracket::Alignment, argument: None },
     Environment { name: "cases", delimiters: Some((Some('{'), None)), layout: Layout::Cases, style: Style::InText, bracket: Bracket::Nothing, argument: None },
+    Environment { name: "darray", delimiters: None, layout: Layout::Matrix, style: Style::InDisplay, bracket: Bracket::Position, argument: Some(Argument::ColumnList) },
     Environment { name: "dcases", delimiters: Some((Some('{'), None)), layout: Layout::Cases, style: Style::InDisplay, bracket: Bracket::Nothing, argument: None },
     Environment { name: "displaymath", delimiters: None, layout: Layout::Lines, style: Style::InDisplay, bracket: Bracket::Nothing, argument: None },
     Environment { name: "drcases", delimiters: Some((None, Some('}'))), layout: Layout::Cases, style: Style::InDisplay, bracket: Bracket::Nothing, argument: None },

@@ -52,6 +52,8 @@ pub enum TexErrorKind {
     NothingToNegate,
     /// A sign that may appear only in tables.
     OutsideTable,
+    /// What follows an at sign in a diagram is no arrow, or one without its last sign.
+    IncompleteArrow,
     /// No name follows `\begin` or `\end`.
     MissingName,
     /// No environment has this name.
@@ -123,6 +125,7 @@ impl fmt::Display for TexErrorKind {
             TexErrorKind::MissingDelimiter => "a delimiter is missing",
             TexErrorKind::NothingToNegate => "nothing to negate",
             TexErrorKind::OutsideTable => "a sign of tables outside of a table",
+            TexErrorKind::IncompleteArrow => "an arrow is not complete",
             TexErrorKind::MissingName => "the name of an environment is missing",
             TexErrorKind::UnknownEnvironment(name) => return write_two(
                 "unknown environment ",

@@ -8,7 +8,8 @@ ghost use Rattle.latex2mathml_tex_grammar.specs.Rules.{a_character, a_digit, in_
 ghost use Rattle.latex2mathml_tex_units.specs.Left.{EndsNumber, SameUnits, TakesLone, TakesNext, TakesNone, put_back, units_at, units_behind, units_end};
 ghost use Rattle.latex2mathml_tex_units.specs.Expanded.{expanded_text};
 ghost use Rattle.latex2mathml_tex_grammar.specs.Units as units;
-ghost use Rattle.latex2mathml_tex_commands.specs.Delimiters.{delimiter_text};
+ghost use Rattle.latex2mathml_tex_grammar.specs.Diagrams.{sign_of_arrow};
+ghost use Rattle.latex2mathml_tex_commands.specs.{Delimiters.delimiter_text, Diagrams.arrow_sign};
 ghost use Rattle.latex2mathml_tex_units.specs.Taking.{piece_of};
 
 use crate::delimiters::{delimiter_of, negated_of};
@@ -16,6 +17,7 @@ use crate::dots::centers_dots;
 use crate::macros::table::Macros;
 use crate::macros::whole::{End, list_units};
 use crate::unit::{Next, Piece, Unit};
+use latex2mathml_tex_commands::diagrams::DiagramArrow;
 use std::alloc::{AllocError, Global};
 
 /// The units of a formula, of which the first ones were taken. What is taken is only counted, so that it can be put back.
@@ -181,6 +183,25 @@ impl<'a> Input<'a> {
         {
             self.advance();
             return Some(sign);
+        }
+        self.taken = start;
+        None
+    }
+
+    /// Takes the sign of an arrow of a diagram, if one comes next. Returns the arrow.
+    pub fn take_arrow(&mut self) -> Option<DiagramArrow>
+        ensures { MatchOption result
+            (TakesNone (sign_of_arrow ∷ []) self.old self.new)
+            (λ arrow. TakesNext (sign_of_arrow ∷ []) (arrow_sign arrow) self.old self.new) }
+    {
+        let start = self.taken;
+        self.skip_space();
+        if let Next::Unit(unit) = self.peek()
+            && let Piece::Character(sign) = unit.piece
+            && let Some(arrow) = DiagramArrow::with_sign(sign)
+        {
+            self.advance();
+            return Some(arrow);
         }
         self.taken = start;
         None

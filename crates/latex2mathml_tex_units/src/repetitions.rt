@@ -1,5 +1,5 @@
 //! Columns that are repeated, as `*3{c}`.
-ghost use Rattle.std.specs.Prelude.{◌≡◌, ◌<◌, ◌-◌, ◌==◌, ◌++◌, IfOk, OnOk, string_bytes};
+ghost use Rattle.std.specs.Prelude.{◌≡◌, ◌<◌, ◌-◌, ◌++◌, IfOk, OnOk, string_bytes};
 ghost use Rattle.std.specs.{Str.byte};
 ghost use Rattle.latex2mathml_tex_grammar.specs.Environments;
 

@@ -3,7 +3,6 @@ ghost use Rattle.std.specs.Prelude.{option_map};
 ghost use Rattle.latex2mathml_attributes.specs.Names.{size_of};
 ghost use Rattle.latex2mathml_tex_grammar.specs.Makes;
 ghost use Rattle.latex2mathml_tex_grammar.specs.{Meaning.Left};
-ghost use Rattle.latex2mathml_tex_grammar.specs.Commands;
 ghost use Rattle.latex2mathml_tex_grammar.specs.Rules.{a_negation, a_root, a_sized_delimiter, an_operator_name, character_rule, command_rule, gives, meaning_rule, reads_words, some_dots};
 ghost use Rattle.latex2mathml_tex_grammar.specs.{Makes.core, Words.words_atom};
 ghost use Rattle.latex2mathml_tex_commands.specs.Meanings.{alphabet_of, class_of, style_of, meaning_of};

@@ -244,6 +244,9 @@ impl<'a> Parser<'a> {
             self.old self.new next.new result }
         ensures step { Advances 12 self.old self.new next.new result }
     {
+        if columns.are_in_diagram() {
+            return self.begin_first_cell(TableKind::Diagram(environment), columns, place, next);
+        }
         self.begin_first_cell(TableKind::Environment(environment), columns, place, next)
     }
 }

@@ -1,6 +1,8 @@
 //! The open frames, and how much of each was read.
 ghost use Rattle.std.specs.Prelude.{◌≡◌, ℕ, ◌∷◌, ◌++◌, [], false, IfSome, IsTrue, List, MatchOption, None, OnOk, Some, if◌then◌else◌, option_map};
-ghost use Rattle.latex2mathml_tex_grammar.specs.Starts.{DividerStart, atom_start, change_by, ends, mark_of, start_of_mark};
+ghost use Rattle.latex2mathml_tex_commands.specs.Diagrams.{direction_of};
+ghost use Rattle.latex2mathml_tex_grammar.specs.{Diagrams.direction_sign, Rules.a_character};
+ghost use Rattle.latex2mathml_tex_grammar.specs.Starts.{DividerStart, atom_start, change_by, ends, ends_in_diagram, is_character, mark_of, start_of_mark};
 ghost use Rattle.latex2mathml_tex_grammar.specs.{Refusal.refusal_at, Starts.unended, Tables.before_cell, Rules.InCell};
 ghost use Rattle.latex2mathml_elements.specs.Columns.{column_at};
 ghost use Rattle.latex2mathml_attributes.specs.Columns.{columns_of};
@@ -18,6 +20,7 @@ use latex2mathml_attributes::attributes::{Side, Stretch};
 use latex2mathml_attributes::columns::{Alignment, Columns};
 use latex2mathml_tex_atoms::atoms::{Before, Context, Core, Operand, Row, Scripts};
 use latex2mathml_tex_atoms::outlines::Outline;
+use latex2mathml_tex_commands::diagrams::Direction;
 use latex2mathml_tex_commands::meaning::{
     Alphabet, Class, FractionRule, LimitPlace, OperandBox, Style,
 };
@@ -45,6 +48,21 @@ pub(crate) enum Ending {
     Formula(usize),
     /// What ends a cell: the row is a cell of this table.
     Cell(Table),
+    /// The sign of an arrow: the row is its first label. Below the row's own elements are the arrow and those of its table.
+    FirstLabel(Labeled),
+    /// The sign of an arrow: the row is its second label. Below the row's own elements are the first label, the arrow, and the
+    /// elements of its table.
+    SecondLabel(Labeled),
+}
+
+/// An arrow whose labels are being read.
+#[derive(Clone, Copy)]
+pub(crate) struct Labeled {
+    pub(crate) direction: Direction,
+    /// The diagram, of which the arrow is the next cell.
+    pub(crate) table: Table,
+    /// The place where the diagram begins.
+    pub(crate) place: usize,
 }
 
 /// What a row in braces is.
@@ -59,6 +77,8 @@ pub(crate) enum Braced {
 pub(crate) enum TableKind {
     /// An environment, up to its `\end`.
     Environment(&'static Environment),
+    /// The same, with arrows between its cells.
+    Diagram(&'static Environment),
     /// Rows in braces, each of one cell, up to the closing brace.
     Braces,
     /// The rows of a whole text.
@@ -161,6 +181,9 @@ impl Ending {
             Ending::Delimiters(_) => matches!(piece, Piece::Command("right")),
             Ending::Formula(_) => matches!(piece, Piece::Character('$')),
             Ending::Cell(table) => table.is_ended_by(piece),
+            Ending::FirstLabel(labeled) | Ending::SecondLabel(labeled) => {
+                is_sign_of(labeled.direction, piece) || ends_in_diagram(piece)
+            }
         }
     }
 
@@ -186,8 +209,11 @@ impl Table {
     {
         match piece {
             Piece::Command("\\" | "cr" | "newline") => true,
-            Piece::Command("end") => matches!(self.kind, TableKind::Environment(_)),
+            Piece::Command("end") => {
+                matches!(self.kind, TableKind::Environment(_) | TableKind::Diagram(_))
+            }
             Piece::Character('&') => !matches!(self.kind, TableKind::Braces),
+            Piece::Character('@') => matches!(self.kind, TableKind::Diagram(_)),
             Piece::Close => matches!(self.kind, TableKind::Braces),
             _ => false,
         }
@@ -200,7 +226,9 @@ impl Table {
             ≡ unended (InCell (table_end self) place)) }
     {
         match self.kind {
-            TableKind::Environment(_) => Some(TexErrorKind::BeginWithoutEnd),
+            TableKind::Environment(_) | TableKind::Diagram(_) => Some(
+                TexErrorKind::BeginWithoutEnd,
+            ),
             TableKind::Braces => Some(TexErrorKind::UnclosedBrace),
             TableKind::Text => None,
         }
@@ -211,7 +239,9 @@ impl Table {
         ensures { style_of result ≡ style_in self.kind }
     {
         match self.kind {
-            TableKind::Environment(environment) => environment.style,
+            TableKind::Environment(environment) | TableKind::Diagram(environment) => {
+                environment.style
+            }
             TableKind::Braces => Style::InScript,
             TableKind::Text => Style::InDisplay,
         }
@@ -322,12 +352,14 @@ impl Frames {
         }
     }
 
-    /// Returns the innermost frame's context, if the frame is a row, in a formula of this style.
+    /// Returns the innermost frame's context, if the frame is a row, in a formula of this style. A label of an arrow counts as none,
+    /// because a letter may end it.
     #[inline(always)]
     pub(crate) fn row_context(&self, style: Style) -> Option<Context>
         ensures { IfSome result (λ context. IsRowInnermost style self.now.stack.items context) }
     {
         match self.stack.as_slice().last() {
+            Some(Frame::Row(Ending::FirstLabel(_) | Ending::SecondLabel(_), _, _, _)) => None,
             Some(Frame::Row(_, _, context, _)) => Some(*context),
             Some(_) => None,
             None => Some(text_context(style)),
@@ -462,6 +494,29 @@ impl Frames {
             None => text_row(style),
         }
     }
+}
+
+/// Whether the unit is the sign of this arrow.
+pub(crate) fn is_sign_of(direction: Direction, piece: Piece) -> bool
+    ensures is { result ≡ is_character (direction_sign (direction_of direction))
+        (piece_of piece.entry) }
+    ensures test { a_character (direction_sign (direction_of direction)) (piece_of piece.entry)
+        ≡ (if result then Some (direction_sign (direction_of direction) ∷ []) else None) }
+{
+    match piece {
+        Piece::Character(c) => c == direction.sign(),
+        _ => false,
+    }
+}
+
+/// Whether the unit ends a cell of a diagram.
+fn ends_in_diagram(piece: Piece) -> bool
+    ensures { result ≡ ends_in_diagram (piece_of piece.entry) }
+{
+    matches!(
+        piece,
+        Piece::Character('&' | '@') | Piece::Command("end" | "\\" | "cr" | "newline")
+    )
 }
 
 /// Returns the row of a whole formula of this style, before its first atom.

@@ -235,7 +235,7 @@ impl<'a> Parser<'a> {
 fn ends_or_marks(c: char) -> bool
     ensures { result ≡ ends_or_marks c }
 {
-    matches!(c, '&' | '_' | '^' | '\'' | ']' | '$')
+    matches!(c, '&' | '_' | '^' | '\'' | ']' | '$' | '@')
 }
 
 /// Whether a character that is no letter and no digit is none of those that may be something else than a symbol in a row.
@@ -243,7 +243,10 @@ fn ends_or_marks(c: char) -> bool
 fn is_symbol(c: char) -> bool
     ensures { result ≡ is_symbol c }
 {
-    !matches!(c, '.' | '~' | '&' | '#' | '$' | '_' | '^' | '\'' | ']')
+    !matches!(
+        c,
+        '.' | '~' | '&' | '#' | '$' | '_' | '^' | '\'' | ']' | '@'
+    )
 }
 
 /// Whether a command of this meaning begins an atom in each row, and does nothing else.

@@ -1,17 +1,15 @@
 //! Rows: how each of their atoms begins, how it is put after the others, and how a row ends.
-ghost use Rattle.std.specs.Prelude.{◌≡◌, ◌≢◌, ◌+◌, ◌≤◌, ℕ, false, OnOk, option_map};
-ghost use Rattle.latex2mathml_tex_grammar.specs.{Makes.no_scripts, Meaning.Beside, Rules.character_rule, Rules.meaning_rule, Starts.change_meant, Starts.empty_base, Starts.ends};
+ghost use Rattle.std.specs.Prelude.{◌≡◌, ◌≢◌, ◌+◌, ℕ, false, OnOk, option_map};
+ghost use Rattle.latex2mathml_tex_grammar.specs.{Makes.no_scripts, Meaning.Beside, Starts.change_meant, Starts.empty_base, Starts.ends};
 ghost use Rattle.latex2mathml_tex_commands.specs.Meanings.{change_of, meaning_of};
 ghost use Rattle.latex2mathml_tex_units.specs.Taking.{piece_of};
 ghost use Rattle.latex2mathml_tex.specs.{Frames.Start, Frames.ending_count, Frames.ending_of, Innermost.braced_ending};
-ghost use Rattle.latex2mathml_tex_atoms.specs.Models.{context_of, row_count};
-ghost use Rattle.latex2mathml_tex.specs.{RowCharacters.IsRowInnermost, RowCharacters.ends_or_marks, RowCharacters.is_symbol, RowCommands.begins_atoms};
-ghost use Rattle.latex2mathml_tex.specs.Steps.{Awaits, AwaitsAtom, BeginsDivider, BeginsIn, BeginsRest, CanBegin, CanMake, ClosesRow, EndsFormula, EndsRow, EndsText, EndsWithText, HasElements, HoldsIn, InnermostIs, Advances, LeadsOn, MadeAtom, Ready, Took, TookMark, TookUnmarked, atom_made, core_made, ending_weight, level, row_makes, Closes, Follows, Holds, to_do};
+ghost use Rattle.latex2mathml_tex_atoms.specs.Models.{row_count};
+ghost use Rattle.latex2mathml_tex.specs.Steps.{Awaits, AwaitsAtom, BeginsDivider, BeginsRest, CanBegin, CanMake, ClosesRow, EndsFormula, EndsRow, EndsText, EndsWithText, HasElements, HoldsIn, InnermostIs, Advances, LeadsOn, MadeAtom, Ready, Took, TookMark, TookUnmarked, atom_made, core_made, ending_weight, level, row_makes, Closes, Holds};
 ghost use Rattle.latex2mathml_tex_atoms.specs.declared.atoms.{Context.Context, Row.Row};
 
 use crate::parse::frames::{Braced, Ending, Frame, Last, Table};
 use crate::parse::scripts::{Mark, mark_of};
-use crate::parse::symbols::{put_letter, put_symbol};
 use crate::parse::{Parser, State};
 use latex2mathml_attributes::attributes::Attributes;
 use latex2mathml_attributes::tag::Container;
@@ -22,7 +20,6 @@ use latex2mathml_tex_atoms::rests::{Look, begin_anew, divide, finish};
 use latex2mathml_tex_atoms::shapes::{isolate, ordinary_kind, put_braced, put_row, with_atom};
 use latex2mathml_tex_commands::commands;
 use latex2mathml_tex_commands::meaning::{Change, Class, LimitPlace, Meaning, Style};
-use latex2mathml_tex_commands::signs::symbol_of;
 use latex2mathml_tex_units::error::TexErrorKind;
 use latex2mathml_tex_units::unit::{Next, Piece, Unit};
 use std::alloc::AllocError;
@@ -259,6 +256,7 @@ impl<'a> Parser<'a> {
                 Some(kind) => kind,
                 None => return self.end_last_cell(table, place, style, row, at, next),
             },
+            Ending::FirstLabel(_) | Ending::SecondLabel(_) => TexErrorKind::IncompleteArrow,
         };
         *next = self.refuse(kind, place);
         Ok(())
@@ -335,6 +333,12 @@ impl<'a> Parser<'a> {
         match ending {
             Ending::Text => unreachable!(),
             Ending::Cell(table) => self.close_cell(table, place, row, unit, next),
+            Ending::FirstLabel(labeled) => {
+                self.close_first_label(labeled, place, row, unit, next)
+            }
+            Ending::SecondLabel(labeled) => {
+                self.close_second_label(labeled, place, row, unit, next)
+            }
             Ending::Group => self.close_braced(Braced::Group, row, next),
             Ending::Operand => self.close_braced(Braced::Operand, row, next),
             Ending::Degree => {

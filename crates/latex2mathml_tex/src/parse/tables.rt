@@ -39,6 +39,7 @@ use std::alloc::AllocError;
 #[derive(Clone, Copy)]
 enum CellEnd {
     PartsCells,
+    BeginsArrow,
     EndsRow,
     EndsTable,
 }
@@ -161,6 +162,7 @@ impl<'a> Parser<'a> {
                 let cells = table.cells + 1;
                 self.begin_cell(Table { cells, ..table }, place, next)
             }
+            CellEnd::BeginsArrow => self.close_at_arrow(table, place, row, unit, next),
             CellEnd::EndsRow => {
                 let gap = self.input.pass_gap(self.alloc)?;
                 let strut = table.columns.density().strut(gap);
@@ -223,7 +225,7 @@ impl<'a> Parser<'a> {
         ensures step { Advances 5 self.old self.new next.new result }
     {
         match kind {
-            TableKind::Environment(environment) => {
+            TableKind::Environment(environment) | TableKind::Diagram(environment) => {
                 self.end_environment(environment, columns, rows, at, next)
             }
             TableKind::Braces => self.make_table(None, columns, Style::InScript, rows, next),
@@ -360,6 +362,7 @@ fn cell_end(piece: Piece) -> CellEnd
 {
     match piece {
         Piece::Character('&') => CellEnd::PartsCells,
+        Piece::Character('@') => CellEnd::BeginsArrow,
         Piece::Command("\\" | "cr" | "newline") => CellEnd::EndsRow,
         _ => CellEnd::EndsTable,
     }

@@ -1,5 +1,5 @@
 //! The slice at the start of a text, and the piece that it is.
-ghost use Rattle.std.specs.Prelude.{◌≡◌, ◌≢◌, ◌∷◌, IsFalse};
+ghost use Rattle.std.specs.Prelude.{◌≡◌, ◌∷◌, IsFalse};
 ghost use Rattle.std.specs.{Str.byte, Str.chars};
 ghost use Rattle.latex2mathml_tex_grammar.specs.Units;
 ghost use Rattle.latex2mathml_tex_grammar.specs.Units.{is_special};

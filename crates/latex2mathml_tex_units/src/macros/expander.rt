@@ -1,5 +1,5 @@
 //! The units of a text, with what they expand to in their place.
-ghost use Rattle.std.specs.Prelude.{◌≡◌, ℕ, IfOk, OnOk};
+ghost use Rattle.std.specs.Prelude.{◌≡◌, IfOk, OnOk};
 ghost use Rattle.latex2mathml_tex_grammar.specs.{Expanding.expansion, Expansion.most_units, Expansion.most_uses, Macros.before};
 ghost use Rattle.latex2mathml_tex_grammar.specs.Units as units;
 ghost use Rattle.latex2mathml_tex_units.specs.{Expanded.IsHalted, Expanded.Turned, Expanded.expanded_left, Expanded.own_turn, Expanded.turn_of_name, Left.units_left, MacroTables.macros_in, Standing.Moves, Taking.Takes, Taking.piece_of};

@@ -1,4 +1,4 @@
-use Rattle.std.proofs.Common.{◌≡◌, ◌≢◌, ◌∷◌, ℕ, List, MatchOption, None, Option, arith, refl, subst, sym, ◌∙◌}
+use Rattle.std.proofs.Common.{◌≡◌, ◌≢◌, ◌∷◌, ℕ, List, MatchOption, arith, refl, subst, sym, ◌∙◌}
 use Rattle.std.specs.Str.{byte}
 use Rattle.std.proofs.lemmas.Str.Pattern.{strip_prefix_char}
 use Rattle.latex2mathml_tex_commands.proofs.Colored.{named_is, only_a_name}

@@ -1,8 +1,8 @@
-use Rattle.std.proofs.Common.{[], ◌∷◌, Some, arith}
+use Rattle.std.proofs.Common.{[], ◌∷◌, arith}
 use Rattle.latex2mathml_tex_grammar.specs.{Makes.operator_name, Meaning.Beside, Meaning.ByStyle, Symbols.Upright}
 use Rattle.latex2mathml_tex_grammar.specs.Rules.{a_character, gives, lettered, of_one}
 use Rattle.latex2mathml_tex_units.specs.Left.{units_at}
-use Rattle.latex2mathml_tex_commands.specs.Meanings.{limit_place_of, style_of}
+use Rattle.latex2mathml_tex_commands.specs.Meanings.{limit_place_of}
 use Rattle.latex2mathml_tex_atoms.specs.Models.{context_of}
 use Rattle.latex2mathml_tex.specs.Steps.{Begins, left_of}
 use Rattle.latex2mathml_tex_units.proofs.Nexts.{no_more_taken}

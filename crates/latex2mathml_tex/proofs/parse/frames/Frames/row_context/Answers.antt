@@ -16,4 +16,4 @@ returns-in-None c =
     let few : length c.as_slice.result.now ≤ 0 = omega (arith, facts) in
     let empty : length c.args.self.now.stack.items ≤ 0 = subst (λ fs. length fs ≤ 0) c.as_slice.ensures.value few in
     let none = none_there c.args.self.now.stack.items empty in
-    (ending.Text, (0, (begun, ([], none_begun none refl (ap (λ k. frame.Row ending.Text 0 k begun) c.text_context.ensures)))))
+    (ending.Text, (0, (begun, ([], (none_begun none refl (ap (λ k. frame.Row ending.Text 0 k begun) c.text_context.ensures), λ at. refl)))))
