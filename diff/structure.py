@@ -74,8 +74,8 @@ def text(element):
 def scripted(element, lower, upper):
     base, *_ = children = [row([child]) for child in element]
     below, above = (children[place] if place else () for place in (lower, upper))
-    # a space is below what it makes wide
-    if element[0].tag.rpartition("}")[2] == "mspace" and element.get("accent") == "true":
+    # the label below an arrow of a diagram is over a space, which makes the arrow long
+    if element[0].tag.rpartition("}")[2] == "mspace" and element[0].get("width") == "3.5em":
         return list(above)
     if len(base) == 1 and isinstance(base[0], tuple) and base[0][0] == "scripts":
         _, inner, inner_below, inner_above = base[0]
