@@ -38,22 +38,26 @@ def command(names):
     return one_of(names).map(lambda name: f"\\{name} ")
 
 
-# Some things are left out that are read alike, but whose MathML by KaTeX does not show it: lines through or around something, scripts
-# on a sign with a stroke, and names such as `\sin` that are all of a script. `\dots` are left out because KaTeX centers them less often.
+# Some things are left out that are read alike, but whose MathML by KaTeX does not show it: lines through or around something,
+# scripts on a sign with a stroke, and names such as `\sin` that are all of a script. So are `\dots`: KaTeX centers them less often.
 ROWS = st.deferred(lambda: st.lists(SCRIPTED, max_size=4).map("".join))
 GROUPS = joined("{", ROWS, "}")
 LETTERS = one_of("a b c x y z A B N")
 OPERANDS = st.one_of(GROUPS, LETTERS, one_of("1 2 0"))
-SIGNS = st.one_of(one_of("+ - = < > , ; ! : / | * ( ) [ ]"), command("cdot times le ne to in mid perp colon pm oplus forall nabla ldots cdots"),
+SIGNS = st.one_of(one_of("+ - = < > , ; ! : / | * ( ) [ ]"),
+                  command("cdot times le ne to in mid perp colon pm oplus forall nabla ldots cdots"),
                   command("alpha Gamma infty partial ell hbar sum int prod bigcup langle rangle lVert rVert"))
+TABLES = ("matrix", "pmatrix", "vmatrix", "cases", "aligned", "smallmatrix")
+MAYBE_BRACKETS = st.one_of(st.just(""), joined("[", LETTERS, "]"))
 NAMES = joined(command("sin log max lim det Pr"), "x")
 CELLS = joined(ROWS, "&", ROWS)
 
 CONSTRUCTS = [
     joined(one_of(r"\frac \dfrac \tfrac \cfrac \binom \overset \underset \stackrel"), GROUPS, GROUPS),
-    joined(r"\sqrt", st.one_of(st.just(""), joined("[", LETTERS, "]")), GROUPS),
-    joined(r"\left", one_of(r"( [ \{ | . \langle"), " ", ROWS, st.one_of(st.just(""), joined(r"\middle|", ROWS)), r"\right", one_of(r") ] \} | . \rangle"), " "),
-    joined(one_of(r"\hat \bar \vec \tilde \dot \ddot \overline \underline \widehat \overrightarrow \mathring \check \breve"), GROUPS),
+    joined(r"\sqrt", MAYBE_BRACKETS, GROUPS),
+    joined(r"\left", one_of(r"( [ \{ | . \langle"), " ", ROWS, st.one_of(st.just(""), joined(r"\middle|", ROWS)),
+           r"\right", one_of(r") ] \} | . \rangle"), " "),
+    joined(one_of(r"\hat \bar \vec \tilde \dot \ddot \overline \underline \widehat \mathring \check \breve"), GROUPS),
     joined(one_of(r"\mathbf \mathrm \mathcal \mathbb \mathfrak \mathsf \boldsymbol"), "{", one_of(r"A AB x R1 \Gamma ab+c"), "}"),
     joined(one_of(r"\text \textbf \mbox"), "{", one_of("if a,b x$y^2$z"), " }"),
     joined(one_of(r"\mathrel \mathbin \mathord \mathopen \mathpunct \mathop \phantom \smash \textcolor{red}"), GROUPS),
@@ -61,20 +65,21 @@ CONSTRUCTS = [
     joined(one_of(r"\sum \int \bigcup"), one_of(r"\limits \nolimits"), "_", OPERANDS, "^", OPERANDS),
     joined(one_of(r"\big \Big \bigl \Biggr \bigm"), one_of(r"( | / \rangle"), " "),
     joined(r"\overbrace", GROUPS, "^", GROUPS), joined(r"\underbrace", GROUPS, "_", GROUPS),
-    joined(one_of(r"\xrightarrow \xleftarrow"), st.one_of(st.just(""), joined("[", LETTERS, "]")), GROUPS),
+    joined(one_of(r"\xrightarrow \xleftarrow"), MAYBE_BRACKETS, GROUPS),
     joined(one_of(r"\not= \not\in"), " "),
     joined("{", ROWS, one_of(r"\over \choose \atop"), " ", ROWS, "}"),
     joined("{", one_of(r"\bf \rm \displaystyle \scriptstyle \large \color{blue}"), " ", ROWS, "}"),
-    *(joined(rf"\begin{{{name}}}", CELLS, r"\\{}", CELLS, rf"\end{{{name}}}") for name in ("matrix", "pmatrix", "vmatrix", "cases", "aligned", "smallmatrix")),
+    *(joined(rf"\begin{{{name}}}", CELLS, r"\\{}", CELLS, rf"\end{{{name}}}") for name in TABLES),
     joined(r"\begin{array}{c|c}", CELLS, r"\\\hline ", CELLS, r"\end{array}"),
     joined(r"\substack{", ROWS, r"\\{}", ROWS, "}"),
-    joined(r"\begin{CD}", LETTERS, "@>", GROUPS, ">>", LETTERS, r"\\@VV", GROUPS, "V@|", r"\\", LETTERS, "@=", LETTERS, r"\end{CD}"),
+    joined(r"\begin{CD}", LETTERS, "@>", GROUPS, ">>", LETTERS, r"\\@VV", GROUPS, r"V@|\\", LETTERS, "@=", LETTERS, r"\end{CD}"),
     joined(r"\def\f#1{", one_of("#1 {#1}_1 x"), r"}\f", OPERANDS),
     one_of(r"\, \; \quad ~ \! \hspace{1em} \rule{1em}{2pt}").map(lambda text: text + " "),
 ]
 ATOMS = st.one_of(LETTERS, LETTERS, one_of("1 2 12 3.5"), SIGNS, NAMES, GROUPS, *CONSTRUCTS)
-SCRIPTED = st.one_of(ATOMS, ATOMS, joined(st.one_of(LETTERS, SIGNS, GROUPS), st.one_of(
-    st.just("'"), joined("_", OPERANDS), joined("^", OPERANDS), joined("_", OPERANDS, "^", OPERANDS), joined("'^", OPERANDS), joined("''_", OPERANDS))))
+SCRIPTS = [st.just("'"), joined("_", OPERANDS), joined("^", OPERANDS), joined("_", OPERANDS, "^", OPERANDS), joined("'^", OPERANDS),
+           joined("''_", OPERANDS)]
+SCRIPTED = st.one_of(ATOMS, ATOMS, joined(st.one_of(LETTERS, SIGNS, GROUPS), st.one_of(*SCRIPTS)))
 
 
 @unittest.skipUnless(KATEX.is_dir(), "KaTeX is not installed")

@@ -81,6 +81,11 @@ TABLES = {r"\begin{matrix}c&c&c\\c\end{matrix}": [0, 1, 1, 0], r"\begin{cases}c&
           r"\begin{smallmatrix}c&c&c\end{smallmatrix}": [0, 5 / 18, 5 / 18, 0], r"x_{\substack{c\\c}}": [0, 0],
           r"x_{\begin{subarray}{l}c\\c\end{subarray}}": [0, 0]}
 
+# Diagrams of letters, and the ems in their first row. As in TeX, an arrow to a side is at least 3em long, and has 0.5em at both ends.
+# 0.5em is also at the sides of a diagram, where TeX leaves none.
+DIAGRAMS = {r"\begin{CD}c@>>>c\end{CD}": [1 / 2, 4, 1 / 2], r"\begin{CD}c@=c@<<<c\\@|\end{CD}": [1 / 2, 4, 4, 1 / 2],
+            r"\begin{CD}c@>>>c\\@VVV@AAA\\c@.c\end{CD}": [1 / 2, 4, 1 / 2]}
+
 # Tables of rows with the letter c, and how many ems its line is below that of the row before it in TeX: rows are 12 points apart, in
 # `cases` a fifth more, and in `aligned` and the like 3 points more, where letters are of 10 points.
 ROWS = {r"\begin{matrix}c\\c\\c\end{matrix}": [1.2, 1.2], r"\begin{pmatrix}c&b\\c&y\\c&(\end{pmatrix}": [1.2, 1.2],
@@ -367,11 +372,11 @@ class Delimiters(Spaces):
 class Columns(Gaps):
     @requires("chromium")
     def test_in_chromium(self):
-        self.compare(chromium, TABLES, OF_CELLS)
+        self.compare(chromium, TABLES | DIAGRAMS, OF_CELLS)
 
     @requires("firefox-esr")
     def test_in_firefox(self):
-        self.compare(firefox, TABLES, OF_CELLS)
+        self.compare(firefox, TABLES | DIAGRAMS, OF_CELLS)
 
 
 class Rows(Gaps):
