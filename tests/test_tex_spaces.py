@@ -84,7 +84,7 @@ TABLES = {r"\begin{matrix}c&c&c\\c\end{matrix}": [0, 1, 1, 0], r"\begin{cases}c&
 # Diagrams of letters, and the ems in their first row. As in TeX, an arrow to a side is at least 3em long, and has 0.5em at both ends.
 # 0.5em is also at the sides of a diagram, where TeX leaves none.
 DIAGRAMS = {r"\begin{CD}c@>>>c\end{CD}": [1 / 2, 4, 1 / 2], r"\begin{CD}c@=c@<<<c\\@|\end{CD}": [1 / 2, 4, 4, 1 / 2],
-            r"\begin{CD}c@>>>c\\@VVV@AAA\\c@.c\end{CD}": [1 / 2, 4, 1 / 2]}
+            r"\begin{CD}\rm ccc@>>>\rm ccc\\@VVV@AAA\end{CD}": [1 / 2, 4, 1 / 2]}
 
 # Tables of rows with the letter c, and how many ems its line is below that of the row before it in TeX: rows are 12 points apart, in
 # `cases` a fifth more, and in `aligned` and the like 3 points more, where letters are of 10 points.
