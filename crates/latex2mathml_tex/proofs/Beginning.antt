@@ -1,6 +1,5 @@
 -- How rules, operands and words begin with the unit that was taken.
-use Rattle.std.proofs.Common.{◌≡◌, ℕ, ◌+◌, ◌≤◌, suc, false, true, List, [], ◌∷◌, ◌++◌, Option, None, Some, option_map, reverse, sum_by, refl, sym, ap, ◌∙◌, subst, arith}
-use Rattle.std.proofs.lemmas.{List.reverse-append, List.Sums.sum_by_push}
+use Rattle.std.proofs.Common.{◌≡◌, ℕ, ◌+◌, ◌≤◌, suc, false, true, List, [], ◌∷◌, ◌++◌, None, Some, option_map, refl, sym, ap, ◌∙◌, subst, arith}
 use Rattle.std.specs.Char.{is_ascii_digit}
 use Rattle.latex2mathml_elements.specs.Element.{Element}
 use Rattle.latex2mathml_builder.specs.Built.{Built, elements_in}
@@ -14,7 +13,7 @@ use Rattle.latex2mathml_tex_grammar.specs.Starts.{DigitStart, GroupStart, OtherS
 use Rattle.latex2mathml_tex_grammar.specs.Rows.{Operand}
 use Rattle.latex2mathml_tex_grammar.specs.Units as grammar
 use Rattle.latex2mathml_tex_grammar.specs.Units.{Units, Next, End, Stop}
-use Rattle.latex2mathml_tex.specs.Frames.{Start, context_at, element_count, enter}
+use Rattle.latex2mathml_tex.specs.Frames.{Start, context_at, enter}
 use Rattle.latex2mathml_tex_atoms.specs.Models as code
 use Rattle.latex2mathml_tex_units.specs.Left.{put_back, unit_count, units_at, units_behind}
 use Rattle.latex2mathml_tex.specs.Innermost.{frame_context}
@@ -22,15 +21,14 @@ use Rattle.latex2mathml_tex.specs.Levels.{CoreMade, Leads, Level, OperandMade, R
 use Rattle.latex2mathml_tex.specs.Levels as levels
 use Rattle.latex2mathml_tex_commands.specs.Meanings.{alphabet_of, style_of}
 use Rattle.latex2mathml_tex_atoms.specs.Models.{context_of, core_with}
-use Rattle.latex2mathml_tex.specs.Steps.{AwaitsCore, AwaitsOperand, Begins, BeginsIn, BeginsUnit, CanBegin, Follows, HasElements, Holds, InnermostIs, Took, elements_of, frame_weight, left_of, level, level_within, operand_place, to_do}
+use Rattle.latex2mathml_tex.specs.Steps.{AwaitsCore, AwaitsOperand, Begins, BeginsIn, BeginsUnit, CanBegin, Follows, HasElements, Holds, InnermostIs, Took, elements_of, left_of, level, level_within, operand_place, to_do, words_made}
 use Rattle.latex2mathml_tex_units.specs.Taking.{kind_of, piece_of, unit_of}
 use Rattle.latex2mathml_tex_units.specs.declared.{error.TexError.TexError, input.Input.Input, unit.Fault.Fault, unit.Next.Next as CodeNext, unit.Piece.Piece, unit.Unit.Unit}
-use Rattle.latex2mathml_tex_commands.specs.declared.meaning.Alphabet.{Alphabet as CodeAlphabet}
 use Rattle.latex2mathml_tex_atoms.specs.declared.{atoms.Context.Context, atoms.Core.Core as CodeCore, atoms.Row.Row as CodeRow}
 use Rattle.latex2mathml_tex.specs.declared.{parse.Parser.Parser, parse.State.State, parse.frames.Frames.Frames}
 use Rattle.latex2mathml_tex.specs.declared.parse.State.TheVariants as state
 use Rattle.latex2mathml_tex.specs.declared.parse.frames.Frame.{Frame}
-use Rattle.latex2mathml_tex.specs.declared.parse.frames.Ending.TheVariants as ending
+use Rattle.latex2mathml_tex.specs.declared.parse.endings.Ending.TheVariants as ending
 use Rattle.latex2mathml_tex.specs.declared.parse.frames.Frame.TheVariants as frame
 use Rattle.latex2mathml_tex_units.specs.declared.unit.Next.TheVariants as next
 use Rattle.latex2mathml_tex_units.specs.declared.unit.Piece.TheVariants as piece
@@ -38,6 +36,7 @@ use Rattle.latex2mathml_tex.proofs.Leading.{core_ended, core_halted, digit_due, 
 use Rattle.latex2mathml_tex.proofs.Marks.{core_refuses}
 use Rattle.latex2mathml_tex_units.proofs.Nexts.{no_more_past_space}
 use Rattle.latex2mathml_tex.proofs.Opening.{begins_in, context_is, out_of_frame, pushed}
+use Rattle.latex2mathml_tex.proofs.Taken.{pushed_can, pushed_weight}
 
 -- What comes next after white space
 
@@ -74,24 +73,19 @@ refused_next p q i error st same is less enough =
 
 -- Words
 
-module _ (p : Parser) (i : Input) (fr : Frames) (place : ℕ) (a : Option CodeAlphabet) (opened : fr.stack.items ≡ p.frames.stack.items ++ frame.Text ∷ []) (past : units_at i ≡ past_space (left_of p)) where
-  pub words_begin : (s : Start) → Begins (reads_words place (option_map alphabet_of a) (λ ws. gives (core (words_atom ws)))) 0 s p → Holds s (record p { input = i; frames = fr }) (state.Word (record { count = 0; last = None; accent = None }) place a)
+module _ (p : Parser) (i : Input) (fr : Frames) (place : ℕ) (c : Context) (opened : fr.stack.items ≡ p.frames.stack.items ++ frame.Text ∷ []) (past : units_at i ≡ past_space (left_of p)) where
+  pub words_begin : (s : Start) → Begins (reads_words place (context_of c) (λ ws. gives (core (words_atom ws)))) 0 s p → Holds s (record p { input = i; frames = fr }) (state.Word (record { count = 0; last = None; accent = None }) place c)
   words_begin s g = record {
     style = g.style;
     claims = rw (opened, past, pushed s p.frames.stack.items frame.Text (elements_of p)) (words_due (λ ws. gives (core (words_atom ws))) g.leads);
   }
 
-  pub words_begin_step : CanBegin 0 p → Follows (to_do p + 13) (record p { input = i; frames = fr }) (state.Word (record { count = 0; last = None; accent = None }) place a)
+  pub words_begin_step : CanBegin 0 p → Follows (to_do p + 13) (record p { input = i; frames = fr }) (state.Word (record { count = 0; last = None; accent = None }) place c)
   words_begin_step can =
-      let fs = p.frames.stack.items in
-      let turned : reverse fr.stack.items ≡ frame.Text ∷ reverse fs = ap reverse opened ∙ reverse-append fs (frame.Text ∷ []) in
-      let brought : sum_by element_count fr.stack.items ≡ sum_by element_count fs + 0 = ap (sum_by element_count) opened ∙ sum_by_push element_count fs frame.Text in
-      let weight = ap (sum_by frame_weight) opened ∙ sum_by_push frame_weight fs frame.Text in
+      let made = pushed_can p fr frame.Text opened words_made 0 0 (omega arith) can search in
+      let weight = pushed_weight p fr frame.Text opened in
       let less = no_more_past_space (left_of p) in
-      record {
-        ready = record { elements = omega (arith, brought, can.elements); may_come = record { accepted = rw turned search; nested = rw turned search } };
-        falls = rw past (omega (arith, weight, less));
-      }
+      record { ready = record { elements = made.elements; may_come = record { accepted = made.awaits.accepted; nested = made.awaits.nested } }; falls = rw past (omega (arith, weight, less)) }
 
 -- Rules
 

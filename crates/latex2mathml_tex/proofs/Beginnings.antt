@@ -18,7 +18,7 @@ use Rattle.latex2mathml_tex.specs.Steps.{AwaitsAtom, BeginsDivider, BeginsUnit, 
 use Rattle.latex2mathml_tex_units.specs.declared.unit.Unit.{Unit as CodeUnit}
 use Rattle.latex2mathml_tex_atoms.specs.declared.atoms.Row.{Row as CodeRow}
 use Rattle.latex2mathml_tex.specs.declared.{parse.Parser.Parser, parse.scripts.Mark.Mark}
-use Rattle.latex2mathml_tex.specs.declared.parse.frames.Ending.{Ending}
+use Rattle.latex2mathml_tex.specs.declared.parse.endings.Ending.{Ending}
 use Rattle.latex2mathml_tex.specs.declared.parse.frames.Frame.TheVariants as frame
 use Rattle.latex2mathml_tex.specs.declared.parse.scripts.Mark.TheVariants as mark
 use Rattle.latex2mathml_attributes.specs.declared.attributes.Side.{Side}

@@ -14,7 +14,7 @@ use Rattle.latex2mathml_tex_atoms.specs.declared.{atoms.Context.Context, atoms.C
 use Rattle.latex2mathml_tex.specs.declared.parse.Parser.{Parser}
 use Rattle.latex2mathml_tex.specs.declared.parse.State.TheVariants as state
 use Rattle.latex2mathml_tex.specs.declared.parse.frames.Frame.{Frame}
-use Rattle.latex2mathml_tex.specs.declared.parse.frames.Ending.TheVariants as ending
+use Rattle.latex2mathml_tex.specs.declared.parse.endings.Ending.TheVariants as ending
 use Rattle.latex2mathml_tex.specs.declared.parse.frames.Frame.TheVariants as frame
 use Rattle.latex2mathml_tex.specs.declared.parse.frames.Last.TheVariants as last
 use Rattle.latex2mathml_tex.proofs.Leading.{given, operand_due}

@@ -1,6 +1,7 @@
 -- What holds of the parser in diagrams.
-use Rattle.std.proofs.Common.{◌≡◌, ◌∙◌, ◌+◌, ◌∷◌, ℕ, true, false, List, [], None, Some, ap, arith, drop, length, refl, subst, sym, take}
+use Rattle.std.proofs.Common.{◌≡◌, ◌∙◌, ◌+◌, ◌∷◌, ℕ, Bool, if◌then◌else◌, true, false, List, [], None, Some, ap, arith, drop, length, refl, subst, sym, take}
 use Rattle.std.proofs.lemmas.List.{drop-drop}
+use Rattle.std.specs.{Borrow.Bor, Str.byte}
 use Rattle.latex2mathml_elements.specs.Element.{Element}
 use Rattle.latex2mathml_builder.specs.Built.{Built, elements_in}
 use Rattle.latex2mathml_tex_commands.specs.{Diagrams.arrow_sign, Diagrams.diagram_arrow, Diagrams.direction_of, Meanings.style_of}
@@ -12,9 +13,10 @@ use Rattle.latex2mathml_tex_grammar.specs.Diagrams.{arrow_of, bare_arrow, before
 use Rattle.latex2mathml_tex_grammar.specs.{Makes.Core, Next.next_are, Refusal.IncompleteArrow, Refusal.refusal_at, Rows.lone, Rows.row_element, Symbols.InScript}
 use Rattle.latex2mathml_tex_grammar.specs.Reading.{Outcome, Read, Refused, ReadsRule, arrow_read, arrow_refused, no_arrow}
 use Rattle.latex2mathml_tex_grammar.specs.Rules as rules
-use Rattle.latex2mathml_tex_grammar.specs.Rules.{Rule, a_character, after_label, arrow_rule, gives, takes_if}
-use Rattle.latex2mathml_tex_grammar.specs.Starts.{BeginsArrow, cell_end}
-use Rattle.latex2mathml_tex_grammar.specs.Units.{Units}
+use Rattle.latex2mathml_tex_grammar.specs.Rules.{Rule, InCell, ByName, ByBrace, ByText, a_character, after_label, arrow_rule, gives, takes_if}
+use Rattle.latex2mathml_tex_grammar.specs.Starts as starts
+use Rattle.latex2mathml_tex_grammar.specs.Starts.{BeginsArrow, PartsCells, EndsRow, EndsTable, cell_end, is_character}
+use Rattle.latex2mathml_tex_grammar.specs.Units.{Piece, Space, Open, Close, Command, Character, Units}
 use Rattle.latex2mathml_tex_units.specs.{Left.units_at, Taking.piece_of}
 use Rattle.latex2mathml_tex_units.specs.declared.{input.Input.Input, unit.Unit.Unit}
 use Rattle.latex2mathml_tex_atoms.specs.Models.{context_of, empty_row, kind_of, top}
@@ -24,10 +26,14 @@ use Rattle.latex2mathml_tex.specs.Frames.{Start, behind_first_label, ending_coun
 use Rattle.latex2mathml_tex.specs.Innermost.{frame_context}
 use Rattle.latex2mathml_tex.specs.Levels.{CoreMade, Leads, Level, Refuses, RuleLeads}
 use Rattle.latex2mathml_tex.specs.Steps.{ClosesBefore, ClosesCell, GoesOnTable, InnermostIs, elements_of, left_of, level, level_within}
-use Rattle.latex2mathml_tex.specs.Tables.{ArrowMade, cell_context, cells_of, rows_of}
+use Rattle.latex2mathml_tex.specs.Tables.{ArrowMade, cell_context, cells_of, ended_by, rows_of, table_of}
 use Rattle.latex2mathml_tex.specs.declared.parse.Parser.{Parser}
-use Rattle.latex2mathml_tex.specs.declared.parse.frames.{Ending.Ending, Frame.Frame, Labeled.Labeled, Table.Table}
-use Rattle.latex2mathml_tex.specs.declared.parse.frames.Ending.TheVariants as ending
+use Rattle.latex2mathml_tex.specs.declared.parse.endings.{Ending.Ending, Labeled.Labeled, Table.Table, TableKind.TableKind}
+use Rattle.latex2mathml_tex.specs.declared.parse.endings.TableKind.TheVariants as kind
+use Rattle.latex2mathml_tex_units.specs.declared.environments.Environment.{Environment}
+use Rattle.latex2mathml_tex_grammar.proofs.OneList.{is_byte}
+use Rattle.latex2mathml_tex.specs.declared.parse.frames.Frame.{Frame}
+use Rattle.latex2mathml_tex.specs.declared.parse.endings.Ending.TheVariants as ending
 use Rattle.latex2mathml_tex.specs.declared.parse.frames.Frame.TheVariants as frame
 use Rattle.latex2mathml_tex_atoms.proofs.Wording.{drop_more, take_more}
 use Rattle.latex2mathml_tex.proofs.{Leading.given, Leading.not_taken, Leading.refused, Leading.row_due, Leading.taken, Marks.core_refuses, Opening.context_is, Tabled.goes_on}
@@ -53,6 +59,27 @@ makes s q a t place at rows cells ys style r c d due = record {
       (subst (λ k. ArrowDue a t place at (rows_of t (elements_of q)) k (inside s q.frames.stack.items ys) (left_of q)) (sym c)
       (subst (λ k. ArrowDue a t place at k cells (inside s q.frames.stack.items ys) (left_of q)) (sym r) due));
 }
+
+-- Only the cells of diagrams end with an at sign
+
+begins_arrow : (parts begins breaks : Bool) → BeginsArrow ≡ (if parts then PartsCells else if begins then BeginsArrow else if breaks then EndsRow else EndsTable) → begins ≡ true
+begins_arrow true begins breaks e = cc
+begins_arrow false true breaks e = refl
+begins_arrow false false true e = cc
+begins_arrow false false false e = cc
+
+at_sign : (piece : Piece) → is_character (byte "@") piece ≡ true → piece ≡ Character (byte "@")
+at_sign Space e = cc
+at_sign Open e = cc
+at_sign Close e = cc
+at_sign (Command name) e = cc
+at_sign (Character c) e = ap Character (sym (is_byte (byte "@") c e))
+
+pub only_diagrams : (k : TableKind) (place : ℕ) (piece : Piece) → ((e : Bor Environment) → k ≡ kind.Diagram e → ⊥) → BeginsArrow ≡ cell_end piece → starts.ends (InCell (ended_by k) place) piece ≡ true → ⊥
+only_diagrams (kind.Environment e columns) place piece none begins ends = (let same = ap (starts.ends (InCell ByName place)) (at_sign piece (begins_arrow _ _ _ begins)) in cc)
+only_diagrams (kind.Diagram e) place piece none begins ends = none e refl
+only_diagrams kind.Braces place piece none begins ends = (let same = ap (starts.ends (InCell ByBrace place)) (at_sign piece (begins_arrow _ _ _ begins)) in cc)
+only_diagrams (kind.Text columns) place piece none begins ends = (let same = ap (starts.ends (InCell ByText place)) (at_sign piece (begins_arrow _ _ _ begins)) in cc)
 
 -- A cell ends with an at sign
 
@@ -131,13 +158,13 @@ arrow_put s p b a t place at x put rule g =
 -- Labels
 
 -- the first label of an arrow is due
-pub first_label_due : (s : Start) (p : Parser) (b : Built) (k : Labeled) (at : ℕ) (f : Frame) (around small : Context) → InnermostIs f p → around ≡ frame_context f → small ≡ record around { style = style.InScript } → elements_in b ≡ bare_arrow (direction_of k.direction) ∷ elements_of p → (row : Row) → row ≡ empty_row → MakesArrow (arrow.Labeled k.direction) k.table k.place at s p → Leads (level_within (frame.Row (ending.FirstLabel k) at small row) 0 s (record p { builder = b })) (left_of p)
+pub first_label_due : (s : Start) (p : Parser) (b : Built) (k : Labeled) (at : ℕ) (f : Frame) (around small : Context) → InnermostIs f p → around ≡ frame_context f → small ≡ record around { style = style.InScript } → elements_in b ≡ bare_arrow (direction_of k.direction) ∷ elements_of p → (row : Row) → row ≡ empty_row → MakesArrow (arrow.Labeled k.direction) (table_of k.diagram) k.place at s p → Leads (level_within (frame.Row (ending.FirstLabel k) at small row) 0 s (record p { builder = b })) (left_of p)
 first_label_due s p b k at f around small inner is smaller put row none g =
     let d = direction_of k.direction in
-    let l = level (k.table.cells + k.table.rows) s p in
-    let same = ap context_of is ∙ context_is s p.style p.frames.stack.items f (drop (k.table.cells + k.table.rows) (elements_of p)) g.style inner in
+    let l = level (k.diagram.cells + k.diagram.rows) s p in
+    let same = ap context_of is ∙ context_is s p.style p.frames.stack.items f (drop (k.diagram.cells + k.diagram.rows) (elements_of p)) g.style inner in
     let within : context_of small ≡ rules.styled (context_at l) InScript = ap context_of smaller ∙ ap (λ (c : rules.Context). rules.styled c InScript) same in
-    let n = k.table.cells + k.table.rows in
+    let n = k.diagram.cells + k.diagram.rows in
     let xs = bare_arrow d ∷ elements_of p in
     let one : 0 + (1 + n) ≡ n + 1 = omega arith in
     let all : drop (0 + (1 + n)) xs ≡ drop n (elements_of p) = ap (λ m. drop m xs) one ∙ drop_more n (bare_arrow d) (elements_of p) in
@@ -155,7 +182,7 @@ module _ (s : Start) (p : Parser) (e : Ending) (at : ℕ) (own : Row) (u : Unit)
 pub second_label_due : (s : Start) (p : Parser) (b : Built) (k : Labeled) (at : ℕ) (own : Row) (u : Unit) (f : Frame) (around small : Context) → InnermostIs f p → around ≡ frame_context f → small ≡ record around { style = style.InScript } → elements_in b ≡ first_label (direction_of k.direction) (row_element (take own.count (elements_of p))) ∷ drop own.count (elements_of p) → (row : Row) → row ≡ empty_row → a_character (direction_sign (direction_of k.direction)) (piece_of u.piece) ≡ Some (direction_sign (direction_of k.direction) ∷ []) → ClosesBefore (ending.FirstLabel k) at own u s p → Leads (level_within (frame.Row (ending.SecondLabel k) at small row) 0 s (record p { builder = b })) (left_of p)
 second_label_due s p b k at own u f around small inner is smaller put row none sign g =
     let d = direction_of k.direction in
-    let n = k.table.cells + k.table.rows in
+    let n = k.diagram.cells + k.diagram.rows in
     let behind = drop own.count (elements_of p) in
     let l = level (own.count + (1 + n)) s p in
     let same = ap context_of is ∙ context_is s p.style p.frames.stack.items f (drop (own.count + (1 + n)) (elements_of p)) g.style inner in
@@ -167,9 +194,9 @@ second_label_due s p b k at own u f around small inner is smaller put row none s
     rw (none, put, within, all) (row_due (λ second. after_label at d (gives (joined_arrow d (top behind) x (row_element second.elements)))) (sign_follows s p (ending.FirstLabel k) at own u g (direction_sign d) g.leads sign))
 
 -- an arrow was made of its labels
-pub labels_joined : (s : Start) (p : Parser) (b : Built) (k : Labeled) (at : ℕ) (own : Row) (u : Unit) → let below = drop own.count (elements_of p) in elements_in b ≡ (joined_arrow (direction_of k.direction) (top (drop 1 below)) (top below) (row_element (take own.count (elements_of p)))).atom.element ∷ drop 2 below → a_character (direction_sign (direction_of k.direction)) (piece_of u.piece) ≡ Some (direction_sign (direction_of k.direction) ∷ []) → ClosesBefore (ending.SecondLabel k) at own u s p → GoesOnTable (record k.table { cells = k.table.cells + 1 }) k.place s (record p { builder = b })
+pub labels_joined : (s : Start) (p : Parser) (b : Built) (k : Labeled) (at : ℕ) (own : Row) (u : Unit) → let below = drop own.count (elements_of p) in elements_in b ≡ (joined_arrow (direction_of k.direction) (top (drop 1 below)) (top below) (row_element (take own.count (elements_of p)))).atom.element ∷ drop 2 below → a_character (direction_sign (direction_of k.direction)) (piece_of u.piece) ≡ Some (direction_sign (direction_of k.direction) ∷ []) → ClosesBefore (ending.SecondLabel k) at own u s p → GoesOnTable (table_of (record k.diagram { cells = k.diagram.cells + 1 })) k.place s (record p { builder = b })
 labels_joined s p b k at own u put sign g =
-    let t = k.table in
+    let t = table_of k.diagram in
     let n = t.cells + t.rows in
     let behind = drop own.count (elements_of p) in
     let others : drop n (drop 2 behind) ≡ drop (own.count + (2 + n)) (elements_of p) = drop-drop n 2 behind ∙ ap (λ m. drop m behind) (omega arith) ∙ drop-drop (2 + n) own.count (elements_of p) in

@@ -18,7 +18,7 @@ use Rattle.latex2mathml_tex_units.specs.declared.input.Input.{Input}
 use Rattle.latex2mathml_tex_atoms.specs.declared.{atoms.Core.Core as CodeCore, atoms.Row.Row as CodeRow}
 use Rattle.latex2mathml_tex.specs.declared.parse.Parser.{Parser}
 use Rattle.latex2mathml_tex.specs.declared.parse.State.TheVariants as state
-use Rattle.latex2mathml_tex.specs.declared.parse.frames.Ending.TheVariants as ending
+use Rattle.latex2mathml_tex.specs.declared.parse.endings.Ending.TheVariants as ending
 use Rattle.latex2mathml_tex.proofs.Leading.{delimited, given, undelimited}
 use Rattle.latex2mathml_tex_units.proofs.Nexts.{no_more_past_space, no_more_taken}
 use Rattle.latex2mathml_tex.proofs.Marks.{all_refuse, core_refuses}

@@ -19,7 +19,7 @@ use Rattle.latex2mathml_tex.specs.declared.parse.Parser.{Parser}
 use Rattle.latex2mathml_tex.specs.declared.parse.State.TheVariants as state
 use Rattle.latex2mathml_tex.specs.declared.parse.frames.{Braced.Braced, Frames.Frames}
 use Rattle.latex2mathml_tex.specs.declared.parse.frames.Braced.TheVariants as braced
-use Rattle.latex2mathml_tex.specs.declared.parse.frames.Ending.TheVariants as ending
+use Rattle.latex2mathml_tex.specs.declared.parse.endings.Ending.TheVariants as ending
 use Rattle.latex2mathml_tex.specs.declared.parse.frames.Frame.TheVariants as frame
 use Rattle.latex2mathml_tex.proofs.{NoAtom.row_closed, NoAtom.text_ended, Resting.row_finished}
 

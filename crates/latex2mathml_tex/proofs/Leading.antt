@@ -1,23 +1,23 @@
 -- Where what is due leads, step by step, whatever it is for.
-use Rattle.std.proofs.Common.{Bool, true, false, ◌≡◌, ℕ, IsTrue, IsFalse, List, [], ◌∷◌, Option, Some, None, refl, subst, sym}
+use Rattle.std.proofs.Common.{ap, Bool, true, false, ◌≡◌, ℕ, IsTrue, IsFalse, List, [], ◌∷◌, Option, Some, None, refl, subst, sym}
 use Rattle.latex2mathml_tex_grammar.specs.{Atoms.Atom, Delimiters.delimiter_of}
 use Rattle.latex2mathml_tex_grammar.specs.Makes.{Core, number, Scripts, no_scripts, scripted}
 use Rattle.latex2mathml_tex_grammar.specs.{Meaning.Beside, Meaning.Change, Next.past_space, Next.follows, Next.next_are, Next.digits_next, Next.refusal_here}
-use Rattle.latex2mathml_tex_grammar.specs.Reading.{Outcome, Read, Refused, ReadsRule, ReadsWords, rule_gives, rule_refuses, operand_read, operand_refused, core_read, core_refused, core_missing, core_stopped, atoms_read, atoms_refused, words_read, words_refused, units_taken, units_missing, unit_follows, no_unit_follows, digits_taken, delimiter_taken, delimiter_missing, group_operand, group_refused, digit_operand, other_operand, other_refused, no_operand, operand_at_end, operand_stopped, scripts_end, mark_taken, script_read, script_refused, mark_refused, ReadsAtom, on_empty_row, base_read, base_refused, text_ends, never_ended, atoms_stopped, atoms_end, atom_read, atom_refused, rest_read, change_refused, word_stands, group_of_words, formula_read, formula_refused, words_in_alphabet, no_word, word_missing, word_at_end, word_stopped, words_end, words_never_ended, words_stopped, word_read, word_refused, found_taken, found_refused, passed_over, rows_read, rows_refused, ReadsRows, rows_to_end}
+use Rattle.latex2mathml_tex_grammar.specs.Reading.{Outcome, Read, Refused, ReadsRule, ReadsWords, rule_gives, rule_refuses, operand_read, operand_refused, core_read, core_refused, core_missing, core_stopped, atoms_read, atoms_refused, words_read, words_refused, units_taken, units_missing, unit_follows, no_unit_follows, digits_taken, delimiter_taken, delimiter_missing, group_operand, group_refused, digit_operand, other_operand, other_refused, no_operand, operand_at_end, operand_stopped, scripts_end, mark_taken, script_read, script_refused, mark_refused, ReadsAtom, on_empty_row, base_read, base_refused, text_ends, never_ended, atoms_stopped, atoms_end, atom_read, atom_refused, rest_read, change_refused, word_stands, group_of_words, formula_read, formula_refused, words_in_alphabet, no_word, word_missing, word_at_end, word_stopped, words_end, words_never_ended, words_stopped, word_read, word_refused, words_resized, words_resized_refused, found_taken, found_refused, passed_over, rows_read, rows_refused, ReadsRows, rows_to_end}
 use Rattle.latex2mathml_tex_grammar.specs.Refusal.{Kind, MissingArgument, UnclosedBrace, MissingDelimiter, Refusal, refusal_at}
 use Rattle.latex2mathml_tex_grammar.specs.Rests.{Rest, GoesOnIn, NoRest, finished, rest_of}
 use Rattle.latex2mathml_tex_grammar.specs.Rows.{Operand, Row, empty_row, single}
-use Rattle.latex2mathml_tex_grammar.specs.Rules.{Context, in_context, styled, Ending, InBraces, InDollars, begun, Rule, gives, refuses, reads_operand, reads_core, reads_atoms, reads_words, takes_if, if_follows, takes_digits, takes_delimiter, rule, takes_found, passes_over, reads_rows, TableEnd}
+use Rattle.latex2mathml_tex_grammar.specs.Rules.{Context, formula_in_words, in_size, in_words, styled, Ending, InBraces, InDollars, begun, Rule, gives, refuses, reads_operand, reads_core, reads_atoms, reads_words, takes_if, if_follows, takes_digits, takes_delimiter, rule, takes_found, passes_over, reads_rows, TableEnd}
 use Rattle.latex2mathml_tex_grammar.specs.Starts.{ChangeStart, ScriptStart, RuleStart, NoStart, GroupStart, DigitStart, OtherStart, atom_start, operand_start, mark_of, GoesOn, TakesOperand, Forbidden, step_of_mark, step_next, empty_base, ends, unended, is_close, left_behind}
 use Rattle.latex2mathml_elements.specs.Columns.{Columns}
 use Rattle.latex2mathml_tex_grammar.specs.RowLines.{line_next, lined}
 use Rattle.latex2mathml_tex_grammar.specs.Scanning.{Spot, BeforeRow, Given, Missing, past, scan}
 use Rattle.latex2mathml_tex_grammar.specs.Tables.{Lines}
 use Rattle.latex2mathml_tex.specs.Tables.{RowsLead}
-use Rattle.latex2mathml_tex_grammar.specs.Symbols.{InText, InScript, Alphabet}
+use Rattle.latex2mathml_tex_grammar.specs.Symbols.{InScript, Alphabet, TextSize}
 use Rattle.latex2mathml_tex_grammar.specs.Units.{Piece, Unit, Units, Next, End, Stop}
-use Rattle.latex2mathml_tex_grammar.specs.Words.{formula_alphabet, Word, Words, no_words, with_accent_ended, with_word, IsWord, BeginsGroup, Changed, EndsGroup, BeginsFormula, TakesWords, NoWord, alphabet_behind, word_rule}
-use Rattle.latex2mathml_tex.specs.Levels.{AtomMade, CoreMade, FollowsChange, Leads, Level, PartMade, RestLeads, RuleLeads, ScriptsLead, Then, WordLeads, as_operand, as_words, row, operand, part, words}
+use Rattle.latex2mathml_tex_grammar.specs.Words.{Resized, Word, Words, no_words, with_accent_ended, with_word, IsWord, BeginsGroup, Changed, EndsGroup, BeginsFormula, TakesWords, NoWord, alphabet_behind, size_after, word_rule}
+use Rattle.latex2mathml_tex.specs.Levels.{AtomMade, CoreMade, FollowsChange, Leads, Level, PartMade, RestLeads, RuleLeads, ScriptsLead, Then, WordLeads, as_operand, as_resized, as_words, row, operand, part, words}
 use Rattle.latex2mathml_tex.specs.Levels.{core as core_level}
 
 -- A rule that leads somewhere
@@ -37,7 +37,7 @@ module _ {K : Outcome Core → Type 0} {l : Units} where
   row_due then k (Read x m) d = record { to = λ o ds. k.to o (atoms_read d ds) }
   row_due then k (Refused r) d = k.to _ (atoms_refused d)
 
-  pub words_due : {place : ℕ} {a : Option Alphabet} (then : Words → Rule) → RuleLeads (reads_words place a then) K l → WordLeads (part (Then then K)) place a no_words (past_space l)
+  pub words_due : {place : ℕ} {c : Context} (then : Words → Rule) → RuleLeads (reads_words place c then) K l → WordLeads (part (Then then K)) place c no_words (past_space l)
   words_due then k (Read ws m) d = record { to = λ o ds. k.to o (words_read d ds) }
   words_due then k (Refused r) d = k.to _ (words_refused d)
 
@@ -191,47 +191,52 @@ module _ {place : ℕ} {c : Context} {K : Outcome Core → Type 0} {l : Units} w
 
 -- Words
 
-module _ (level : Level) {place : ℕ} {a : Option Alphabet} {ws : Words} {l : Units} {u : Unit} where
-  pub word_given : {w : Word} → word_rule a u.piece ≡ IsWord w → WordLeads level place a ws (Next u l) → PartMade level (Read (with_word ws w) l)
+module _ (level : Level) {place : ℕ} {c : Context} {ws : Words} {l : Units} {u : Unit} where
+  pub word_given : {w : Word} → word_rule c.alphabet u.piece ≡ IsWord w → WordLeads level place c ws (Next u l) → PartMade level (Read (with_word ws w) l)
   word_given e k = k _ (word_stands e)
 
-  pub group_of_words_due : word_rule a u.piece ≡ BeginsGroup → WordLeads level place a ws (Next u l) → PartMade (words u.place a (PartMade level)) (Read ws l)
+  pub group_of_words_due : word_rule c.alphabet u.piece ≡ BeginsGroup → WordLeads level place c ws (Next u l) → PartMade (words u.place c (PartMade level)) (Read ws l)
   group_of_words_due e k = λ o d. k o (group_of_words e d)
 
-  pub formula_due : word_rule a u.piece ≡ BeginsFormula → WordLeads level place a ws (Next u l) → Leads (row (InDollars u.place) (in_context InText (formula_alphabet a)) (begun (InDollars u.place)) (λ o. PartMade level (as_words (with_accent_ended ws).elements o))) l
+  pub formula_due : word_rule c.alphabet u.piece ≡ BeginsFormula → WordLeads level place c ws (Next u l) → Leads (row (InDollars u.place) (formula_in_words c) (begun (InDollars u.place)) (λ o. PartMade level (as_words (with_accent_ended ws).elements o))) l
   formula_due e k (Read xs m) d = k _ (formula_read e d)
   formula_due e k (Refused r) d = k _ (formula_refused e d)
 
-  pub words_in_alphabet_due : {b : Option Alphabet} → word_rule a u.piece ≡ TakesWords b → WordLeads level place a ws (Next u l) → WordLeads level u.place b ws (past_space l)
+  pub words_in_alphabet_due : {a : Option Alphabet} → word_rule c.alphabet u.piece ≡ TakesWords a → WordLeads level place c ws (Next u l) → WordLeads level u.place (in_words c a) ws (past_space l)
   words_in_alphabet_due e k = λ o d. k o (words_in_alphabet e d)
 
-  pub word_refused_at : {kind : Kind} → word_rule a u.piece ≡ NoWord kind → WordLeads level place a ws (Next u l) → PartMade level (Refused (refusal_at kind u.place))
+  pub word_refused_at : {kind : Kind} → word_rule c.alphabet u.piece ≡ NoWord kind → WordLeads level place c ws (Next u l) → PartMade level (Refused (refusal_at kind u.place))
   word_refused_at e k = k _ (no_word e)
 
-  pub word_is_missing : word_rule a u.piece ≡ EndsGroup → WordLeads level place a ws (Next u l) → PartMade level (Refused (refusal_at MissingArgument place))
+  pub word_is_missing : word_rule c.alphabet u.piece ≡ EndsGroup → WordLeads level place c ws (Next u l) → PartMade level (Refused (refusal_at MissingArgument place))
   word_is_missing e k = k _ (word_missing e)
 
-pub word_ended : (level : Level) {place at : ℕ} {a : Option Alphabet} {ws : Words} → WordLeads level place a ws (End at) → PartMade level (Refused (refusal_at MissingArgument place))
+pub word_ended : (level : Level) {place at : ℕ} {c : Context} {ws : Words} → WordLeads level place c ws (End at) → PartMade level (Refused (refusal_at MissingArgument place))
 word_ended level k = k _ word_at_end
 
-pub word_halted : (level : Level) {place : ℕ} {a : Option Alphabet} {ws : Words} {r : Refusal} → WordLeads level place a ws (Stop r) → PartMade level (Refused r)
+pub word_halted : (level : Level) {place : ℕ} {c : Context} {ws : Words} {r : Refusal} → WordLeads level place c ws (Stop r) → PartMade level (Refused r)
 word_halted level k = k _ word_stopped
 
-module _ {place : ℕ} {a : Option Alphabet} {K : Outcome Words → Type 0} {ws : Words} where
-  pub words_ended : {u : Unit} {l : Units} → IsTrue (is_close u.piece) → PartMade (words place a K) (Read ws (Next u l)) → K (Read (with_accent_ended ws) l)
+module _ {place : ℕ} {c : Context} {K : Outcome Words → Type 0} {ws : Words} where
+  pub words_ended : {u : Unit} {l : Units} → IsTrue (is_close u.piece) → PartMade (words place c K) (Read ws (Next u l)) → K (Read (with_accent_ended ws) l)
   words_ended e k = k _ (words_end e)
 
-  pub words_unended : {at : ℕ} → PartMade (words place a K) (Read ws (End at)) → K (Refused (refusal_at UnclosedBrace place))
+  pub words_unended : {at : ℕ} → PartMade (words place c K) (Read ws (End at)) → K (Refused (refusal_at UnclosedBrace place))
   words_unended k = k _ words_never_ended
 
-  pub words_halted : {r : Refusal} → PartMade (words place a K) (Read ws (Stop r)) → K (Refused r)
+  pub words_halted : {r : Refusal} → PartMade (words place c K) (Read ws (Stop r)) → K (Refused r)
   words_halted k = k _ words_stopped
 
   -- another part of words is due, in the same alphabet as those after it
-  pub word_due : {u : Unit} {l : Units} → IsFalse (is_close u.piece) → alphabet_behind a u.piece ≡ a → PartMade (words place a K) (Read ws (Next u l)) → WordLeads (words place a K) place a ws (Next u l)
-  word_due e same k (Read vs m) d = λ o ds. k o (word_read e d (subst (λ b. ReadsWords place b vs m o) (sym same) ds))
-  word_due e same k (Refused r) d = k _ (word_refused e d)
+  pub word_due : {u : Unit} {l : Units} → IsFalse (is_close u.piece) → size_after (word_rule c.alphabet u.piece) ≡ None → alphabet_behind c.alphabet u.piece ≡ c.alphabet → PartMade (words place c K) (Read ws (Next u l)) → WordLeads (words place c K) place c ws (Next u l)
+  word_due e no_size same k (Read vs m) d = λ o ds. k o (word_read e no_size d (subst (λ a. ReadsWords place (in_words c a) vs m o) (sym same) ds))
+  word_due e no_size same k (Refused r) d = k _ (word_refused e no_size d)
 
   -- the words after a change are in its alphabet
-  pub changed_due : {u : Unit} {l : Units} {b : Alphabet} → IsFalse (is_close u.piece) → word_rule a u.piece ≡ IsWord (Changed (Some b)) → alphabet_behind a u.piece ≡ Some b → PartMade (words place a K) (Read ws (Next u l)) → PartMade (words place (Some b) K) (Read ws l)
-  changed_due {l = l} e rule behind k = λ o ds. k o (word_read e (word_stands rule) (subst (λ c. ReadsWords place c ws l o) (sym behind) ds))
+  pub changed_due : {u : Unit} {l : Units} {a : Alphabet} → IsFalse (is_close u.piece) → word_rule c.alphabet u.piece ≡ IsWord (Changed a) → alphabet_behind c.alphabet u.piece ≡ Some a → PartMade (words place c K) (Read ws (Next u l)) → PartMade (words place (in_words c (Some a)) K) (Read ws l)
+  changed_due {l = l} e rule behind k = λ o ds. k o (word_read e (ap size_after rule) (word_stands rule) (subst (λ a. ReadsWords place (in_words c a) ws l o) (sym behind) ds))
+
+  -- the words after a change of size are in that size
+  pub resized_due : {u : Unit} {l : Units} {size : TextSize} → word_rule c.alphabet u.piece ≡ IsWord (Resized size) → PartMade (words place c K) (Read ws (Next u l)) → PartMade (words place (in_size c size) (λ o. K (as_resized size c (with_accent_ended ws).elements o))) (Read no_words l)
+  resized_due rule k (Read vs m) d = k _ (words_resized (ap size_after rule) d)
+  resized_due rule k (Refused r) d = k _ (words_resized_refused (ap size_after rule) d)

@@ -31,8 +31,9 @@ use Rattle.latex2mathml_tex_atoms.specs.declared.{atoms.Context.Context, atoms.C
 use Rattle.latex2mathml_tex.specs.declared.{parse.Parser.Parser, parse.scripts.Mark.Mark}
 use Rattle.latex2mathml_tex_units.specs.declared.error.TexErrorKind.TheVariants as error
 use Rattle.latex2mathml_tex.specs.declared.parse.State.TheVariants as state
-use Rattle.latex2mathml_tex.specs.declared.parse.frames.{Ending.Ending, Frame.Frame}
-use Rattle.latex2mathml_tex.specs.declared.parse.frames.Ending.TheVariants as ending
+use Rattle.latex2mathml_tex.specs.declared.parse.endings.Ending.{Ending}
+use Rattle.latex2mathml_tex.specs.declared.parse.frames.Frame.{Frame}
+use Rattle.latex2mathml_tex.specs.declared.parse.endings.Ending.TheVariants as ending
 use Rattle.latex2mathml_tex.specs.declared.parse.frames.Frame.TheVariants as frame
 use Rattle.latex2mathml_tex.specs.declared.parse.scripts.Mark.TheVariants as mark
 use Rattle.latex2mathml_tex.proofs.Leading.{ScriptLeads, marked, script_due, script_twice}
@@ -80,7 +81,8 @@ module _ (r : Refusal) where
     frame_refuses (frame.Negation place c) xs k = on (core_refuses l k)
     frame_refuses (frame.Script base scripts side place c) xs k = on (atom_refuses l k)
     frame_refuses frame.Text xs k = on (core_refuses l k)
-    frame_refuses (frame.Words place a) xs k = on (part_refuses l k)
+    frame_refuses (frame.Words place c) xs k = on (part_refuses l k)
+    frame_refuses (frame.Resized n size c) xs k = on (part_refuses l k)
 
   pub all_refuse : (s : Start) (fs : List Frame) (xs : List Element) → Refuses (inside_all s fs xs) r → Whole s (Refused r)
   all_refuse s [] xs k = k

@@ -1,11 +1,11 @@
 -- Where no atom begins in a row: its ending is there, the text ends, or what is there is not a unit.
 use Rattle.std.specs.Prelude.{⊤}
-use Rattle.std.proofs.Common.{◌≡◌, ◌≢◌, refl, ◌∙◌, ℕ, suc, ◌+◌, ◌≤◌, true, Some, List, length, reverse, sum_by, Result, sym, ap, arith, subst}
+use Rattle.std.proofs.Common.{◌≡◌, refl, ◌∙◌, ℕ, suc, ◌+◌, ◌≤◌, true, Some, List, length, reverse, sum_by, Result, sym, ap, arith, subst}
 use Rattle.std.proofs.lemmas.{Bool.and_parts, List.Sums.sum_by_push}
 use Rattle.std.specs.declared.alloc.AllocError.{AllocError}
 use Rattle.latex2mathml_tex_grammar.specs.{Next.past_space, Reading.Refused, Refusal.Refusal}
 use Rattle.latex2mathml_tex_grammar.specs.Starts.{ends, left_behind}
-use Rattle.latex2mathml_tex_grammar.specs.Units.{Piece, Unit, Units, Next, End, Stop}
+use Rattle.latex2mathml_tex_grammar.specs.Units.{Unit, Units, Next, End, Stop}
 use Rattle.latex2mathml_tex_units.specs.{Errors.refusal_of, Left.put_back, Left.unit_count, Left.units_at, Taking.piece_of, Taking.unit_of}
 use Rattle.latex2mathml_tex_commands.specs.Meanings.{style_of}
 use Rattle.latex2mathml_tex.specs.Frames.{Start, Whole, element_count, ending_count, ending_of, within}
@@ -19,17 +19,14 @@ use Rattle.latex2mathml_tex_atoms.specs.declared.{atoms.Context.Context, atoms.R
 use Rattle.latex2mathml_tex.specs.declared.{parse.Parser.Parser, parse.State.State}
 use Rattle.latex2mathml_tex_units.specs.declared.unit.Next.TheVariants as next
 use Rattle.latex2mathml_tex.specs.declared.parse.State.TheVariants as state
-use Rattle.latex2mathml_tex.specs.declared.parse.frames.{Ending.Ending, Frame.Frame, Frames.Frames}
-use Rattle.latex2mathml_tex.specs.declared.parse.frames.Ending.TheVariants as ending
+use Rattle.latex2mathml_tex.specs.declared.parse.endings.Ending.{Ending}
+use Rattle.latex2mathml_tex.specs.declared.parse.frames.{Frame.Frame, Frames.Frames}
+use Rattle.latex2mathml_tex.specs.declared.parse.endings.Ending.TheVariants as ending
 use Rattle.latex2mathml_tex.specs.declared.parse.frames.Frame.TheVariants as frame
 use Rattle.latex2mathml_tex_grammar.proofs.Spaces.{next_stays}
 use Rattle.latex2mathml_tex.proofs.Leading.{row_ended, row_ends_text, row_stopped, row_unended}
 use Rattle.latex2mathml_tex_units.proofs.Nexts.{no_more_past_space}
 use Rattle.latex2mathml_tex.proofs.{Marks.all_refuse, Opening.into_frame, Opening.out_of_frame, Rows.others_await, Rows.step_within, Rows.weighed, Wording.one_innermost}
-
--- no unit ends the whole text
-pub no_text_ends : (e : Ending) (place : ℕ) (piece : Piece) → true ≡ ends (ending_of e place) piece → e ≢ ending.Text
-no_text_ends e place piece is same = let no : true ≡ ends (ending_of ending.Text place) piece = rw same at is in cc
 
 -- the elements of a row and of the frames around it are among those of all frames
 pub elements_left : (style : Style) (fs others : List Frame) (e : Ending) (place : ℕ) (c : Context) (row : CodeRow) (n : ℕ) → IsInnermost style fs (frame.Row e place c row) others → sum_by element_count fs + 0 ≤ n → sum_by element_count others + (row_count row + ending_count e) ≤ n

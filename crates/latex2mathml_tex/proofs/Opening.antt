@@ -39,7 +39,8 @@ entered s (frame.First one place c) xs l = refl
 entered s (frame.Negation place c) xs l = refl
 entered s (frame.Script base scripts on place c) xs l = refl
 entered s frame.Text xs l = refl
-entered s (frame.Words place a) xs l = refl
+entered s (frame.Words place c) xs l = refl
+entered s (frame.Resized n size c) xs l = refl
 
 pub context_is : (s : Start) (style : Style) (fs : List Frame) (f : Frame) (xs : List Element) → s.style ≡ style_of style → (others : List Frame) × IsInnermost style fs f others → context_of (frame_context f) ≡ context_at (inside s fs xs)
 context_is s style fs f xs e (others, i) = out_of_frame (λ l. context_of (frame_context f) ≡ context_at l) s style e fs others f xs i (entered s f xs _)
@@ -52,7 +53,8 @@ entered_behind s (frame.First one place c) xs l = refl
 entered_behind s (frame.Negation place c) xs l = refl
 entered_behind s (frame.Script base scripts on place c) xs l = refl
 entered_behind s frame.Text xs l = refl
-entered_behind s (frame.Words place a) xs l = refl
+entered_behind s (frame.Words place c) xs l = refl
+entered_behind s (frame.Resized n size c) xs l = refl
 
 pub before_is : (s : Start) (style : Style) (fs : List Frame) (f : Frame) (xs : List Element) → s.style ≡ style_of style → (others : List Frame) × IsInnermost style fs f others → before_of (frame_row f).1.before ≡ before_at (inside s fs xs)
 before_is s style fs f xs e (others, i) = out_of_frame (λ l. before_of (frame_row f).1.before ≡ before_at l) s style e fs others f xs i (entered_behind s f xs _)

@@ -1,5 +1,5 @@
 -- Where an operand, and an atom without scripts, lead within the innermost frame.
-use Rattle.std.proofs.Common.{◌≡◌, ◌⊎◌, inl, inr, ℕ, ◌+◌, ◌-◌, ◌≤◌, false, IsTrue, List, [], ◌∷◌, Option, drop, take, length, reverse, refl, sym, ap, ◌∙◌, subst, arith, pos}
+use Rattle.std.proofs.Common.{◌≡◌, ◌⊎◌, inl, inr, ℕ, ◌+◌, ◌-◌, ◌≤◌, false, IsTrue, List, [], ◌∷◌, drop, take, length, reverse, refl, sym, ap, ◌∙◌, subst, arith, pos}
 use Rattle.std.proofs.lemmas.List.{drop-drop, length-drop, length-take, reverse-append}
 use Rattle.latex2mathml_elements.specs.Element.{Element}
 use Rattle.latex2mathml_builder.specs.Built.{Built, elements_in}
@@ -18,8 +18,9 @@ use Rattle.latex2mathml_tex_atoms.specs.declared.{atoms.Context.Context, atoms.C
 use Rattle.latex2mathml_tex.specs.declared.parse.Parser.{Parser}
 use Rattle.latex2mathml_tex.specs.declared.parse.State.TheVariants as state
 use Rattle.latex2mathml_tex.specs.Innermost.{frame_context}
-use Rattle.latex2mathml_tex_commands.specs.declared.meaning.Alphabet.{Alphabet}
-use Rattle.latex2mathml_tex.specs.declared.parse.frames.{Ending.Ending, First.First, Frame.Frame, Frames.Frames, Last.Last}
+use Rattle.latex2mathml_tex_commands.specs.declared.meaning.TextSize.{TextSize}
+use Rattle.latex2mathml_tex.specs.declared.parse.endings.Ending.{Ending}
+use Rattle.latex2mathml_tex.specs.declared.parse.frames.{First.First, Frame.Frame, Frames.Frames, Last.Last}
 use Rattle.latex2mathml_tex.specs.declared.parse.frames.Frame.TheVariants as frame
 use Rattle.latex2mathml_tex.proofs.Opening.{into_frame, out_of_frame}
 
@@ -92,14 +93,15 @@ waits c f (inl (made, place, e)) = rw e refl
 waits c f (inr (inl (one, place, e))) = rw e refl
 waits c f (inr (inr (base, scripts, on, place, e))) = rw e refl
 
-pub others_wait : (f : Frame) → ((e : Ending) (place : ℕ) (c : Context) (row : CodeRow) → f ≡ frame.Row e place c row → ⊥) → ((place : ℕ) (c : Context) → f ≡ frame.Negation place c → ⊥) → (f ≡ frame.Text → ⊥) → ((place : ℕ) (a : Option Alphabet) → f ≡ frame.Words place a → ⊥) → WaitsIn (frame_context f) f
-others_wait (frame.Last made place c) no_row no_negation no_text no_words = refl
-others_wait (frame.First one place c) no_row no_negation no_text no_words = refl
-others_wait (frame.Script base scripts on place c) no_row no_negation no_text no_words = refl
-others_wait (frame.Row e place c row) no_row no_negation no_text no_words = absurd (no_row e place c row refl)
-others_wait (frame.Negation place c) no_row no_negation no_text no_words = absurd (no_negation place c refl)
-others_wait frame.Text no_row no_negation no_text no_words = absurd (no_text refl)
-others_wait (frame.Words place a) no_row no_negation no_text no_words = absurd (no_words place a refl)
+pub others_wait : (f : Frame) → ((e : Ending) (place : ℕ) (c : Context) (row : CodeRow) → f ≡ frame.Row e place c row → ⊥) → ((place : ℕ) (c : Context) → f ≡ frame.Negation place c → ⊥) → (f ≡ frame.Text → ⊥) → ((place : ℕ) (c : Context) → f ≡ frame.Words place c → ⊥) → ((n : ℕ) (size : TextSize) (c : Context) → f ≡ frame.Resized n size c → ⊥) → WaitsIn (frame_context f) f
+others_wait (frame.Last made place c) no_row no_negation no_text no_words no_resized = refl
+others_wait (frame.First one place c) no_row no_negation no_text no_words no_resized = refl
+others_wait (frame.Script base scripts on place c) no_row no_negation no_text no_words no_resized = refl
+others_wait (frame.Row e place c row) no_row no_negation no_text no_words no_resized = absurd (no_row e place c row refl)
+others_wait (frame.Negation place c) no_row no_negation no_text no_words no_resized = absurd (no_negation place c refl)
+others_wait frame.Text no_row no_negation no_text no_words no_resized = absurd (no_text refl)
+others_wait (frame.Words place c) no_row no_negation no_text no_words no_resized = absurd (no_words place c refl)
+others_wait (frame.Resized n size c) no_row no_negation no_text no_words no_resized = absurd (no_resized n size c refl)
 
 single_made : (s : Start) (others : List Frame) (f : Frame) (xs : List Element) (c : Context) (x : Core) (m : Units) → WaitsIn c f → CoreMade (within s others f xs) (Read x m) → OperandMade (within s others f xs) (Read (single (style_of c.style) x.atom) m)
 single_made s others (frame.Last made place d) xs c x m e k = rw (sym e) k

@@ -7,7 +7,8 @@ use Rattle.latex2mathml_tex_atoms.specs.Adding.{IsAdded}
 use Rattle.latex2mathml_tex_atoms.specs.declared.atoms.{Context.Context, Core.Core, Row.Row}
 use Rattle.latex2mathml_tex_commands.specs.declared.meaning.Style.{Style}
 use Rattle.latex2mathml_tex_commands.specs.declared.meaning.Style.TheVariants as style
-use Rattle.latex2mathml_tex.specs.declared.parse.frames.{Ending.Ending, Frame.Frame}
+use Rattle.latex2mathml_tex.specs.declared.parse.endings.Ending.{Ending}
+use Rattle.latex2mathml_tex.specs.declared.parse.frames.Frame.{Frame}
 use Rattle.latex2mathml_tex.specs.declared.parse.frames.Frame.TheVariants as frame
 
 pub replaced : (style : Style) (fs others : List Frame) (f g : Frame) → (length fs ≡ 0 → ⊥) → IsInnermost style fs f others → slice_set fs (length fs - 1) g ≡ others ++ g ∷ []

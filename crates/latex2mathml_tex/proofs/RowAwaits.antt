@@ -5,7 +5,7 @@ use Rattle.latex2mathml_tex_commands.specs.declared.meaning.Style.{Style}
 use Rattle.latex2mathml_tex_atoms.specs.declared.{atoms.Context.Context, atoms.Row.Row}
 use Rattle.latex2mathml_tex.specs.Innermost.{IsInnermost, none_begun, on_top}
 use Rattle.latex2mathml_tex.specs.Steps.{Awaits, CanBegin, atom_made, first_accepts}
-use Rattle.latex2mathml_tex.specs.declared.parse.{Parser.Parser, frames.Ending.Ending, frames.Frame.Frame}
+use Rattle.latex2mathml_tex.specs.declared.parse.{Parser.Parser, endings.Ending.Ending, frames.Frame.Frame}
 use Rattle.latex2mathml_tex.specs.declared.parse.frames.Frame.TheVariants as frame
 
 row_accepts : (style : Style) (fs others : List Frame) (e : Ending) (place : ℕ) (k : Context) (row : Row) → IsInnermost style fs (frame.Row e place k row) others → IsTrue (first_accepts atom_made (reverse fs))

@@ -25,7 +25,7 @@ use Rattle.latex2mathml_tex.specs.Steps.{Begins, BeginsIn, CanBegin, Follows, Ho
 use Rattle.latex2mathml_tex.specs.declared.parse.Parser.{Parser}
 use Rattle.latex2mathml_tex.specs.declared.parse.State.TheVariants as state
 use Rattle.latex2mathml_tex.specs.Levels.{Leads}
-use Rattle.latex2mathml_tex.specs.declared.parse.frames.Ending.TheVariants as ending
+use Rattle.latex2mathml_tex.specs.declared.parse.endings.Ending.TheVariants as ending
 use Rattle.latex2mathml_tex.specs.declared.parse.frames.Frame.TheVariants as frame
 use Rattle.latex2mathml_tex.proofs.{Beginning.group_begins, Beginning.unit_begins, Beginnings.rule_begun, Operands.core_in_row, Putting.past_digits, Putting.past_none, Putting.put_held, RowAwaits.row_awaits}
 

@@ -13,7 +13,7 @@ use Rattle.latex2mathml_attributes.specs.Columns.{are_in_diagram, columns_of}
 use Rattle.latex2mathml_attributes.specs.declared.columns.Columns.{Columns as CodeColumns}
 use Rattle.latex2mathml_attributes.specs.{Names.math_style_of, declared.attributes.MathStyle.MathStyle}
 use Rattle.latex2mathml_tex_grammar.specs.{Atoms.Plain, Atoms.atom, Makes.core, Refusal.Refusal}
-use Rattle.latex2mathml_tex_grammar.specs.Rules.{ByBrace, ByName, ByText, OfDiagram, TableEnd, Context as RuleContext, end_in, Rule, ended_table, gives, passes_over, reads_rows, rows_of_text, rows_rule, styled, takes_found}
+use Rattle.latex2mathml_tex_grammar.specs.Rules.{ByBrace, ByName, ByText, TableEnd, Context as RuleContext, end_in, Rule, ended_table, gives, passes_over, reads_rows, rows_of_text, rows_rule, styled, takes_found}
 use Rattle.latex2mathml_tex_grammar.specs.Scanning.{BeforeArgument, BeforeRow, Name, Spot, past, past_break}
 use Rattle.latex2mathml_tex_grammar.specs.Symbols as symbols
 use Rattle.latex2mathml_tex_grammar.specs.Tables.{Lines, a_table, between_any, height_of, rows_of, rows_onto, said_style, table_class}
@@ -36,7 +36,7 @@ use Rattle.latex2mathml_tex.specs.declared.parse.State.TheVariants as state
 use Rattle.latex2mathml_tex.proofs.Leading.{found, given, not_found, passed, rows_due}
 use Rattle.latex2mathml_tex_units.proofs.Scanned.{no_more_past, no_more_past_break, no_more_scanned}
 use Rattle.latex2mathml_tex.proofs.{Marks.all_refuse, Marks.core_refuses, Rows.refused_within, Rows.step_within, Opening.context_is}
-use Rattle.latex2mathml_tex.specs.declared.parse.frames.TableKind.TheVariants as kind
+use Rattle.latex2mathml_tex.specs.declared.parse.endings.TableKind.TheVariants as kind
 
 -- A formula that is refused without the n uppermost elements
 pub refused_at : (s : Start) (p q : Parser) (n : ℕ) (r : Refusal) → q.style ≡ p.style → refusal_of q.refusal ≡ Some r → s.style ≡ style_of p.style → Refuses (level n s p) r → Holds s q state.Refused
@@ -100,47 +100,48 @@ passed_step p i spot n m new st answer units h step =
 -- Rows begin
 
 -- columns are those of a diagram, or they are not
-diagram_ends : (columns : Columns) → are_in_diagram columns ≡ true → end_in columns ≡ OfDiagram
-diagram_ends InDiagram h = refl
-diagram_ends columns h = cc
+the_columns : (columns : Columns) → are_in_diagram columns ≡ true → columns ≡ InDiagram
+the_columns InDiagram h = refl
+the_columns columns h = cc
 
 name_ends : (columns : Columns) → are_in_diagram columns ≡ false → end_in columns ≡ ByName
 name_ends InDiagram h = cc
 name_ends columns h = refl
 
 module _ (s : Start) (p : Parser) (e : Bor Environment) (columns : CodeColumns) (place : ℕ) (c : Context) (g : BeginsIn c (rows_rule place (context_of c) e.now.name.now (environment_of e.now) (columns_of columns)) 0 s p) where
-  abbrev rows_by : TableEnd → Rule
-  rows_by end = reads_rows end place (columns_of columns) (styled (context_at (level 0 s p)) (environment_of e.now).style) (behind_environment e.now (columns_of columns) (context_at (level 0 s p)))
+  abbrev rows_by : TableEnd → Columns → Rule
+  rows_by end columns = reads_rows end place columns (styled (context_at (level 0 s p)) (environment_of e.now).style) (behind_environment e.now columns (context_at (level 0 s p)))
 
-  rows_lead : (end : TableEnd) → end_in (columns_of columns) ≡ end → RuleLeads (rows_by end) (CoreMade (level 0 s p)) (left_of p)
-  rows_lead end is =
-      subst (λ k. RuleLeads (rows_by k) (CoreMade (level 0 s p)) (left_of p)) is
-      (subst (λ c. RuleLeads (rows_rule place c e.now.name.now (environment_of e.now) (columns_of columns)) (CoreMade (level 0 s p)) (left_of p)) g.context g.leads)
+  rows_lead : RuleLeads (rows_by (end_in (columns_of columns)) (columns_of columns)) (CoreMade (level 0 s p)) (left_of p)
+  rows_lead = subst (λ c. RuleLeads (rows_rule place c e.now.name.now (environment_of e.now) (columns_of columns)) (CoreMade (level 0 s p)) (left_of p)) g.context g.leads
 
-  pub rows_begin : are_in_diagram (columns_of columns) ≡ false → BeginsTable (kind.Environment e) columns place s p
-  rows_begin none = record { style = g.style; leads = λ o d. rows_due (after_rows (kind.Environment e) (columns_of columns) (context_at (level 0 s p))) (rows_lead ByName (name_ends (columns_of columns) none)) o d }
+  pub rows_begin : are_in_diagram (columns_of columns) ≡ false → BeginsTable (kind.Environment e columns) place s p
+  rows_begin none =
+      let k = subst (λ end. RuleLeads (rows_by end (columns_of columns)) (CoreMade (level 0 s p)) (left_of p)) (name_ends (columns_of columns) none) rows_lead in
+      record { style = g.style; leads = λ o d. rows_due (after_rows (kind.Environment e columns) (context_at (level 0 s p))) k o d }
 
-  pub diagram_begins : are_in_diagram (columns_of columns) ≡ true → BeginsTable (kind.Diagram e) columns place s p
-  diagram_begins some = record { style = g.style; leads = λ o d. rows_due (after_rows (kind.Diagram e) (columns_of columns) (context_at (level 0 s p))) (rows_lead OfDiagram (diagram_ends (columns_of columns) some)) o d }
+  pub diagram_begins : are_in_diagram (columns_of columns) ≡ true → BeginsTable (kind.Diagram e) place s p
+  diagram_begins some =
+      let k = subst (λ d. RuleLeads (rows_by (end_in d) d) (CoreMade (level 0 s p)) (left_of p)) (the_columns (columns_of columns) some) rows_lead in
+      record { style = g.style; leads = λ o d. rows_due (after_rows (kind.Diagram e) (context_at (level 0 s p))) k o d }
 
-pub substack_begins : (s : Start) (p : Parser) (columns : CodeColumns) (place : ℕ) (c : Context) → columns_of columns ≡ Alike Dense Centered → BeginsIn c (reads_rows ByBrace place (Alike Dense Centered) (styled (context_of c) symbols.InScript) (λ lines end. gives (a_table None (Alike Dense Centered) symbols.InScript (context_of c).style lines))) 0 s p → BeginsTable kind.Braces columns place s p
-substack_begins s p columns place c dense g =
+pub substack_begins : (s : Start) (p : Parser) (place : ℕ) (c : Context) → BeginsIn c (reads_rows ByBrace place (Alike Dense Centered) (styled (context_of c) symbols.InScript) (λ lines end. gives (a_table None (Alike Dense Centered) symbols.InScript (context_of c).style lines))) 0 s p → BeginsTable kind.Braces place s p
+substack_begins s p place c g =
     let around = context_at (level 0 s p) in
-    let j = subst (λ c. RuleLeads (reads_rows ByBrace place (Alike Dense Centered) (styled c symbols.InScript) (λ lines end. gives (a_table None (Alike Dense Centered) symbols.InScript c.style lines))) (CoreMade (level 0 s p)) (left_of p)) g.context g.leads in
-    let k = subst (λ d. RuleLeads (reads_rows ByBrace place d (styled around symbols.InScript) (λ lines end. gives (a_table None d symbols.InScript around.style lines))) (CoreMade (level 0 s p)) (left_of p)) (sym dense) j in
-    record { style = g.style; leads = λ o d. rows_due (after_rows kind.Braces (columns_of columns) around) k o d }
+    let k = subst (λ c. RuleLeads (reads_rows ByBrace place (Alike Dense Centered) (styled c symbols.InScript) (λ lines end. gives (a_table None (Alike Dense Centered) symbols.InScript c.style lines))) (CoreMade (level 0 s p)) (left_of p)) g.context g.leads in
+    record { style = g.style; leads = λ o d. rows_due (after_rows kind.Braces around) k o d }
 
 -- rows of a whole text
-pub text_begins : (s : Start) (p : Parser) (columns : CodeColumns) (place : ℕ) (d : Columns) → columns_of columns ≡ d → place ≡ 0 → Begins (rows_of_text d (context_at (level 0 s p))) 0 s p → BeginsTable kind.Text columns place s p
+pub text_begins : (s : Start) (p : Parser) (columns : CodeColumns) (place : ℕ) (d : Columns) → columns_of columns ≡ d → place ≡ 0 → Begins (rows_of_text d (context_at (level 0 s p))) 0 s p → BeginsTable (kind.Text columns) place s p
 text_begins s p columns place d is first g =
     let around = context_at (level 0 s p) in
     let k = subst (λ e. RuleLeads (reads_rows ByText 0 e (styled around symbols.InDisplay) (λ lines end. gives (a_table None e symbols.InDisplay around.style lines))) (CoreMade (level 0 s p)) (left_of p)) (sym is) g.leads in
     let j = subst (λ n. RuleLeads (reads_rows ByText n (columns_of columns) (styled around symbols.InDisplay) (λ lines end. gives (a_table None (columns_of columns) symbols.InDisplay around.style lines))) (CoreMade (level 0 s p)) (left_of p)) (sym first) k in
-    record { style = g.style; leads = λ o d. rows_due (after_rows kind.Text (columns_of columns) around) j o d }
+    record { style = g.style; leads = λ o d. rows_due (after_rows (kind.Text columns) around) j o d }
 
 -- An environment ends with its own name
 
-pub ended_well : (p q : Parser) (e : Bor Environment) (columns : CodeColumns) (rows at : ℕ) (text : List ℕ) → TookText at (BeforeArgument Name) p q (Some text) → (s : Start) → bytes_eq text e.now.name.now ≡ true → EndsRows (kind.Environment e) columns rows at s p → MakesTable e.now.delimiters columns e.now.style rows s q
+pub ended_well : (p q : Parser) (e : Bor Environment) (columns : CodeColumns) (rows at : ℕ) (text : List ℕ) → TookText at (BeforeArgument Name) p q (Some text) → (s : Start) → bytes_eq text e.now.name.now ≡ true → EndsRows (kind.Environment e columns) rows at s p → MakesTable e.now.delimiters columns e.now.style rows s q
 ended_well p q e columns rows at text took s same g =
     let around = context_at (level rows s p) in
     let then : List ℕ → Rule = λ other. ended_table at around (environment_of e.now) (columns_of columns) g.lines (bytes_eq other e.now.name.now) in

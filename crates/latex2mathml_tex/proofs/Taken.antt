@@ -1,18 +1,19 @@
 -- What holds of the parser where its innermost frame is taken off, and where a frame is pushed.
 use Rattle.std.specs.Prelude.{⊤}
-use Rattle.std.proofs.Common.{◌≡◌, ◌∙◌, ◌+◌, ◌≤◌, ◌&&◌, ◌++◌, ℕ, Bool, IsTrue, List, Option, Result, [], ◌∷◌, ap, arith, drop, false, refl, reverse, subst, sum_by, sym, take, true}
+use Rattle.std.proofs.Common.{◌≡◌, ◌∙◌, ◌+◌, ◌≤◌, ◌&&◌, ◌++◌, ℕ, Bool, IsTrue, List, Result, [], ◌∷◌, ap, arith, drop, false, refl, reverse, subst, sum_by, sym, take, true}
 use Rattle.std.proofs.lemmas.{Bool.and_parts, List.reverse-append, List.Sums.sum_by_push}
 use Rattle.std.specs.declared.alloc.AllocError.{AllocError}
-use Rattle.latex2mathml_tex_grammar.specs.{Makes.core, Makes.struck, Reading.Read, Rules.gives, Rules.struck_atom}
+use Rattle.latex2mathml_tex_grammar.specs.{Makes.core, Makes.struck, Reading.Read, Rests.with_resized, Rules.gives, Rules.struck_atom}
 use Rattle.latex2mathml_builder.specs.Built.{Built, elements_in}
 use Rattle.latex2mathml_tex_grammar.specs.Words as words
 use Rattle.latex2mathml_tex_grammar.specs.Words.{text_atom, with_accent_ended}
 use Rattle.latex2mathml_tex_atoms.specs.Wording.{Replaced}
-use Rattle.latex2mathml_tex_atoms.specs.Models.{core_with, top, words_with}
+use Rattle.latex2mathml_tex_atoms.specs.Models.{context_of, core_with, top, words_with}
 use Rattle.latex2mathml_tex.specs.{Frames.Start, Frames.element_count, Innermost.IsInnermost, Innermost.none_begun, Innermost.on_top}
 use Rattle.latex2mathml_tex.specs.Levels.{CoreMade, PartMade}
 use Rattle.latex2mathml_tex.specs.Steps.{Advances, Begins, CanMake, Follows, HasElements, Holds, Made, accepts, are_nested, elements_of, first_accepts, frame_weight, left_of, makes, to_do, words_made}
-use Rattle.latex2mathml_tex_commands.specs.declared.meaning.{Alphabet.Alphabet, Style.Style}
+use Rattle.latex2mathml_tex_commands.specs.declared.meaning.{Style.Style, TextSize.TextSize}
+use Rattle.latex2mathml_tex_commands.specs.Meanings.{text_size_of}
 use Rattle.latex2mathml_tex_atoms.specs.declared.atoms.{Context.Context, Core.Core, Words.Words}
 use Rattle.latex2mathml_tex.specs.declared.parse.{Parser.Parser, State.State, frames.Frame.Frame, frames.Frames.Frames}
 use Rattle.latex2mathml_tex.specs.declared.parse.State.TheVariants as state
@@ -57,6 +58,16 @@ module _ (p : Parser) (fr : Frames) (f : Frame) (inner : IsInnermost p.style p.f
         leads = rw (elements, ended.below) (into_frame (λ l. PartMade l (Read (words_with ws (elements_of p)) (left_of p))) s p.style h.style p.frames.stack.items fr.stack.items frame.Text (drop ws.count (elements_of p)) within h.claims);
       }
 
+  -- words behind a change of size follow those before it
+  pub resized_taken : (s : Start) (b : Built) (ws after : Words) (n : ℕ) (size : TextSize) (c : Context) → f ≡ frame.Resized n size c → words_with after (elements_in b) ≡ with_resized (text_size_of size) (context_of c) (take n (drop ws.count (elements_of p))) (take ws.count (elements_of p)) → drop after.count (elements_in b) ≡ drop n (drop ws.count (elements_of p)) → Holds s p (state.Words ws)
+      → Holds s (record p { frames = fr; builder = b }) (state.Words after)
+  resized_taken s b ws after n size c is same below h =
+      let within = subst (λ f. IsInnermost p.style p.frames.stack.items f fr.stack.items) is inner in
+      record {
+        style = h.style;
+        claims = rw (same, below) (into_frame (λ l. PartMade l (Read (words_with ws (elements_of p)) (left_of p))) s p.style h.style p.frames.stack.items fr.stack.items (frame.Resized n size c) (drop ws.count (elements_of p)) within h.claims);
+      }
+
   -- what is to be negated is struck through
   pub negation_taken : (s : Start) (place : ℕ) (context : Context) (c : Core) → f ≡ frame.Negation place context → Holds s p (state.Core c) → Begins (struck_atom place (core_with c (top (elements_of p))) (struck (top (elements_of p)))) 1 s (record p { frames = fr })
   negation_taken s place context c is h =
@@ -88,8 +99,8 @@ module _ (p : Parser) (fr : Frames) (f : Frame) (same : fr.stack.items ≡ p.fra
   pushed_weight = ap (sum_by frame_weight) same ∙ sum_by_push frame_weight p.frames.stack.items f
 
 -- braces were opened in a text
-pub braces_opened_step : (p : Parser) (fr : Frames) (place : ℕ) (a : Option Alphabet) (ws : Words) → fr.stack.items ≡ p.frames.stack.items ++ frame.Words place a ∷ [] → CanMake words_made ws.count p → Follows (to_do p + 13) (record p { frames = fr }) (state.Words ws)
-braces_opened_step p fr place a ws same can =
-    let made = pushed_can p fr (frame.Words place a) same words_made ws.count ws.count (omega arith) can search in
-    let brought = pushed_weight p fr (frame.Words place a) same in
+pub braces_opened_step : (p : Parser) (fr : Frames) (place : ℕ) (c : Context) (ws : Words) → fr.stack.items ≡ p.frames.stack.items ++ frame.Words place c ∷ [] → CanMake words_made ws.count p → Follows (to_do p + 13) (record p { frames = fr }) (state.Words ws)
+braces_opened_step p fr place c ws same can =
+    let made = pushed_can p fr (frame.Words place c) same words_made ws.count ws.count (omega arith) can search in
+    let brought = pushed_weight p fr (frame.Words place c) same in
     record { ready = record { elements = made.elements; may_come = made.awaits }; falls = omega (arith, brought) }

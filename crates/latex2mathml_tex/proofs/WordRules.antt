@@ -1,5 +1,5 @@
 -- What characters and commands are in words, and what holds of the parser after them.
-use Rattle.std.proofs.Common.{◌≡◌, ◌==◌, ◌+◌, ◌||◌, ◌++◌, ◌∷◌, [], Bool, ℕ, ℤ, true, false, drop, Err, List, Ok, Option, Result, Some, option_map, refl, subst, sym, take, ap, arith}
+use Rattle.std.proofs.Common.{None, ◌≡◌, ◌==◌, ◌+◌, ◌||◌, ◌++◌, ◌∷◌, [], Bool, ℕ, ℤ, true, false, drop, Err, List, Ok, Option, Result, Some, refl, subst, sym, take, ap, arith}
 use Rattle.std.proofs.lemmas.Bool.Decides.{nat_tests}
 use Rattle.std.specs.Prelude.{OnOk, ⊤}
 use Rattle.std.specs.Str.{byte}
@@ -11,13 +11,13 @@ use Rattle.latex2mathml_tex_grammar.specs.Units.{Character, Command, Open, Piece
 use Rattle.latex2mathml_builder.specs.Built.{Built, elements_in}
 use Rattle.latex2mathml_tex_atoms.specs.Wording.{Replaced}
 use Rattle.latex2mathml_tex_grammar.specs.Words as words
-use Rattle.latex2mathml_tex_grammar.specs.Words.{with_accent_ended, BeginsFormula, IsWord, NoWord, Shown, alphabet_after, font_in, formula_alphabet, meaning_rule, word_character, word_rule, word_space}
+use Rattle.latex2mathml_tex_grammar.specs.Words.{with_accent_ended, BeginsFormula, IsWord, NoWord, Shown, alphabet_after, font_in, meaning_rule, size_after, word_character, word_rule, word_space}
 use Rattle.latex2mathml_tex_units.specs.Errors.{refusal_of}
-use Rattle.latex2mathml_tex_commands.specs.Meanings.{alphabet_of}
+use Rattle.latex2mathml_tex_grammar.specs.Rules.{Context, formula_in_words}
 use Rattle.latex2mathml_tex.specs.{Frames.Start, Levels.Leads, Levels.PartMade, WordCommands.rule_of}
-use Rattle.latex2mathml_tex.specs.declared.parse.word_commands.WordCommand.{WordCommand}
+use Rattle.latex2mathml_tex.specs.declared.parse.word_commands.{WordChange.WordChange, WordCommand.WordCommand}
 use Rattle.latex2mathml_tex.specs.declared.parse.word_commands.WordCommand.TheVariants as word_command
-use Rattle.latex2mathml_tex_atoms.specs.Models.{begun, usual_context, words_with}
+use Rattle.latex2mathml_tex_atoms.specs.Models.{begun, context_of, words_with}
 use Rattle.latex2mathml_tex_commands.specs.Meanings
 use Rattle.latex2mathml_tex.specs.Steps.{BeginsWordOf, GoesOnInBraces, HasElements, Holds, Advances, elements_of, left_of, level, level_within}
 use Rattle.latex2mathml_tex_atoms.specs.declared.{atoms.Context.Context as CodeContext, atoms.Row.Row as CodeRow, atoms.Words.Words as CodeWords}
@@ -25,9 +25,8 @@ use Rattle.latex2mathml_tex.specs.declared.{parse.Parser.Parser, parse.State.Sta
 use Rattle.latex2mathml_tex_commands.specs.declared.meaning.{Alphabet.Alphabet as CodeAlphabet, Meaning.Meaning as CodeMeaning, Symbol.Symbol as CodeSymbol, TextSize.TextSize}
 use Rattle.latex2mathml_tex_commands.specs.declared.meaning.Change.TheVariants as code_change
 use Rattle.latex2mathml_tex_commands.specs.declared.meaning.Meaning.TheVariants as code_meaning
-use Rattle.latex2mathml_tex_commands.specs.declared.meaning.Style.TheVariants as code_style
 use Rattle.latex2mathml_tex.specs.declared.parse.State.TheVariants as state
-use Rattle.latex2mathml_tex.specs.declared.parse.frames.Ending.TheVariants as ending
+use Rattle.latex2mathml_tex.specs.declared.parse.endings.Ending.TheVariants as ending
 use Rattle.latex2mathml_tex.specs.declared.parse.frames.Frame.TheVariants as frame
 use Rattle.latex2mathml_tex.proofs.Leading.{formula_due, group_of_words_due}
 use Rattle.latex2mathml_tex.proofs.{Opening.pushed, Rows.refused_step, Wording.no_part}
@@ -54,23 +53,27 @@ no_word_meant font name (code_meaning.Changes (code_change.ToAlphabet b)) none =
 no_word_meant font name (code_meaning.Changes (code_change.ToSize size)) none = absurd (none.no_size size refl)
 no_word_meant font name m none = refl
 
--- most commands change no alphabet
-pub kept_by : (a : Option Alphabet) (font : words.Font) (name : List ℕ) (w : WordCommand) → ((b : CodeAlphabet) → w ≡ word_command.Change (Some b) → ⊥) → alphabet_after a (rule_of font name w) ≡ a
-kept_by a font name (word_command.Change (Some b)) none = absurd (none b refl)
+-- most commands change neither the alphabet nor the size
+pub kept_by : (a : Option Alphabet) (font : words.Font) (name : List ℕ) (w : WordCommand) → ((change : WordChange) → w ≡ word_command.Change change → ⊥) → alphabet_after a (rule_of font name w) ≡ a
+kept_by a font name (word_command.Change change) none = absurd (none change refl)
 kept_by a font name w none = refl
+
+pub no_size_by : (font : words.Font) (name : List ℕ) (w : WordCommand) → ((change : WordChange) → w ≡ word_command.Change change → ⊥) → size_after (rule_of font name w) ≡ None
+no_size_by font name (word_command.Change change) none = absurd (none change refl)
+no_size_by font name w none = refl
 
 -- a command that cannot appear in words is refused, if there is memory for its name
 module _ (p q : Parser) (same : q ≡ record p { refusal = q.refusal }) where
   abbrev pub IsRefused : State → Result ⊤ AllocError → Type 0
   IsRefused st answer = OnOk answer (st ≡ state.Refused)
 
-  pub command_refused : (s : Start) (ws : CodeWords) (name : List ℕ) (place : ℕ) (a : Option Alphabet) (st : State) (answer : Result ⊤ AllocError) → IsRefused st answer
+  pub command_refused : (s : Start) (ws : CodeWords) (name : List ℕ) (place : ℕ) (c : Context) (st : State) (answer : Result ⊤ AllocError) → IsRefused st answer
       → OnOk answer (refusal_of q.refusal ≡ Some (refusal_at (CommandInWords name) place))
-      → word_rule a (Command name) ≡ NoWord (CommandInWords name) → BeginsWordOf ws (Command name) place a s p → OnOk answer (Holds s q st)
-  command_refused s ws name place a st (Ok u) is reason rule g =
+      → word_rule c.alphabet (Command name) ≡ NoWord (CommandInWords name) → BeginsWordOf ws (Command name) place c s p → OnOk answer (Holds s q st)
+  command_refused s ws name place c st (Ok u) is reason rule g =
       let style = ap {A = Parser} (λ q. q.style) same in
-      rw is (no_part s p ws (Command name) place a q (CommandInWords name) style reason rule g)
-  command_refused s ws name place a st (Err e) is reason rule g = is
+      rw is (no_part s p ws (Command name) place c q (CommandInWords name) style reason rule g)
+  command_refused s ws name place c st (Err e) is reason rule g = is
 
   pub command_step : (n : ℕ) (st : State) (answer : Result ⊤ AllocError) → IsRefused st answer → HasElements n p → Advances 13 p q st answer
   command_step n st (Ok u) is enough = refused_step p q p.input q.refusal st same is (omega arith) (omega (arith, enough))
@@ -103,23 +106,23 @@ module _ (a : Option Alphabet) (c : ℕ) where
 
 module _ (s : Start) (p : Parser) (ws : CodeWords) (place : ℕ) where
   -- words in braces
-  pub group_begun : {a : Option Alphabet} → BeginsWordOf ws Open place a s p → GoesOnInBraces ws place a s p
+  pub group_begun : {c : Context} → BeginsWordOf ws Open place c s p → GoesOnInBraces ws place c s p
   group_begun g = record { style = g.style; leads = group_of_words_due (level ws.count s p) {u = grammar.unit Open place} refl g.leads }
 
   -- their frame
-  pub braces_held : (a : Option CodeAlphabet) (fr : Frames) → fr.stack.items ≡ p.frames.stack.items ++ frame.Words place a ∷ [] → GoesOnInBraces ws place (option_map alphabet_of a) s p → Holds s (record p { frames = fr }) (state.Words ws)
-  braces_held a fr e g =
+  pub braces_held : (c : CodeContext) (fr : Frames) → fr.stack.items ≡ p.frames.stack.items ++ frame.Words place c ∷ [] → GoesOnInBraces ws place (context_of c) s p → Holds s (record p { frames = fr }) (state.Words ws)
+  braces_held c fr e g =
       let xs = drop ws.count (elements_of p) in
       record {
         style = g.style;
-        claims = rw e (subst (λ l. PartMade l (Read (words_with ws (elements_of p)) (left_of p))) (sym (pushed s p.frames.stack.items (frame.Words place a) xs)) g.leads);
+        claims = rw e (subst (λ l. PartMade l (Read (words_with ws (elements_of p)) (left_of p))) (sym (pushed s p.frames.stack.items (frame.Words place c) xs)) g.leads);
       }
 
   -- a formula, after words whose accent has ended
-  pub formula_begun : (b : Built) (after : CodeWords) (piece : Piece) (a : Option Alphabet) (inside : Option CodeAlphabet) (context : CodeContext) (row : CodeRow) → context ≡ usual_context code_style.InText inside → Replaced with_accent_ended ws (elements_of p) after (elements_in b) → row ≡ begun → option_map alphabet_of inside ≡ formula_alphabet a → word_rule a piece ≡ BeginsFormula → BeginsWordOf ws piece place a s p
+  pub formula_begun : (b : Built) (after : CodeWords) (piece : Piece) (c : Context) (context : CodeContext) (row : CodeRow) → context_of context ≡ formula_in_words c → Replaced with_accent_ended ws (elements_of p) after (elements_in b) → row ≡ begun → word_rule c.alphabet piece ≡ BeginsFormula → BeginsWordOf ws piece place c s p
       → Leads (level_within (frame.Row (ending.Formula after.count) place context row) 0 s (record p { builder = b })) (left_of p)
-  formula_begun b after piece a inside context row usual r empty same rule g =
+  formula_begun b after piece c context row is r empty rule g =
       let due = formula_due (level ws.count s p) {u = grammar.unit piece place} rule g.leads in
       let count : 0 + after.count ≡ after.count = omega arith in
       let elements : take after.count (elements_in b) ≡ (with_accent_ended (words_with ws (elements_of p))).elements = ap (λ (w : words.Words). w.elements) r.words in
-      rw (usual, empty, same) (rw count (rw (elements, r.below) due))
+      rw (is, empty) (rw count (rw (elements, r.below) due))

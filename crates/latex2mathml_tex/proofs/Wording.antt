@@ -1,25 +1,28 @@
 -- Words: what is put after them, and where what is in them leads.
-use Rattle.std.proofs.Common.{◌≡◌, ℕ, ◌+◌, ◌<◌, ◌≤◌, None, zero, suc, IsTrue, IsFalse, List, [], ◌∷◌, Option, Some, length, take, drop, option_map, reverse, refl, sym, ap, ◌∙◌, arith}
+use Rattle.std.proofs.Common.{◌≡◌, ℕ, ◌+◌, ◌<◌, ◌≤◌, None, zero, suc, IsTrue, IsFalse, List, [], ◌∷◌, ◌++◌, Option, Some, length, take, drop, reverse, refl, sym, ap, ◌∙◌, arith}
 use Rattle.latex2mathml_elements.specs.{Element.Element}
 use Rattle.latex2mathml_builder.specs.Built.{Built, elements_in}
-use Rattle.latex2mathml_tex_grammar.specs.{Makes.Core, Rows.empty_row, Rows.row_element, Rows.single, Rows.with_atom, Symbols.Alphabet, Symbols.InText}
+use Rattle.latex2mathml_tex_grammar.specs.{Makes.Core, Rows.empty_row, Rows.row_element, Rows.single, Rows.with_atom, Symbols.Alphabet, Symbols.InText, Symbols.TextSize}
 use Rattle.latex2mathml_tex_grammar.specs.Reading.{Outcome, Read, Refused, word_stopped}
 use Rattle.latex2mathml_tex_grammar.specs.Refusal.{Kind, Refusal, UnclosedBrace, refusal_at}
-use Rattle.latex2mathml_tex_grammar.specs.Rules.{gives}
+use Rattle.latex2mathml_tex_grammar.specs.Rules.{Context, gives, in_size, in_words}
 use Rattle.latex2mathml_tex_grammar.specs.Next.{past_space}
 use Rattle.latex2mathml_tex_grammar.specs.Units as grammar
 use Rattle.latex2mathml_tex_grammar.specs.Units.{Piece}
-use Rattle.latex2mathml_tex_grammar.specs.Words.{Accented, Word, Words, Changed, Formula, IsWord, NoWord, TakesWords, alphabet_behind, with_accent_ended, word_rule, words_element}
+use Rattle.latex2mathml_tex_grammar.specs.Words.{Accented, Resized, Word, Words, size_after, Changed, Formula, IsWord, NoWord, TakesWords, alphabet_behind, with_accent_ended, word_rule, words_element}
 use Rattle.latex2mathml_tex_units.specs.{Errors.refusal_of, Left.units_at}
 use Rattle.latex2mathml_tex.specs.Frames.{Start, Whole, inside}
 use Rattle.latex2mathml_tex.specs.Levels.{Level, PartMade, WordLeads, words}
-use Rattle.latex2mathml_tex_commands.specs.Meanings.{alphabet_of, style_of}
-use Rattle.latex2mathml_tex_atoms.specs.{Models.core_with, Models.row_with, Models.top, Models.words_with, Shapes.IsPut}
-use Rattle.latex2mathml_tex.specs.Steps.{Begins, BeginsWordOf, CanMake, EndsGroupOf, Follows, GoesOnInBraces, IsChange, Holds, WordGiven, core_made, elements_of, left_of, level, to_do, words_made}
+use Rattle.latex2mathml_tex_commands.specs.Meanings.{style_of, text_size_of}
+use Rattle.latex2mathml_tex_atoms.specs.{Models.context_of, Models.core_with, Models.row_with, Models.top, Models.words_with, Shapes.IsPut}
+use Rattle.latex2mathml_tex.specs.Steps.{Begins, BeginsWordOf, CanMake, ChangesWords, EndsGroupOf, Follows, GoesOnInBraces, GoesOnInSize, IsChange, Holds, WordGiven, core_made, elements_of, left_of, level, to_do, words_made}
 use Rattle.latex2mathml_tex_units.specs.declared.input.Input.{Input}
-use Rattle.latex2mathml_tex_commands.specs.declared.meaning.Alphabet.{Alphabet as CodeAlphabet}
-use Rattle.latex2mathml_tex_atoms.specs.declared.{atoms.Core.Core as CodeCore, atoms.Row.Row as CodeRow, atoms.Words.Words as CodeWords}
+use Rattle.latex2mathml_tex_commands.specs.declared.meaning.TextSize.{TextSize as CodeSize}
+use Rattle.latex2mathml_tex_atoms.specs.declared.{atoms.Context.Context as CodeContext, atoms.Core.Core as CodeCore, atoms.Row.Row as CodeRow, atoms.Words.Words as CodeWords}
 use Rattle.latex2mathml_tex.specs.declared.parse.Parser.{Parser}
+use Rattle.latex2mathml_tex.specs.WordCommands.{word_of}
+use Rattle.latex2mathml_tex.specs.declared.parse.word_commands.WordChange.{WordChange}
+use Rattle.latex2mathml_tex.specs.declared.parse.word_commands.WordChange.TheVariants as word_change
 use Rattle.latex2mathml_tex.specs.declared.parse.State.TheVariants as state
 use Rattle.latex2mathml_tex.specs.declared.parse.frames.Frame.{Frame}
 use Rattle.latex2mathml_tex.specs.declared.parse.frames.Frame.TheVariants as frame
@@ -28,11 +31,11 @@ use Rattle.latex2mathml_tex.specs.Innermost.{IsInnermost, none_begun, on_top}
 use Rattle.latex2mathml_tex_commands.specs.declared.meaning.Style.{Style as CodeStyle}
 use Rattle.latex2mathml_tex.specs.declared.parse.frames.Frames.{Frames}
 use Rattle.latex2mathml_tex_grammar.specs.Starts.{is_close}
-use Rattle.latex2mathml_tex.proofs.Leading.{changed_due, given, word_given, word_refused_at, words_ended, words_halted, words_in_alphabet_due, words_unended, word_due}
+use Rattle.latex2mathml_tex.proofs.Leading.{changed_due, given, word_given, word_refused_at, words_ended, words_halted, words_in_alphabet_due, words_unended, word_due, resized_due}
 use Rattle.latex2mathml_tex_atoms.specs.Wording.{Replaced}
 use Rattle.latex2mathml_tex_atoms.proofs.Wording.{drop_more, take_more}
 use Rattle.latex2mathml_tex.proofs.Marks as marks
-use Rattle.latex2mathml_tex.proofs.{Marks.all_refuse, Opening.into_frame, Opening.out_of_frame}
+use Rattle.latex2mathml_tex.proofs.{Marks.all_refuse, Opening.into_frame, Opening.out_of_frame, Opening.pushed}
 
 pub words_made_of : (n : ℕ) (xs : List Element) → 0 < n → n ≤ length xs → row_element (take n xs) ≡ words_element (take n xs)
 words_made_of zero xs some enough = absurd (omega arith)
@@ -110,25 +113,26 @@ part_refuses s p n r k = all_refuse r s (reverse p.frames.stack.items) (drop n (
 pub words_refused : (s : Start) (p q : Parser) (n : ℕ) (r : Refusal) → s.style ≡ style_of p.style → q.style ≡ p.style → refusal_of q.refusal ≡ Some r → PartMade (level n s p) (Refused r) → Holds s q state.Refused
 words_refused s p q n r e f h k = record { style = e ∙ ap style_of (sym f); claims = rw h (part_refuses s p n r k) }
 
--- nothing is put after words
-pub words_stay : (s : Start) (p : Parser) (ws : CodeWords) {b : Option Alphabet} → WordGiven ws (Changed b) s p → Holds s p (state.Words ws)
-words_stay s p ws g = record { style = g.style; claims = g.leads }
+-- nothing is put after words at a change
+pub words_stay : (s : Start) (p : Parser) (ws : CodeWords) (change : WordChange) → WordGiven ws (word_of change) s p → Holds s p (state.Words ws)
+words_stay s p ws (word_change.ToAlphabet a) g = record { style = g.style; claims = g.leads }
+words_stay s p ws (word_change.ToSize size) g = record { style = g.style; claims = g.leads }
 
 -- What a unit is in words
 
-module _ (s : Start) (p : Parser) (ws : CodeWords) (piece : Piece) (place : ℕ) (a : Option Alphabet) where
-  pub stands : (w : Word) → word_rule a piece ≡ IsWord w → BeginsWordOf ws piece place a s p → WordGiven ws w s p
+module _ (s : Start) (p : Parser) (ws : CodeWords) (piece : Piece) (place : ℕ) (c : Context) where
+  pub stands : (w : Word) → word_rule c.alphabet piece ≡ IsWord w → BeginsWordOf ws piece place c s p → WordGiven ws w s p
   stands w e g = record { style = g.style; leads = word_given (level ws.count s p) {u = grammar.unit piece place} e g.leads }
 
-  pub no_part : (q : Parser) (kind : Kind) → q.style ≡ p.style → refusal_of q.refusal ≡ Some (refusal_at kind place) → word_rule a piece ≡ NoWord kind → BeginsWordOf ws piece place a s p → Holds s q state.Refused
+  pub no_part : (q : Parser) (kind : Kind) → q.style ≡ p.style → refusal_of q.refusal ≡ Some (refusal_at kind place) → word_rule c.alphabet piece ≡ NoWord kind → BeginsWordOf ws piece place c s p → Holds s q state.Refused
   no_part q kind f h e g = words_refused s p q ws.count (refusal_at kind place) g.style f h (word_refused_at (level ws.count s p) {u = grammar.unit piece place} e g.leads)
 
-  pub in_alphabet_due : (i : Input) (b : Option CodeAlphabet) → units_at i ≡ past_space (left_of p) → word_rule a piece ≡ TakesWords (option_map alphabet_of b) → BeginsWordOf ws piece place a s p → Holds s (record p { input = i }) (state.Word ws place b)
-  in_alphabet_due i b h e g = record { style = g.style; claims = rw h (words_in_alphabet_due (level ws.count s p) {u = grammar.unit piece place} e g.leads) }
+  pub in_alphabet_due : (i : Input) (d : CodeContext) {a : Option Alphabet} → units_at i ≡ past_space (left_of p) → context_of d ≡ in_words c a → word_rule c.alphabet piece ≡ TakesWords a → BeginsWordOf ws piece place c s p → Holds s (record p { input = i }) (state.Word ws place d)
+  in_alphabet_due i d h is e g = record { style = g.style; claims = rw (h, is) (words_in_alphabet_due (level ws.count s p) {u = grammar.unit piece place} e g.leads) }
 
 -- Words in braces
 
-halted : {place : ℕ} {a : Option Alphabet} {K : Outcome Words → Type 0} {ws : Words} {r : Refusal} → PartMade (words place a K) (Read ws (grammar.Stop r)) → WordLeads (words place a K) place a ws (grammar.Stop r)
+halted : {place : ℕ} {c : Context} {K : Outcome Words → Type 0} {ws : Words} {r : Refusal} → PartMade (words place c K) (Read ws (grammar.Stop r)) → WordLeads (words place c K) place c ws (grammar.Stop r)
 halted k o word_stopped = words_halted k
 
 -- there is one innermost frame
@@ -138,12 +142,12 @@ one_innermost style fs a b f g (none_begun h k i) (on_top h') = let no : [] ≡ 
 one_innermost style fs a b f g (on_top h) (none_begun h' k' i') = let no : [] ≡ f ∷ reverse a = ap reverse (sym h' ∙ h) ∙ reverse-append a (f ∷ []) in cc
 one_innermost style fs a b f g (on_top h) (on_top h') = let same : f ∷ reverse a ≡ g ∷ reverse b = sym (reverse-append a (f ∷ [])) ∙ ap reverse (sym h ∙ h') ∙ reverse-append b (g ∷ []) in cc
 
-module _ (s : Start) (p : Parser) (ws : CodeWords) (place : ℕ) (a : Option CodeAlphabet) (others : List Frame) (inner : IsInnermost p.style p.frames.stack.items (frame.Words place a) others) (h : Holds s p (state.Words ws)) where
+module _ (s : Start) (p : Parser) (ws : CodeWords) (place : ℕ) (c : CodeContext) (others : List Frame) (inner : IsInnermost p.style p.frames.stack.items (frame.Words place c) others) (h : Holds s p (state.Words ws)) where
   abbrev around : Level
   around = inside s others (drop ws.count (elements_of p))
 
-  within_braces : PartMade (words place (option_map alphabet_of a) (PartMade around)) (Read (words_with ws (elements_of p)) (left_of p))
-  within_braces = into_frame (λ l. PartMade l (Read (words_with ws (elements_of p)) (left_of p))) s p.style h.style p.frames.stack.items others (frame.Words place a) (drop ws.count (elements_of p)) inner h.claims
+  within_braces : PartMade (words place (context_of c) (PartMade around)) (Read (words_with ws (elements_of p)) (left_of p))
+  within_braces = into_frame (λ l. PartMade l (Read (words_with ws (elements_of p)) (left_of p))) s p.style h.style p.frames.stack.items others (frame.Words place c) (drop ws.count (elements_of p)) inner h.claims
 
   pub braces_closed : (i : Input) (fr : Frames) (u : grammar.Unit) → fr.stack.items ≡ others → left_of p ≡ grammar.Next u (units_at i) → IsTrue (is_close u.piece) → EndsGroupOf ws s (record p { input = i; frames = fr })
   braces_closed i fr u same e close = record { style = h.style; leads = rw same (words_ended {K = PartMade around} close (rw e at within_braces)) }
@@ -154,17 +158,36 @@ module _ (s : Start) (p : Parser) (ws : CodeWords) (place : ℕ) (a : Option Cod
     claims = rw g (all_refuse (refusal_at UnclosedBrace place) s (reverse others) (drop ws.count (elements_of p)) (marks.part_refuses (refusal_at UnclosedBrace place) around (words_unended {K = PartMade around} (rw e at within_braces))));
   }
 
-  pub alphabet_changed : (i : Input) (fr : Frames) (u : grammar.Unit) (b : Alphabet) → fr.stack.items ≡ others → left_of p ≡ grammar.Next u (units_at i) → IsFalse (is_close u.piece) → IsChange (option_map alphabet_of a) u.piece b → GoesOnInBraces ws place (Some b) s (record p { input = i; frames = fr })
-  alphabet_changed i fr u b same e other change = record { style = h.style; leads = rw same (changed_due {K = PartMade around} other change.rule change.behind (rw e at within_braces)) }
+  pub change_taken : (i : Input) (fr : Frames) (u : grammar.Unit) (w : Word) → fr.stack.items ≡ others → left_of p ≡ grammar.Next u (units_at i) → IsFalse (is_close u.piece) → IsChange (context_of c).alphabet u.piece w → ChangesWords ws place (context_of c) w s (record p { input = i; frames = fr })
+  change_taken i fr u w same e other change = record { style = h.style; taken = u; other = other; change = change; leads = rw same (rw e at within_braces) }
 
-  pub word_behind : (u : grammar.Unit) (l : grammar.Units) → left_of p ≡ grammar.Next u l → IsFalse (is_close u.piece) → alphabet_behind (option_map alphabet_of a) u.piece ≡ option_map alphabet_of a → Holds s p (state.Word ws place a)
-  word_behind u l e other kept = record {
+  pub word_behind : (u : grammar.Unit) (l : grammar.Units) → left_of p ≡ grammar.Next u l → IsFalse (is_close u.piece) → size_after (word_rule (context_of c).alphabet u.piece) ≡ None → alphabet_behind (context_of c).alphabet u.piece ≡ (context_of c).alphabet → Holds s p (state.Word ws place c)
+  word_behind u l e other no_size kept = record {
     style = h.style;
-    claims = out_of_frame (λ m. WordLeads m place (option_map alphabet_of a) (words_with ws (elements_of p)) (left_of p)) s p.style h.style p.frames.stack.items others (frame.Words place a) (drop ws.count (elements_of p)) inner (rw e (word_due {K = PartMade around} other kept (rw e at within_braces)));
+    claims = out_of_frame (λ m. WordLeads m place (context_of c) (words_with ws (elements_of p)) (left_of p)) s p.style h.style p.frames.stack.items others (frame.Words place c) (drop ws.count (elements_of p)) inner (rw e (word_due {K = PartMade around} other no_size kept (rw e at within_braces)));
   }
 
-  pub word_stops : (r : Refusal) → left_of p ≡ grammar.Stop r → Holds s p (state.Word ws place a)
+  pub word_stops : (r : Refusal) → left_of p ≡ grammar.Stop r → Holds s p (state.Word ws place c)
   word_stops r e = record {
     style = h.style;
-    claims = out_of_frame (λ m. WordLeads m place (option_map alphabet_of a) (words_with ws (elements_of p)) (left_of p)) s p.style h.style p.frames.stack.items others (frame.Words place a) (drop ws.count (elements_of p)) inner (rw e (halted {K = PartMade around} (rw e at within_braces)));
+    claims = out_of_frame (λ m. WordLeads m place (context_of c) (words_with ws (elements_of p)) (left_of p)) s p.style h.style p.frames.stack.items others (frame.Words place c) (drop ws.count (elements_of p)) inner (rw e (halted {K = PartMade around} (rw e at within_braces)));
   }
+
+-- Changes of words in braces
+
+module _ (s : Start) (p : Parser) (ws : CodeWords) (place : ℕ) where
+  pub alphabet_changed : (c : Context) {a : Alphabet} → ChangesWords ws place c (Changed a) s p → GoesOnInBraces ws place (in_words c (Some a)) s p
+  alphabet_changed c g = record { style = g.style; leads = changed_due {K = PartMade (level ws.count s p)} g.other g.change.rule g.change.behind g.leads }
+
+  pub size_changed : (c : Context) {size : TextSize} → ChangesWords ws place c (Resized size) s p → GoesOnInSize ws place size c s p
+  size_changed c g = record { style = g.style; leads = resized_due {K = PartMade (level ws.count s p)} g.change.rule g.leads }
+
+  -- the words in the other size are those of a frame
+  pub size_held : (b : Built) (fr : Frames) (after : CodeWords) (size : CodeSize) (c d : CodeContext) → Replaced with_accent_ended ws (elements_of p) after (elements_in b) → fr.stack.items ≡ p.frames.stack.items ++ frame.Resized after.count size c ∷ [] → context_of d ≡ in_size (context_of c) (text_size_of size) → GoesOnInSize ws place (text_size_of size) (context_of c) s p
+      → GoesOnInBraces (record { count = 0; last = None; accent = None }) place (context_of d) s (record p { builder = b; frames = fr })
+  size_held b fr after size c d r same is g =
+      let elements : take after.count (elements_in b) ≡ (with_accent_ended (words_with ws (elements_of p))).elements = ap (λ (w : Words). w.elements) r.words in
+      record {
+        style = g.style;
+        leads = rw (is, same, pushed s p.frames.stack.items (frame.Resized after.count size c) (elements_in b), elements, r.below) g.leads;
+      }

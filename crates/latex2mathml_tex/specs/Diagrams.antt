@@ -6,7 +6,7 @@ use Rattle.latex2mathml_tex.specs.Frames.{Start, context_at}
 use Rattle.latex2mathml_tex.specs.Levels.{CoreMade, RuleLeads}
 use Rattle.latex2mathml_tex.specs.Steps.{elements_of, left_of, level}
 use Rattle.latex2mathml_tex.specs.Tables.{ArrowMade, cell_context, cells_of, rows_of}
-use Rattle.latex2mathml_tex.specs.declared.parse.{Parser.Parser, frames.Table.Table}
+use Rattle.latex2mathml_tex.specs.declared.parse.{Parser.Parser, endings.Table.Table}
 
 -- An arrow is due, whose sign was taken and whose at sign was at this place. It is the next cell of a table.
 pub record MakesArrow (arrow : DiagramArrow) (t : Table) (place at : ℕ) (s : Start) (p : Parser) : Type 0 where

@@ -12,20 +12,21 @@ use Rattle.latex2mathml_tex_grammar.specs.Rules as rules
 use Rattle.latex2mathml_tex_grammar.specs.Separators.{text_columns}
 use Rattle.latex2mathml_tex_grammar.specs.Rules.{Context, begun, Rule, gives, of_one, of_two, a_label, after_label, reads_operand, rows_of_text, slashed, struck_atom, takes_delimiter, WholeText, InBraces, InBrackets, InDollars, InDelimiters, InCell, InLabel}
 use Rattle.latex2mathml_tex_grammar.specs.Words.{words_atom}
-use Rattle.latex2mathml_tex.specs.Levels.{AtomMade, as_operand, as_words, CoreMade, Level, OperandMade, PartMade, ScriptsLead, Then}
+use Rattle.latex2mathml_tex.specs.Levels.{AtomMade, as_operand, as_resized, as_words, CoreMade, Level, OperandMade, PartMade, ScriptsLead, Then}
 use Rattle.latex2mathml_tex.specs.Levels as level
-use Rattle.latex2mathml_tex_commands.specs.Meanings.{alphabet_of, box_of, class_of, fraction_rule_of, limit_place_of, style_of}
+use Rattle.latex2mathml_tex_commands.specs.Meanings.{box_of, class_of, fraction_rule_of, limit_place_of, style_of, text_size_of}
 use Rattle.latex2mathml_tex_atoms.specs.Models.{context_of, core_with, has_script, operand_with, row_count, row_with, script_count, scripts_with, top}
 use Rattle.latex2mathml_tex_atoms.specs.Outlines.{outline_of}
-use Rattle.latex2mathml_tex.specs.Tables.{ArrowMade, TableMade, cells_of, rows_of, table_end}
+use Rattle.latex2mathml_tex.specs.Tables.{ArrowMade, TableMade, cells_of, rows_of, table_end, table_of}
 use Rattle.latex2mathml_tex_grammar.specs.Diagrams.{Direction, first_label, joined_arrow}
 use Rattle.latex2mathml_tex_commands.specs.Diagrams.{direction_of}
 use Rattle.latex2mathml_tex_commands.specs.Delimiters.{delimiter_text}
 use Rattle.latex2mathml_tex_atoms.specs.declared.atoms.{Core.Core as CodeCore, Operand.Operand as CodeOperand, Scripts.Scripts}
 use Rattle.latex2mathml_tex.specs.declared.parse.Form.{Form}
 use Rattle.latex2mathml_tex.specs.declared.parse.Form.TheVariants as form
-use Rattle.latex2mathml_tex.specs.declared.parse.frames.{Ending.Ending, First.First, Frame.Frame, Labeled.Labeled, Last.Last}
-use Rattle.latex2mathml_tex.specs.declared.parse.frames.Ending.TheVariants as ending
+use Rattle.latex2mathml_tex.specs.declared.parse.endings.{Ending.Ending, Labeled.Labeled}
+use Rattle.latex2mathml_tex.specs.declared.parse.frames.{First.First, Frame.Frame, Last.Last}
+use Rattle.latex2mathml_tex.specs.declared.parse.endings.Ending.TheVariants as ending
 use Rattle.latex2mathml_tex.specs.declared.parse.frames.First.TheVariants as first
 use Rattle.latex2mathml_tex.specs.declared.parse.frames.Frame.TheVariants as frame
 use Rattle.latex2mathml_tex.specs.declared.parse.frames.Last.TheVariants as last
@@ -71,7 +72,7 @@ context_at (level.row e c xs K) = c
 context_at (level.operand place c K) = c
 context_at (level.core place c K) = c
 context_at (level.part K) = formula_context (InText)
-context_at (level.words place a K) = formula_context (InText)
+context_at (level.words place c K) = formula_context (InText)
 
 -- what precedes what is due at a level, if that is an atom of a row
 abbrev pub before_at : Level → Before
@@ -93,7 +94,8 @@ behind_first_label d place around arrow first =
 
 -- where the outcome of such an arrow leads, within this level; these elements are those of its table
 abbrev pub LabeledMade : Labeled → List Element → Level → Outcome Core → Type 0
-LabeledMade k xs l = ArrowMade k.table k.place (rows_of k.table xs) (cells_of k.table xs) (context_at l) (CoreMade l)
+LabeledMade k xs l =
+    ArrowMade (table_of k.diagram) k.place (rows_of (table_of k.diagram) xs) (cells_of (table_of k.diagram) xs) (context_at l) (CoreMade l)
 
 -- where the outcome of a row leads, within this level; these elements are below the row's own
 abbrev pub RowMade : Start → Ending → ℕ → List Element → Level → Outcome Row → Type 0
@@ -186,15 +188,16 @@ enter s (frame.First one place c) xs l = level.operand place (context_of c) (The
 enter s (frame.Negation place c) xs l = level.core place (context_of c) (Then (λ x. struck_atom place x (struck x.atom.element)) (CoreMade l))
 enter s (frame.Script base scripts on place c) xs l = level.operand place (context_of c) (ScriptMade l base scripts on xs)
 enter s frame.Text xs l = level.part (Then (λ ws. gives (core (words_atom ws))) (CoreMade l))
-enter s (frame.Words place a) xs l = level.words place (option_map alphabet_of a) (PartMade l)
+enter s (frame.Words place c) xs l = level.words place (context_of c) (PartMade l)
+enter s (frame.Resized n size c) xs l = level.part (λ o. PartMade l (as_resized (text_size_of size) (context_of c) (take n xs) o))
 
 -- how many of the elements given next to a frame belong to it
 abbrev pub ending_count : Ending → ℕ
 ending_count ending.BelowArrow = 1
 ending_count (ending.Formula n) = n
 ending_count (ending.Cell t) = t.cells + t.rows
-ending_count (ending.FirstLabel k) = 1 + (k.table.cells + k.table.rows)
-ending_count (ending.SecondLabel k) = 2 + (k.table.cells + k.table.rows)
+ending_count (ending.FirstLabel k) = 1 + (k.diagram.cells + k.diagram.rows)
+ending_count (ending.SecondLabel k) = 2 + (k.diagram.cells + k.diagram.rows)
 ending_count e = 0
 
 abbrev pub last_count : Last → ℕ
@@ -218,6 +221,7 @@ element_count (frame.Row e place c row) = row_count row + ending_count e
 element_count (frame.Last made place c) = last_count made
 element_count (frame.First one place c) = first_count one
 element_count (frame.Script base scripts on place c) = primes_put on scripts.primes + (script_count scripts + 1)
+element_count (frame.Resized n size c) = n
 element_count f = 0
 
 -- the level inside all frames, the innermost first

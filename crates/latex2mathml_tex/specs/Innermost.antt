@@ -5,9 +5,10 @@ use Rattle.latex2mathml_tex_atoms.specs.declared.atoms.{Context.Context, Core.Co
 use Rattle.latex2mathml_tex_atoms.specs.Models.{IsFinished, begun, empty_row, usual_context}
 use Rattle.latex2mathml_tex_commands.specs.declared.meaning.Style.{Style}
 use Rattle.latex2mathml_tex_commands.specs.declared.meaning.Style.TheVariants as style
-use Rattle.latex2mathml_tex.specs.declared.parse.frames.{Braced.Braced, Ending.Ending, Frame.Frame}
+use Rattle.latex2mathml_tex.specs.declared.parse.endings.Ending.{Ending}
+use Rattle.latex2mathml_tex.specs.declared.parse.frames.{Braced.Braced, Frame.Frame}
 use Rattle.latex2mathml_tex.specs.declared.parse.frames.Braced.TheVariants as braced
-use Rattle.latex2mathml_tex.specs.declared.parse.frames.Ending.TheVariants as ending
+use Rattle.latex2mathml_tex.specs.declared.parse.endings.Ending.TheVariants as ending
 use Rattle.latex2mathml_tex.specs.declared.parse.frames.Frame.TheVariants as frame
 
 -- the row of a whole formula of this style, before its first atom

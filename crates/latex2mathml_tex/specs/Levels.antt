@@ -1,16 +1,16 @@
 -- What is due while a formula is read, and where its outcome leads. These definitions serve the contracts of the
 -- parser's functions, and do not mention frames. A continuation K says what each outcome leads to.
-use Rattle.std.specs.Prelude.{ℕ, List, Option}
+use Rattle.std.specs.Prelude.{ℕ, List}
 use Rattle.latex2mathml_elements.specs.Element.{Element}
 use Rattle.latex2mathml_tex_grammar.specs.Atoms.{Atom}
 use Rattle.latex2mathml_tex_grammar.specs.Makes.{Core, Scripts, no_scripts}
 use Rattle.latex2mathml_tex_grammar.specs.Meaning.{Change}
 use Rattle.latex2mathml_tex_grammar.specs.Reading.{Outcome, Read, Refused, ReadsAtoms, ReadsOperand, ReadsRule, ReadsScripts, ReadsWord, ReadsWords}
 use Rattle.latex2mathml_tex_grammar.specs.Refusal.{Refusal}
-use Rattle.latex2mathml_tex_grammar.specs.Rests.{Rest, GoesOnIn, NoRest, rest_of}
+use Rattle.latex2mathml_tex_grammar.specs.Rests.{Rest, GoesOnIn, NoRest, rest_of, with_resized}
 use Rattle.latex2mathml_tex_grammar.specs.Rows.{Operand, Row, operand_of, lone, row_element, single, with_atom}
 use Rattle.latex2mathml_tex_grammar.specs.Rules.{Context, Ending, Rule, gives, reads_core}
-use Rattle.latex2mathml_tex_grammar.specs.Symbols.{Alphabet}
+use Rattle.latex2mathml_tex_grammar.specs.Symbols.{TextSize}
 use Rattle.latex2mathml_tex_grammar.specs.Units.{Units}
 use Rattle.latex2mathml_tex_grammar.specs.Words.{Words, with_formula}
 
@@ -25,7 +25,7 @@ pub data Level : Type 1 where
   -- one part of words
   part : (Outcome Words → Type 0) → Level
   -- words up to a brace, which began at this place
-  words : ℕ → Option Alphabet → (Outcome Words → Type 0) → Level
+  words : ℕ → Context → (Outcome Words → Type 0) → Level
 
 -- whatever the outcome of the rule from here, it leads to K
 pub record RuleLeads (r : Rule) (K : Outcome Core → Type 0) (l : Units) : Type 0 where
@@ -55,7 +55,7 @@ CoreMade (operand place c K) (Read x l) = K (Read (single c.style x.atom) l)
 CoreMade (operand place c K) (Refused r) = K (Refused r)
 CoreMade (core place c K) o = K o
 CoreMade (part K) o = ⊥
-CoreMade (words place a K) o = ⊥
+CoreMade (words place c K) o = ⊥
 
 -- a row as an operand
 abbrev pub as_operand : Outcome Row → Outcome Operand
@@ -67,6 +67,11 @@ abbrev pub as_words : List Element → Outcome Row → Outcome Words
 as_words before (Read xs l) = Read (with_formula before (row_element (lone xs.last xs.elements))) l
 as_words before (Refused r) = Refused r
 
+-- elements of words in this context, followed by those behind a change of size
+abbrev pub as_resized : TextSize → Context → List Element → Outcome Words → Outcome Words
+as_resized size c before (Read ws l) = Read (with_resized size c before ws.elements) l
+as_resized size c before (Refused r) = Refused r
+
 -- where the outcome of an operand leads
 abbrev pub OperandMade : Level → Outcome Operand → Type 0
 OperandMade (operand place c K) o = K o
@@ -75,8 +80,8 @@ OperandMade level o = ⊥
 -- where the outcome of a part of words leads
 abbrev pub PartMade : Level → Outcome Words → Type 0
 PartMade (part K) o = K o
-PartMade (words place a K) (Read ws l) = (o : Outcome Words) → ReadsWords place a ws l o → K o
-PartMade (words place a K) (Refused r) = K (Refused r)
+PartMade (words place c K) (Read ws l) = (o : Outcome Words) → ReadsWords place c ws l o → K o
+PartMade (words place c K) (Refused r) = K (Refused r)
 PartMade level o = ⊥
 
 -- whatever the outcome of what is due from here, it leads where the level says
@@ -85,7 +90,7 @@ Leads (row ending c xs K) l = (o : Outcome Row) → ReadsAtoms ending c xs l o �
 Leads (operand place c K) l = (o : Outcome Operand) → ReadsOperand place c l o → K o
 Leads (core place c K) l = RuleLeads (reads_core place c (λ x. gives x)) K l
 Leads (part K) l = ⊥
-Leads (words place a K) l = ⊥
+Leads (words place c K) l = ⊥
 
 -- whatever the outcome of what follows a change, it leads to K
 abbrev pub FollowsChange : Ending → (Outcome Row → Type 0) → Rest → Type 0
@@ -97,8 +102,8 @@ RestLeads change place (row ending c xs K) l = FollowsChange ending K (rest_of c
 RestLeads change place level l = ⊥
 
 -- whatever the outcome of one part of words after these, it leads on
-abbrev pub WordLeads : Level → ℕ → Option Alphabet → Words → Units → Type 0
-WordLeads level place a ws l = (o : Outcome Words) → ReadsWord place a ws l o → PartMade level o
+abbrev pub WordLeads : Level → ℕ → Context → Words → Units → Type 0
+WordLeads level place c ws l = (o : Outcome Words) → ReadsWord place c ws l o → PartMade level o
 
 -- the formula is refused at the level
 abbrev pub Refuses : Level → Refusal → Type 0
@@ -106,7 +111,7 @@ Refuses (row ending c xs K) r = K (Refused r)
 Refuses (operand place c K) r = K (Refused r)
 Refuses (core place c K) r = K (Refused r)
 Refuses (part K) r = K (Refused r)
-Refuses (words place a K) r = K (Refused r)
+Refuses (words place c K) r = K (Refused r)
 
 -- the outcome of an atom whose core was read
 abbrev pub as_atom : Outcome Core → Outcome Atom

@@ -1,5 +1,5 @@
 -- What the parser's steps preserve: what holds of each state, and what decreases.
-use Rattle.std.specs.Prelude.{◌≡◌, ℕ, ◌+◌, ◌*◌, ◌<◌, ◌≤◌, Bool, true, false, IsTrue, IfSome, OnOk, List, [], ◌∷◌, ◌&&◌, ⊤, drop, length, option_map, reverse, Result, sum_by, take, Option, Some, None}
+use Rattle.std.specs.Prelude.{IsFalse, ◌≡◌, ℕ, ◌+◌, ◌*◌, ◌<◌, ◌≤◌, Bool, true, false, IsTrue, IfSome, OnOk, List, [], ◌∷◌, ◌&&◌, ⊤, drop, length, option_map, reverse, Result, sum_by, take, Option, Some, None}
 use Rattle.std.specs.declared.alloc.AllocError.{AllocError}
 use Rattle.latex2mathml_elements.specs.Element.{Element}
 use Rattle.latex2mathml_builder.specs.Built.{elements_in}
@@ -12,14 +12,14 @@ use Rattle.latex2mathml_tex_grammar.specs.Reading.{Read, Refused, Outcome, Reads
 use Rattle.latex2mathml_tex_grammar.specs.{Refusal.Refusal, Rests.finished, Rows.Row, Rows.lone, Starts.unended}
 use Rattle.latex2mathml_attributes.specs.Columns.{columns_of}
 use Rattle.latex2mathml_tex_units.specs.Environments.{delimiter_texts}
-use Rattle.latex2mathml_tex.specs.Tables.{RowsLead, after_rows, behind_rows, cell_context, cells_of, ended_by, rows_of, style_in, table_end}
+use Rattle.latex2mathml_tex.specs.Tables.{RowsLead, after_rows, behind_rows, cell_context, cells_of, columns_in, ended_by, rows_of, style_in, table_end}
 use Rattle.latex2mathml_tex_grammar.specs.Tables.{Lines, a_table, with_last}
 use Rattle.latex2mathml_tex_grammar.specs.RowLines.{line_next, lined}
 use Rattle.latex2mathml_tex_grammar.specs.Scanning.{Spot, BeforeRow, Given, Missing, past, scan}
 use Rattle.latex2mathml_attributes.specs.declared.columns.Columns.{Columns}
 use Rattle.latex2mathml_tex_commands.specs.declared.meaning.Style.{Style}
-use Rattle.latex2mathml_tex_grammar.specs.Rules.{Rule, a_number, gives, rule, styled, takes_delimiter}
-use Rattle.latex2mathml_tex_grammar.specs.{Symbols.Alphabet, Symbols.Class, Words.Changed, Words.IsWord, Words.Word, Words.alphabet_behind, Words.with_accent_ended, Words.with_word, Words.word_rule}
+use Rattle.latex2mathml_tex_grammar.specs.Rules.{Context as DefinedContext, Rule, a_number, gives, in_size, rule, styled, takes_delimiter}
+use Rattle.latex2mathml_tex_grammar.specs.{Symbols.Alphabet, Symbols.Class, Symbols.TextSize, Words.IsWord, Words.Word, Words.alphabet_after, Words.alphabet_behind, Words.no_words, Words.with_accent_ended, Words.with_word, Words.word_rule}
 use Rattle.latex2mathml_tex_grammar.specs.Starts as starts
 use Rattle.latex2mathml_tex_grammar.specs.Units as grammar
 use Rattle.latex2mathml_tex_grammar.specs.{Formulas.shown}
@@ -28,7 +28,7 @@ use Rattle.latex2mathml_tex_units.specs.{Errors.refusal_of, Taking.piece_of, Tak
 use Rattle.latex2mathml_tex.specs.Innermost.{IsInnermost}
 use Rattle.latex2mathml_tex.specs.Frames.{RowMade, ScriptMade, Start, Whole, after_first, base_of, context_at, element_count, ending_count, ending_of, first_count, inside, primes_put, within}
 use Rattle.latex2mathml_tex_units.specs.Left.{unit_count, units_at}
-use Rattle.latex2mathml_tex.specs.Levels.{AtomMade, CoreMade, Leads, Level, OperandMade, PartMade, RestLeads, RuleLeads, ScriptsLead, Then, WordLeads, as_atom, words}
+use Rattle.latex2mathml_tex.specs.Levels.{AtomMade, CoreMade, Leads, Level, OperandMade, PartMade, RestLeads, RuleLeads, ScriptsLead, Then, WordLeads, as_atom, as_resized, words}
 use Rattle.latex2mathml_tex_commands.specs.Meanings.{alphabet_of, limit_place_of, style_of}
 use Rattle.latex2mathml_tex_atoms.specs.Models.{context_of, core_with, kind_of, operand_with, row_count, row_with, script_count, scripts_with, top, words_with}
 use Rattle.latex2mathml_tex.specs.Numbers.{after_point}
@@ -39,8 +39,9 @@ use Rattle.latex2mathml_tex.specs.declared.{parse.Form.Form, parse.Parser.Parser
 use Rattle.latex2mathml_tex.specs.declared.parse.scripts.Mark.TheVariants as mark
 use Rattle.latex2mathml_attributes.specs.declared.attributes.Side.TheVariants as side
 use Rattle.latex2mathml_tex.specs.declared.parse.State.TheVariants as state
-use Rattle.latex2mathml_tex.specs.declared.parse.frames.{Ending.Ending, First.First, Frame.Frame, Table.Table, TableKind.TableKind}
-use Rattle.latex2mathml_tex.specs.declared.parse.frames.Ending.TheVariants as ending
+use Rattle.latex2mathml_tex.specs.declared.parse.endings.{Ending.Ending, Table.Table, TableKind.TableKind}
+use Rattle.latex2mathml_tex.specs.declared.parse.frames.{First.First, Frame.Frame}
+use Rattle.latex2mathml_tex.specs.declared.parse.endings.Ending.TheVariants as ending
 use Rattle.latex2mathml_tex.specs.declared.parse.frames.Frame.TheVariants as frame
 
 -- the open elements, the uppermost first
@@ -68,7 +69,7 @@ state_count state.Next = 0
 state_count (state.Core core) = 1
 state_count (state.Atom core scripts) = script_count scripts + 1
 state_count (state.Operand operand) = 1
-state_count (state.Word ws place a) = ws.count
+state_count (state.Word ws place c) = ws.count
 state_count (state.Words ws) = ws.count
 state_count (state.End count) = 0
 state_count state.Refused = 0
@@ -80,7 +81,7 @@ Claims s p (state.Core core) = CoreMade (level 1 s p) (Read (core_with core (top
 Claims s p (state.Atom core scripts) =
     ScriptsLead (level (script_count scripts + 1) s p) (base_of core scripts (elements_of p)).atom (scripts_with scripts (elements_of p)) (left_of p)
 Claims s p (state.Operand operand) = OperandMade (level 1 s p) (Read (operand_with operand (top (elements_of p))) (left_of p))
-Claims s p (state.Word ws place a) = WordLeads (level ws.count s p) place (option_map alphabet_of a) (words_with ws (elements_of p)) (left_of p)
+Claims s p (state.Word ws place c) = WordLeads (level ws.count s p) place (context_of c) (words_with ws (elements_of p)) (left_of p)
 Claims s p (state.Words ws) = PartMade (level ws.count s p) (Read (words_with ws (elements_of p)) (left_of p))
 Claims s p (state.End count) = (row : Row) × (at : ℕ) × (shown row ≡ take count (elements_of p)) × Whole s (Read row (End at))
 Claims s p state.Refused = IfSome (refusal_of p.refusal) (λ r. Whole s (Refused r))
@@ -122,7 +123,8 @@ pub data Made : Type 0 where
 -- whether the frame waits for it
 abbrev pub accepts : Made → Frame → Bool
 accepts core_made frame.Text = false
-accepts core_made (frame.Words place a) = false
+accepts core_made (frame.Words place c) = false
+accepts core_made (frame.Resized n size c) = false
 accepts core_made f = true
 accepts atom_made (frame.Row e place c row) = true
 accepts atom_made f = false
@@ -131,7 +133,8 @@ accepts operand_made (frame.First one place c) = true
 accepts operand_made (frame.Script base scripts on place c) = true
 accepts operand_made f = false
 accepts words_made frame.Text = true
-accepts words_made (frame.Words place a) = true
+accepts words_made (frame.Words place c) = true
+accepts words_made (frame.Resized n size c) = true
 accepts words_made f = false
 
 -- whether the row of the whole formula waits for it, where there is no frame
@@ -154,7 +157,8 @@ row_makes e = core_made
 abbrev pub makes : Frame → Made
 makes (frame.Row e place c row) = row_makes e
 makes (frame.Script base scripts on place c) = atom_made
-makes (frame.Words place a) = words_made
+makes (frame.Words place c) = words_made
+makes (frame.Resized n size c) = words_made
 makes f = core_made
 
 -- whether each of these frames, the innermost first, makes what the next one waits for
@@ -171,7 +175,7 @@ pub record Awaits (m : Made) (p : Parser) : Type 0 where
 abbrev pub given_by : State → Made
 given_by (state.Atom core scripts) = atom_made
 given_by (state.Operand operand) = operand_made
-given_by (state.Word ws place a) = words_made
+given_by (state.Word ws place c) = words_made
 given_by (state.Words ws) = words_made
 given_by st = core_made
 
@@ -277,20 +281,34 @@ pub record FirstRead (one : First) (place : ℕ) (c : Context) (operand : CodeOp
   pub leads : Then (after_first one place (context_of c) (context_at (level (first_count one + 1) s p)) (drop 1 (elements_of p))) (CoreMade (level (first_count one + 1) s p)) (Read (operand_with operand (top (elements_of p))) (left_of p))
 
 -- A unit that is this piece was taken at a place, as a part of words after these.
-pub record BeginsWordOf (ws : CodeWords) (piece : grammar.Piece) (place : ℕ) (a : Option Alphabet) (s : Start) (p : Parser) : Type 0 where
+pub record BeginsWordOf (ws : CodeWords) (piece : grammar.Piece) (place : ℕ) (c : DefinedContext) (s : Start) (p : Parser) : Type 0 where
   pub style : s.style ≡ style_of p.style
   pub taken_at : ℕ
-  pub leads : WordLeads (level ws.count s p) taken_at a (words_with ws (elements_of p)) (Next (grammar.unit piece place) (left_of p))
+  pub leads : WordLeads (level ws.count s p) taken_at c (words_with ws (elements_of p)) (Next (grammar.unit piece place) (left_of p))
 
--- In words in an alphabet, this piece is a change to another alphabet, in which the words after it in its group are.
-pub record IsChange (a : Option Alphabet) (piece : grammar.Piece) (other : Alphabet) : Type 0 where
-  pub rule : word_rule a piece ≡ IsWord (Changed (Some other))
-  pub behind : alphabet_behind a piece ≡ Some other
+-- In words in an alphabet, this piece is a change, which determines the alphabet of the words after it in its group.
+pub record IsChange (a : Option Alphabet) (piece : grammar.Piece) (w : Word) : Type 0 where
+  pub rule : word_rule a piece ≡ IsWord w
+  pub behind : alphabet_behind a piece ≡ alphabet_after a (IsWord w)
 
--- Words in braces that began at a place go on in this alphabet.
-pub record GoesOnInBraces (ws : CodeWords) (place : ℕ) (a : Option Alphabet) (s : Start) (p : Parser) : Type 0 where
+-- A change was taken in words in braces, which began at a place and were read in this context up to there.
+pub record ChangesWords (ws : CodeWords) (place : ℕ) (c : DefinedContext) (w : Word) (s : Start) (p : Parser) : Type 0 where
   pub style : s.style ≡ style_of p.style
-  pub leads : PartMade (words place a (PartMade (level ws.count s p))) (Read (words_with ws (elements_of p)) (left_of p))
+  pub taken : grammar.Unit
+  pub other : IsFalse (starts.is_close taken.piece)
+  pub change : IsChange c.alphabet taken.piece w
+  pub leads : PartMade (words place c (PartMade (level ws.count s p))) (Read (words_with ws (elements_of p)) (grammar.Next taken (left_of p)))
+
+-- Words in braces that began at a place go on in this size, after those that were read in this context.
+pub record GoesOnInSize (ws : CodeWords) (place : ℕ) (size : TextSize) (c : DefinedContext) (s : Start) (p : Parser) : Type 0 where
+  pub style : s.style ≡ style_of p.style
+  pub leads : PartMade (words place (in_size c size) (λ o. PartMade (level ws.count s p) (as_resized size c (with_accent_ended (words_with ws (elements_of p))).elements o)))
+      (Read no_words (left_of p))
+
+-- Words in braces that began at a place go on in this context.
+pub record GoesOnInBraces (ws : CodeWords) (place : ℕ) (c : DefinedContext) (s : Start) (p : Parser) : Type 0 where
+  pub style : s.style ≡ style_of p.style
+  pub leads : PartMade (words place c (PartMade (level ws.count s p))) (Read (words_with ws (elements_of p)) (left_of p))
 
 -- The words followed by this part lead on.
 pub record WordGiven (ws : CodeWords) (w : Word) (s : Start) (p : Parser) : Type 0 where
@@ -324,6 +342,10 @@ pub record ClosesBefore (e : Ending) (place : ℕ) (xs : CodeRow) (u : Unit) (s 
   pub next : past_space before ≡ Next (unit_of u) (left_of p)
   pub leads : RowMade s e place (drop xs.count (elements_of p)) (level (xs.count + ending_count e) s p) (Read (row_with xs (elements_of p)) before)
 
+-- the unit ends a row with this ending, wherever the row begins
+abbrev pub IsEnding : Ending → grammar.Piece → Type 0
+IsEnding e piece = (place : ℕ) → starts.ends (ending_of e place) piece ≡ true
+
 -- A cell ends with this unit.
 abbrev pub ClosesCell : Table → ℕ → CodeRow → Unit → Start → Parser → Type 0
 ClosesCell t place xs u s p = ClosesBefore (ending.Cell t) place xs u s p
@@ -339,28 +361,28 @@ Closes e place xs u s p = ClosesRow e place xs s p
 pub record GoesOnTable (t : Table) (place : ℕ) (s : Start) (p : Parser) : Type 0 where
   pub style : s.style ≡ style_of p.style
   pub leads : (o : Outcome Lines)
-      → ReadsRows (table_end t) place (columns_of t.columns) (cell_context t (context_at (level (t.cells + t.rows) s p))) (rows_of t (elements_of p)) (cells_of t (elements_of p)) (left_of p) o
+      → ReadsRows (table_end t) place (columns_in t.kind) (cell_context t (context_at (level (t.cells + t.rows) s p))) (rows_of t (elements_of p)) (cells_of t (elements_of p)) (left_of p) o
       → RowsLead (behind_rows t (context_at (level (t.cells + t.rows) s p))) (CoreMade (level (t.cells + t.rows) s p)) o
 
 -- A table is due, and the line before its first row, if there is one.
-pub record BeginsTable (k : TableKind) (columns : Columns) (place : ℕ) (s : Start) (p : Parser) : Type 0 where
+pub record BeginsTable (k : TableKind) (place : ℕ) (s : Start) (p : Parser) : Type 0 where
   pub style : s.style ≡ style_of p.style
   pub leads : (o : Outcome Lines)
-      → ReadsRows (ended_by k) place (columns_of columns) (styled (context_at (level 0 s p)) (style_in k)) (lined (line_next (left_of p)) []) [] (past BeforeRow (left_of p)) o
-      → RowsLead (after_rows k (columns_of columns) (context_at (level 0 s p))) (CoreMade (level 0 s p)) o
+      → ReadsRows (ended_by k) place (columns_in k) (styled (context_at (level 0 s p)) (style_in k)) (lined (line_next (left_of p)) []) [] (past BeforeRow (left_of p)) o
+      → RowsLead (after_rows k (context_at (level 0 s p))) (CoreMade (level 0 s p)) o
 
 -- A table ends at this place, after its last cell, whose elements are the `count` uppermost ones, and whose last atom is of this kind.
 pub record EndsCells (t : Table) (count : ℕ) (last : AtomKind) (at : ℕ) (s : Start) (p : Parser) : Type 0 where
   pub style : s.style ≡ style_of p.style
-  pub leads : RuleLeads (behind_rows t (context_at (level (count + (t.cells + t.rows)) s p)) (with_last (columns_of t.columns) (rows_of t (drop count (elements_of p))) (cells_of t (drop count (elements_of p))) (lone (kind_of last) (take count (elements_of p)))) at)
+  pub leads : RuleLeads (behind_rows t (context_at (level (count + (t.cells + t.rows)) s p)) (with_last (columns_in t.kind) (rows_of t (drop count (elements_of p))) (cells_of t (drop count (elements_of p))) (lone (kind_of last) (take count (elements_of p)))) at)
       (CoreMade (level (count + (t.cells + t.rows)) s p)) (left_of p)
 
 -- The end of a table was taken at this place. Its rows are the `rows` uppermost elements.
-pub record EndsRows (e : TableKind) (columns : Columns) (rows at : ℕ) (s : Start) (p : Parser) : Type 0 where
+pub record EndsRows (e : TableKind) (rows at : ℕ) (s : Start) (p : Parser) : Type 0 where
   pub style : s.style ≡ style_of p.style
   pub lines : Lines
   pub are : take rows (elements_of p) ≡ lines.last ∷ lines.others
-  pub leads : RuleLeads (after_rows e (columns_of columns) (context_at (level rows s p)) lines at) (CoreMade (level rows s p)) (left_of p)
+  pub leads : RuleLeads (after_rows e (context_at (level rows s p)) lines at) (CoreMade (level rows s p)) (left_of p)
 
 -- A table is made of the `rows` uppermost elements. Its cells have this style.
 pub record MakesTable (delimiters : Option (Option ℕ × Option ℕ)) (columns : Columns) (own : Style) (rows : ℕ) (s : Start) (p : Parser) : Type 0 where
@@ -440,7 +462,7 @@ state_weight state.Next = 1
 state_weight (state.Core core) = 3
 state_weight (state.Atom core scripts) = 2
 state_weight (state.Operand operand) = 2
-state_weight (state.Word ws place a) = 1
+state_weight (state.Word ws place c) = 1
 state_weight (state.Words ws) = 2
 state_weight (state.End count) = 0
 state_weight state.Refused = 0

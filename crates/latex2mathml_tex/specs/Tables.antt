@@ -1,7 +1,7 @@
 -- The tables that the parser reads, as the definitions have them.
 use Rattle.std.specs.Prelude.{◌≡◌, ℕ, List, ◌∷◌, drop, None, take}
 use Rattle.std.specs.Str.{bytes_eq}
-use Rattle.latex2mathml_elements.specs.Columns.{Columns as DefinedColumns}
+use Rattle.latex2mathml_elements.specs.Columns.{Alike, Centered, Columns as DefinedColumns, Dense, InDiagram}
 use Rattle.latex2mathml_attributes.specs.Columns.{columns_of}
 use Rattle.latex2mathml_tex_grammar.specs.{Next.past_space, Reading.ReadsBehindCell, Reading.ReadsRows, Rows.Row, Tables.Lines, Tables.a_table, Tables.cell_of}
 use Rattle.latex2mathml_tex_grammar.specs.Makes.{Core}
@@ -15,8 +15,8 @@ use Rattle.latex2mathml_tex_grammar.specs.Units.{Unit, Units, Next, End}
 use Rattle.latex2mathml_tex_units.specs.{Environments.environment_of, declared.environments.Environment.Environment}
 use Rattle.latex2mathml_tex_commands.specs.Meanings.{style_of}
 use Rattle.latex2mathml_tex.specs.Levels.{RuleLeads}
-use Rattle.latex2mathml_tex.specs.declared.parse.frames.{Table.Table, TableKind.TableKind}
-use Rattle.latex2mathml_tex.specs.declared.parse.frames.TableKind.TheVariants as kind
+use Rattle.latex2mathml_tex.specs.declared.parse.endings.{Diagram.Diagram, Table.Table, TableKind.TableKind}
+use Rattle.latex2mathml_tex.specs.declared.parse.endings.TableKind.TheVariants as kind
 use Rattle.latex2mathml_tex.specs.declared.parse.tables.CellEnd.{CellEnd}
 use Rattle.latex2mathml_tex.specs.declared.parse.tables.CellEnd.TheVariants as cell_end
 
@@ -28,20 +28,31 @@ cell_end_of cell_end.EndsTable = starts.EndsTable
 
 -- how a table ends
 abbrev pub ended_by : TableKind → TableEnd
-ended_by (kind.Environment e) = ByName
+ended_by (kind.Environment e columns) = ByName
 ended_by (kind.Diagram e) = OfDiagram
 ended_by kind.Braces = ByBrace
-ended_by kind.Text = ByText
+ended_by (kind.Text columns) = ByText
+
+-- its columns
+abbrev pub columns_in : TableKind → DefinedColumns
+columns_in (kind.Environment e columns) = columns_of columns
+columns_in (kind.Diagram e) = InDiagram
+columns_in kind.Braces = Alike Dense Centered
+columns_in (kind.Text columns) = columns_of columns
 
 abbrev pub table_end : Table → TableEnd
 table_end t = ended_by t.kind
 
+-- a diagram as a table
+abbrev pub table_of : Diagram → Table
+table_of d = record { kind = kind.Diagram d.environment; rows = d.rows; cells = d.cells }
+
 -- the style of its cells
 abbrev pub style_in : TableKind → symbols.Style
-style_in (kind.Environment e) = style_of e.now.style
+style_in (kind.Environment e columns) = style_of e.now.style
 style_in (kind.Diagram e) = style_of e.now.style
 style_in kind.Braces = symbols.InScript
-style_in kind.Text = symbols.InDisplay
+style_in (kind.Text columns) = symbols.InDisplay
 
 abbrev pub cell_context : Table → Context → Context
 cell_context t around = styled around (style_in t.kind)
@@ -52,14 +63,14 @@ behind_environment e columns around lines at =
     takes_found (BeforeArgument Name) at (λ other. ended_table at around (environment_of e) columns lines (bytes_eq other e.name.now))
 
 -- what follows the rows of a table, if the table is in this context
-abbrev pub after_rows : TableKind → DefinedColumns → Context → Lines → ℕ → Rule
-after_rows kind.Braces columns around lines at = gives (a_table None columns symbols.InScript around.style lines)
-after_rows kind.Text columns around lines at = gives (a_table None columns symbols.InDisplay around.style lines)
-after_rows (kind.Environment e) columns around lines at = behind_environment e.now columns around lines at
-after_rows (kind.Diagram e) columns around lines at = behind_environment e.now columns around lines at
+abbrev pub after_rows : TableKind → Context → Lines → ℕ → Rule
+after_rows kind.Braces around lines at = gives (a_table None (Alike Dense Centered) symbols.InScript around.style lines)
+after_rows (kind.Text columns) around lines at = gives (a_table None (columns_of columns) symbols.InDisplay around.style lines)
+after_rows (kind.Environment e columns) around lines at = behind_environment e.now (columns_of columns) around lines at
+after_rows (kind.Diagram e) around lines at = behind_environment e.now InDiagram around lines at
 
 abbrev pub behind_rows : Table → Context → Lines → ℕ → Rule
-behind_rows t around = after_rows t.kind (columns_of t.columns) around
+behind_rows t around = after_rows t.kind around
 
 -- where rows lead, to what follows them: what ends them comes next, a unit or the end of the text
 pub record LinesLead (then : Lines → ℕ → Rule) (K : Outcome Core → Type 0) (lines : Lines) (m : Units) : Type 0 where
@@ -91,10 +102,10 @@ rows_of t xs = take t.rows (drop t.cells xs)
 -- where the outcome of the next cell leads, if the table is in this context
 abbrev pub TableMade : Table → ℕ → List Element → Context → (Outcome Core → Type 0) → Outcome Row → Type 0
 TableMade t place xs around K =
-    CellMade (table_end t) place (columns_of t.columns) (cell_context t around) (rows_of t xs) (cells_of t xs) (RowsLead (behind_rows t around) K)
+    CellMade (table_end t) place (columns_in t.kind) (cell_context t around) (rows_of t xs) (cells_of t xs) (RowsLead (behind_rows t around) K)
 
 -- where the outcome of an arrow leads, which is the next cell of a table after these rows and these cells
 abbrev pub ArrowMade : Table → ℕ → List Element → List Element → Context → (Outcome Core → Type 0) → Outcome Core → Type 0
 ArrowMade t place rows cells around K (Read x m) =
-    (o : Outcome Lines) → ReadsRows (table_end t) place (columns_of t.columns) (cell_context t around) rows (x.atom.element ∷ cells) m o → RowsLead (behind_rows t around) K o
+    (o : Outcome Lines) → ReadsRows (table_end t) place (columns_in t.kind) (cell_context t around) rows (x.atom.element ∷ cells) m o → RowsLead (behind_rows t around) K o
 ArrowMade t place rows cells around K (Refused r) = K (Refused r)

@@ -15,6 +15,7 @@ mod begin;
 mod boxes;
 mod deliver;
 mod diagrams;
+pub(crate) mod endings;
 mod environments;
 mod fractions;
 pub(crate) mod frames;
@@ -33,8 +34,8 @@ mod words;
 use crate::parse::frames::{Frame, Frames};
 use crate::parse::plain::InRow;
 use latex2mathml_builder::builder::Builder;
-use latex2mathml_tex_atoms::atoms::{Core, Operand, Scripts, Words};
-use latex2mathml_tex_commands::meaning::{Alphabet, Style};
+use latex2mathml_tex_atoms::atoms::{Context, Core, Operand, Scripts, Words};
+use latex2mathml_tex_commands::meaning::Style;
 use latex2mathml_tex_units::error::{TexError, TexErrorKind};
 use latex2mathml_tex_units::input::Input;
 use latex2mathml_tex_units::macros::table::Macros;
@@ -53,8 +54,8 @@ pub(crate) enum State {
     Atom(Core, Scripts),
     /// Give the innermost frame an operand.
     Operand(Operand),
-    /// Read one part of words after these, in this alphabet; this place takes it.
-    Word(Words, usize, Option<Alphabet>),
+    /// Read one part of words after these, in this context; this place takes it.
+    Word(Words, usize, Context),
     /// Give the innermost frame these words.
     Words(Words),
     /// Nothing: the formula is read. It has this many elements.
@@ -172,7 +173,7 @@ impl<'a> Parser<'a> {
             State::Core(core) => self.deliver_core(core, state),
             State::Atom(core, scripts) => self.go_on(core, scripts, state),
             State::Operand(operand) => self.deliver_operand(operand, state),
-            State::Word(words, place, alphabet) => self.word(words, place, alphabet, state),
+            State::Word(words, place, context) => self.word(words, place, context, state),
             State::Words(words) => self.deliver_words(words, state),
             State::End(_) | State::Refused => unreachable!(),
         }
@@ -211,7 +212,7 @@ impl<'a> Parser<'a> {
             Frame::First(_, place, _) => self.next_operand(place, next),
             Frame::Script(_, _, _, place, _) => self.next_operand(place, next),
             Frame::Negation(place, _) => self.next_core(place, next),
-            Frame::Text | Frame::Words(_, _) => unreachable!(),
+            Frame::Text | Frame::Words(_, _) | Frame::Resized(_, _, _) => unreachable!(),
         }
     }
 

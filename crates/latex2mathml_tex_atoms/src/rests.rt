@@ -1,5 +1,5 @@
 //! What becomes of a row at a change, before what follows the change, and at the end of the group.
-ghost use Rattle.std.specs.Prelude.{◌≡◌, ◌≤◌, ◌∷◌, IfOk, List, None, OnOk, Some, drop, length, option_map, take};
+ghost use Rattle.std.specs.Prelude.{◌≡◌, ◌≤◌, ◌+◌, ◌∷◌, IfOk, List, None, OnOk, Some, drop, length, option_map, take};
 ghost use Rattle.latex2mathml_elements.specs.Element.{Element};
 ghost use Rattle.latex2mathml_attributes.specs.Arounds.{color_of};
 ghost use Rattle.latex2mathml_builder.specs.Built.{elements_in};
@@ -7,9 +7,9 @@ ghost use Rattle.latex2mathml_tex_grammar.specs.Rests;
 ghost use Rattle.latex2mathml_tex_grammar.specs.Rows;
 ghost use Rattle.latex2mathml_tex_commands.specs.Meanings.{fraction_rule_of, style_of, text_size_of};
 ghost use Rattle.latex2mathml_tex_commands.specs.declared.meaning.Class.TheVariants as class;
-ghost use Rattle.latex2mathml_tex_atoms.specs.Models.{context_of, look_of, row_count, row_with};
+ghost use Rattle.latex2mathml_tex_atoms.specs.Models.{context_of, look_of, row_count, row_with, words_with};
 
-use crate::atoms::{Before, Context, Kind, Row};
+use crate::atoms::{Before, Context, Kind, Row, Words};
 use crate::fractions::{put_fraction, style_attributes};
 use crate::operands::end_operand;
 use crate::shapes::{isolate, put_row};
@@ -42,13 +42,7 @@ impl Row {
     {
         match self.restyled {
             Some(look) => look,
-            None => Look {
-                group: context.style,
-                group_size: context.size,
-                has_own_style: false,
-                color: None,
-                scale: None,
-            },
+            None => Look::of(context),
         }
     }
 
@@ -68,6 +62,19 @@ impl Row {
 }
 
 impl Look {
+    /// Returns the look of what is read in this context before any change.
+    fn of(context: Context) -> Look
+        ensures { look_of result ≡ Rests.look_after None (context_of context) }
+    {
+        Look {
+            group: context.style,
+            group_size: context.size,
+            has_own_style: false,
+            color: None,
+            scale: None,
+        }
+    }
+
     /// Returns the look of letters of this size, where they were in this style: those of a script get their full size.
     pub fn with_size(self, size: TextSize, style: Style) -> Look
         ensures { look_of result
@@ -253,6 +260,35 @@ fn isolate_changed(builder: &mut Builder, row: Row)
     if row.settled == 0 {
         isolate(builder, row.count, row.last);
     }
+}
+
+/// Makes one element of the top `count` elements, if there are any, which are words after a change to this size in words that are
+/// read in this context. Returns the words with it, of which `before` elements precede the change.
+pub fn put_resized(
+    builder: &mut Builder,
+    size: TextSize,
+    context: Context,
+    count: usize,
+    before: usize,
+) -> Result<Words, AllocError>
+    requires { count + before ≤ length (elements_in builder.old) }
+    ensures words { IfOk result (λ words. words_with words (elements_in builder.new)
+        ≡ Rests.with_resized (text_size_of size) (context_of context)
+        (take before (drop count (elements_in builder.old)))
+        (take count (elements_in builder.old))) }
+    ensures below { IfOk result (λ words. drop words.count (elements_in builder.new)
+        ≡ drop before (drop count (elements_in builder.old))) }
+    ensures grown { IfOk result (λ words. length (elements_in builder.new) + (count + before)
+        ≡ length (elements_in builder.old) + words.count) }
+{
+    if count == 0 {
+        return Ok(Words::of(before));
+    }
+    let look = Look::of(context).with_size(size, context.style);
+    put_drawn(builder, context.style.at_full_size(), look, count)?;
+    // all elements of words are among those of the builder, so their number fits in a `usize`
+    let _ = builder.len();
+    Ok(Words::of(before + 1))
 }
 
 /// Finishes a row that was read in this style, at the end of its group. Most rows are finished already.

@@ -1,5 +1,5 @@
 //! The texts of words. The elements of words are the top elements of the builder.
-ghost use Rattle.std.specs.Prelude.{◌≤◌, IfOk, length};
+ghost use Rattle.std.specs.Prelude.{◌≡◌, ◌≤◌, IfOk, None, length};
 ghost use Rattle.latex2mathml_builder.specs.Built.{elements_in};
 ghost use Rattle.latex2mathml_tex_grammar.specs.{Makes.text, Words.with_accent_ended, Words.with_character};
 ghost use Rattle.latex2mathml_tex_atoms.specs.Models.{font_of};
@@ -10,6 +10,19 @@ use crate::fonts::Font;
 use latex2mathml_attributes::tag::Token;
 use latex2mathml_builder::builder::Builder;
 use std::alloc::AllocError;
+
+impl Words {
+    /// Returns words of this many elements, the last of which is no text that characters make longer.
+    pub fn of(count: usize) -> Words
+        ensures { result ≡ record { count = count; last = None; accent = None } }
+    {
+        Words {
+            count,
+            last: None,
+            accent: None,
+        }
+    }
+}
 
 /// Appends a character in this font to words, with their accent on it if there is one. Returns the words with it.
 pub fn put_character(

@@ -8,7 +8,7 @@ use Rattle.latex2mathml_tex_grammar.specs.Diagrams.{DiagramArrow, Labeled, LongE
 use Rattle.latex2mathml_tex_grammar.specs.Environments.{Environment, Bracket, NoBracket, Position, Alignment, columns_of, written_out, environment_of}
 use Rattle.latex2mathml_tex_grammar.specs.Scanning.{Spot, Argument, Name, ColumnList, RepeatedColumns, Number, ColorName, InLength, AtBracket, AtUnit, BeforeLengthInBraces}
 use Rattle.latex2mathml_tex_grammar.specs.Tables.{Lines}
-use Rattle.latex2mathml_tex_grammar.specs.{Commands.meaning_of, Commands.symbol_of, Delimiters.delimiter_of, Makes.Core, Makes.Outline, Refusal.Refusal, Rows.Row, Rows.Operand, Symbols.Alphabet, Symbols.Style, Symbols.Symbol, Words.Words}
+use Rattle.latex2mathml_tex_grammar.specs.{Commands.meaning_of, Commands.symbol_of, Delimiters.delimiter_of, Makes.Core, Makes.Outline, Refusal.Refusal, Rows.Row, Rows.Operand, Symbols.Style, Symbols.Symbol, Words.Words}
 use Rattle.latex2mathml_tex_grammar.specs.Meaning.{Meaning, takes_words, Shows, FunctionName, Dots, Spacing, Styled, Words as TakesWordsIn, Fraction, Root, Accent, Brace, Stack, StackedRelation, OperatorName, Negation, Slash, Sized, Left, Middle, Right, Limits, NoLimits, Classed, Changes, BeginTable, EndTable, LineBreak, Substack, Skip, SkipInBraces, Boxed, Smash, ContinuedFraction, GeneralFraction, Choice, Raise, InColor, Highlight, Rectangle, Arrow}
 use Rattle.latex2mathml_tex_grammar.specs.Rules.{Context, Ending, WholeText, InBraces, InBrackets, InDollars, InDelimiters, InLabel, begun, Rule, a_character, a_label, arrow_rule, gives, refuses, reads_operand, reads_core, reads_atoms, reads_words, takes_if, if_follows, takes_digits, takes_delimiter, of_one, of_two, decimal, after_digits, a_number, a_symbol, begins_none, character_rule, struck_atom, command_rule, rule, TableEnd, ByName, OfDiagram, ByBrace, InCell, takes_found, passes_over, reads_rows, ended_table, rows_rule, listed_rule, argument_rule, alignment_rule, bracket_rule, environment_rule, most_columns, ByText, in_brackets, with_value, a_length, a_bar, a_color, a_left_brace, a_right_brace, empty_braces, an_outer_delimiter, has_width, a_line, numbered_style, a_style, an_outlined_fraction}
 use Rattle.latex2mathml_tex_grammar.specs.{Colors.color_of, Lengths.width_of}
@@ -226,7 +226,7 @@ pub data AlikeRules (at : Standing) : Standing → Rule → Rule → Type 0 wher
   operand_too : {p q : ℕ} {c : Context} {f g : Operand → Rule} → ((x : Operand) → AlikeRules at at (f x) (g x)) → AlikeRules at at (reads_operand p c f) (reads_operand q c g)
   core_too : {p q : ℕ} {c : Context} {f g : Core → Rule} → ((x : Core) → AlikeRules at at (f x) (g x)) → AlikeRules at at (reads_core p c f) (reads_core q c g)
   atoms_too : {d e : Ending} {c : Context} {f g : Row → Rule} → AlikeEndings d e → at ≡ inside d at → ((x : Row) → AlikeRules at at (f x) (g x)) → AlikeRules at at (reads_atoms d c f) (reads_atoms e c g)
-  words_too : {p q : ℕ} {a : Option Alphabet} {f g : Words → Rule} → ((x : Words) → AlikeRules at at (f x) (g x)) → AlikeRules at (BeforeWords at) (reads_words p a f) (reads_words q a g)
+  words_too : {p q : ℕ} {c : Context} {f g : Words → Rule} → ((x : Words) → AlikeRules at at (f x) (g x)) → AlikeRules at (BeforeWords at) (reads_words p c f) (reads_words q c g)
   if_too : {tests : List (Piece → Option (List ℕ))} {f g : List ℕ → Rule} {r s : Rule} → AllPlain tests → ((x : List ℕ) → AlikeRules at at (f x) (g x)) → AlikeRules at at r s → AlikeRules at at (takes_if tests f r) (takes_if tests g s)
   follows_too : {test : Piece → Bool} {r s t k : Rule} → AlikeRules at at r s → AlikeRules at at t k → AlikeRules at at (if_follows test r t) (if_follows test s k)
   digits_taken_too : {f g : List ℕ → Rule} → ((x : List ℕ) → AlikeRules at at (f x) (g x)) → AlikeRules at at (takes_digits f) (takes_digits g)

@@ -10,7 +10,7 @@ use Rattle.latex2mathml_tex_grammar.specs.Starts.{Step, GoesOn, TakesOperand, Fo
 use Rattle.latex2mathml_tex_grammar.specs.ExpansionLaws.{EachPiece}
 use Rattle.latex2mathml_tex_grammar.specs.Tables.{Lines}
 use Rattle.latex2mathml_tex_grammar.specs.Units.{Piece, Command, Character, Units, is_forbidden}
-use Rattle.latex2mathml_tex_grammar.specs.Words.{Word, Shown, Formula, Accented, Changed, WordRule, IsWord, Words}
+use Rattle.latex2mathml_tex_grammar.specs.Words.{Word, Shown, Formula, Accented, Changed, Resized, WordRule, IsWord, Words}
 
 -- Units
 
@@ -81,6 +81,7 @@ IsAllowedWord (Shown font text) = IsAllowed text
 IsAllowedWord (Formula x) = HasAllowedTexts x
 IsAllowedWord (Accented accent) = IsAllowed (text accent)
 IsAllowedWord (Changed alphabet) = ⊤
+IsAllowedWord (Resized size) = ⊤
 
 -- the outcome is something that is allowed, with units that are allowed, or it is a refusal
 abbrev pub IsAllowedOutcome : {A : Type 0} → (A → Type 0) → Outcome A → Type 0
@@ -112,7 +113,7 @@ IsAllowedRule (refuses r) = ⊤
 IsAllowedRule (reads_operand place c then) = (x : Operand) → IsAllowedOperand x → IsAllowedRule (then x)
 IsAllowedRule (reads_core place c then) = (x : Core) → IsAllowedCore x → IsAllowedRule (then x)
 IsAllowedRule (reads_atoms ending c then) = (row : Row) → IsAllowedRow row → IsAllowedRule (then row)
-IsAllowedRule (reads_words place a then) = (ws : Words) → AreAllowedWords ws → IsAllowedRule (then ws)
+IsAllowedRule (reads_words place c then) = (ws : Words) → AreAllowedWords ws → IsAllowedRule (then ws)
 IsAllowedRule (takes_if tests then otherwise) =
     ((text : List ℕ) → AreGiven tests text → IsAllowedRule (then text)) × IsAllowedRule otherwise
 IsAllowedRule (if_follows test then otherwise) = IsAllowedRule then × IsAllowedRule otherwise

@@ -1,12 +1,12 @@
 -- What a change makes of rows that hold no character that XML forbids holds none either.
 use Rattle.std.proofs.Common.{◌≡◌, ℕ, Bool, true, false, List, [], ◌∷◌, Option, Some, None, refl}
 use Rattle.latex2mathml_elements.specs.{Characters.HasAllowedTexts, Colors.Color, Element.Element}
-use Rattle.latex2mathml_tex_grammar.specs.{Atoms.Kind, Colors.color_of, Makes.fraction, Meaning.Change, Meaning.ToAlphabet, Meaning.ToStyle, Meaning.ToSize, Meaning.ToColor, Meaning.Divides, Meaning.FractionRule, Symbols.InText, Symbols.Style}
-use Rattle.latex2mathml_tex_grammar.specs.Rests.{alone_after, alone_behind, begun_anew, below, drawn, finished, in_color, in_own_style, rest_behind_name, rest_below, rest_in, rest_of, scaled, settled, settled_after, with_drawn, with_sign_alone}
+use Rattle.latex2mathml_tex_grammar.specs.{Atoms.Kind, Colors.color_of, Makes.fraction, Meaning.Change, Meaning.ToAlphabet, Meaning.ToStyle, Meaning.ToSize, Meaning.ToColor, Meaning.Divides, Meaning.FractionRule, Symbols.InText, Symbols.Style, Symbols.TextSize, Symbols.at_full_size}
+use Rattle.latex2mathml_tex_grammar.specs.Rests.{alone_after, alone_behind, begun_anew, below, drawn, finished, in_color, in_own_style, look_in_size, rest_behind_name, rest_below, rest_in, rest_of, scaled, settled, settled_after, with_drawn, with_resized, with_sign_alone}
 use Rattle.latex2mathml_tex_grammar.specs.Scanning.{Found, Given, Missing, scan, BeforeColor}
 use Rattle.latex2mathml_tex_grammar.specs.Units.{Units}
 use Rattle.latex2mathml_tex_grammar.specs.{Rows.Look, Rows.Restyled, Rows.Row, Rows.Upper, Rows.empty_row, Rows.row_element, Rows.with_operand_ended, Rules.Context}
-use Rattle.latex2mathml_tex_grammar.proofs.Allowed.{AreAllowedElements, AreAllowedUnits, IsAllowedBefore, IsAllowedPart, IsAllowedRest, IsAllowedRow, IsAllowedUpper}
+use Rattle.latex2mathml_tex_grammar.proofs.Allowed.{AreAllowedElements, AreAllowedUnits, AreAllowedWords, IsAllowedBefore, IsAllowedPart, IsAllowedRest, IsAllowedRow, IsAllowedUpper}
 use Rattle.latex2mathml_tex_grammar.proofs.AllowedMakes.{fraction_allowed, last_allowed, lone_allowed, row_children_allowed, row_element_allowed, with_atom_allowed}
 use Rattle.latex2mathml_tex_grammar.proofs.AllowedRows.{given_allowed}
 
@@ -28,6 +28,10 @@ drawn_allowed look style xs h = in_color_allowed look.color _ (own_style_allowed
 with_drawn_allowed : (look : Look) (style : Style) (xs before : List Element) → AreAllowedElements xs → AreAllowedElements before → AreAllowedElements (with_drawn look style xs before)
 with_drawn_allowed look style [] before h k = k
 with_drawn_allowed look style (x ∷ xs) before h k = (drawn_allowed look style (x ∷ xs) h, k)
+
+-- words with those behind a change of size
+pub resized_allowed : (size : TextSize) (c : Context) (before behind : List Element) → AreAllowedElements before → AreAllowedElements behind → AreAllowedWords (with_resized size c before behind)
+resized_allowed size c before behind h k = (with_drawn_allowed (look_in_size size c) (at_full_size c.style) behind before k h, tt)
 
 settled_allowed : (change : Option Restyled) (style : Style) (row : Row) → IsAllowedBefore change → IsAllowedRow row → IsAllowedRow (settled_after change style row)
 settled_allowed None style row h k = k

@@ -1,9 +1,9 @@
 -- What units are read as, units that are alike but for white space are read as too.
-use Rattle.std.proofs.Common.{◌≡◌, ℕ, ℤ, List, true, [], ◌∷◌, Option, refl, sym, ap, subst, ◌∙◌}
+use Rattle.std.proofs.Common.{◌≡◌, ℕ, ℤ, List, true, [], ◌∷◌, refl, sym, ap, subst, ◌∙◌}
 use Rattle.latex2mathml_elements.specs.Columns.{Columns}
-use Rattle.latex2mathml_tex_grammar.specs.{Atoms.Atom, Atoms.Before, Delimiters.delimiter_of, Makes.Core, Makes.Scripts, Refusal.MissingDelimiter, Refusal.Refusal, Rows.Row, Rows.Operand, Symbols.Alphabet, Words.Words}
+use Rattle.latex2mathml_tex_grammar.specs.{Atoms.Atom, Atoms.Before, Delimiters.delimiter_of, Makes.Core, Makes.Scripts, Refusal.MissingDelimiter, Refusal.Refusal, Rows.Row, Rows.Operand, Words.Words}
 use Rattle.latex2mathml_tex_grammar.specs.Next.{digits_next, past_space}
-use Rattle.latex2mathml_tex_grammar.specs.Reading.{Outcome, Read, Refused, ReadsRule, rule_gives, rule_refuses, operand_read, operand_refused, core_read, core_refused, core_missing, core_stopped, atoms_read, atoms_refused, words_read, words_refused, units_taken, units_missing, unit_follows, no_unit_follows, digits_taken, delimiter_taken, delimiter_missing, ReadsOperand, group_operand, group_refused, digit_operand, other_operand, other_refused, no_operand, operand_at_end, operand_stopped, ReadsScripts, scripts_end, mark_taken, script_read, script_refused, mark_refused, ReadsAtom, divider_read, divider_refused, on_empty_row, base_read, base_refused, ReadsAtoms, text_ends, never_ended, atoms_stopped, atoms_end, atom_read, atom_refused, rest_read, change_refused, ReadsWord, word_stands, group_of_words, formula_read, formula_refused, words_in_alphabet, no_word, word_missing, word_at_end, word_stopped, ReadsWords, words_end, words_never_ended, words_stopped, word_read, word_refused, found_taken, found_refused, passed_over, rows_read, rows_refused, ReadsRows, cell_read, cell_refused, ReadsBehindCell, next_cell, arrow_read, arrow_refused, no_arrow, next_row, table_ends, rows_to_end, text_ends_table}
+use Rattle.latex2mathml_tex_grammar.specs.Reading.{Outcome, Read, Refused, ReadsRule, rule_gives, rule_refuses, operand_read, operand_refused, core_read, core_refused, core_missing, core_stopped, atoms_read, atoms_refused, words_read, words_refused, units_taken, units_missing, unit_follows, no_unit_follows, digits_taken, delimiter_taken, delimiter_missing, ReadsOperand, group_operand, group_refused, digit_operand, other_operand, other_refused, no_operand, operand_at_end, operand_stopped, ReadsScripts, scripts_end, mark_taken, script_read, script_refused, mark_refused, ReadsAtom, divider_read, divider_refused, on_empty_row, base_read, base_refused, ReadsAtoms, text_ends, never_ended, atoms_stopped, atoms_end, atom_read, atom_refused, rest_read, change_refused, ReadsWord, word_stands, group_of_words, formula_read, formula_refused, words_in_alphabet, no_word, word_missing, word_at_end, word_stopped, ReadsWords, words_end, words_never_ended, words_stopped, word_read, word_refused, words_resized, words_resized_refused, found_taken, found_refused, passed_over, rows_read, rows_refused, ReadsRows, cell_read, cell_refused, ReadsBehindCell, next_cell, arrow_read, arrow_refused, no_arrow, next_row, table_ends, rows_to_end, text_ends_table}
 use Rattle.latex2mathml_tex_grammar.specs.Diagrams.{arrow_of, sign_of_arrow}
 use Rattle.latex2mathml_tex_grammar.specs.Rules.{Context, Ending, begun, Rule, TableEnd, InCell}
 use Rattle.latex2mathml_tex_grammar.specs.Spacing.{Standing, InWords, standing_behind, AreAlike, both_end, same_piece}
@@ -16,7 +16,7 @@ use Rattle.latex2mathml_tex_grammar.proofs.Spaces.{Front, next_stays, both_next,
 use Rattle.latex2mathml_elements.specs.{Element.Element, Lines.Line}
 use Rattle.latex2mathml_tex_grammar.specs.{RowLines.is_line_command, RowLines.line_at, RowLines.line_next, RowLines.line_of, RowLines.lined, Scanning.BeforeRow, Rows.row_element, Tables.Lines, Tables.a_row}
 use Rattle.latex2mathml_tex_grammar.proofs.{Scans.found_too, Scans.refused_too as found_refused_too, Scans.past_too, Scans.past_break_too, Scans.past_gap_too, Scans.gap_too}
-use Rattle.latex2mathml_tex_grammar.proofs.{WordPieces.word_ends, WordPieces.formula_begins, WordPieces.words_begin, WordPieces.words_follow}
+use Rattle.latex2mathml_tex_grammar.proofs.{WordPieces.size_changes, WordPieces.word_ends, WordPieces.formula_begins, WordPieces.words_begin, WordPieces.words_follow}
 
 -- the same is read, and the units after it are alike, or the refusal is for the same reason
 pub data Carried {A : Type 0} (at : Standing) (reads : Outcome A → Type 0) : Outcome A → Type 0 where
@@ -251,30 +251,39 @@ mutual
   carry_behind_cell {m = m} other ended (text_ends_table p) calm h = also_read m h (text_ends_table (end_too h p).1)
 
   -- one part of words, which is all of them where words are due
-  carry_word : {before at : Standing} {place : ℕ} {a : Option Alphabet} {ws : Words} {l m : Units} {o : Outcome Words} (other : ℕ) → ReadsWord place a ws l o → WordsStand before at → Front before l m → Carried at (ReadsWord other a ws m) o
-  carry_word {before = before} {at = at} other (word_stands {a = a} {u = u} {w = x} s) w (both_next {m = m} place t h) =
-      also_read m (stands (word_ends a u.piece x s before at w t) h) (word_stands s)
-  carry_word {before = before} {at = at} other (group_of_words {a = a} {u = u} s d) w (both_next place t h) =
-      also (carry_words place d (fronts_of_words (stands (words_begin a u.piece s before at w) h))) (λ p. group_of_words s)
-  carry_word {before = before} {at = at} other (formula_read {a = a} {u = u} s d) w (both_next place t h) =
-      let (n, alike, e) = read_is (carry_atoms at d both_dollars in_dollars (stands (formula_begins a u.piece s before at w) h)) in
+  carry_word : {before at : Standing} {place : ℕ} {c : Context} {ws : Words} {l m : Units} {o : Outcome Words} (other : ℕ) → ReadsWord place c ws l o → WordsStand before at → Front before l m → Carried at (ReadsWord other c ws m) o
+  carry_word {before = before} {at = at} other (word_stands {c = c} {u = u} {w = x} s) w (both_next {m = m} place t h) =
+      also_read m (stands (word_ends c.alphabet u.piece x s before at w t) h) (word_stands s)
+  carry_word {before = before} {at = at} other (group_of_words {c = c} {u = u} s d) w (both_next place t h) =
+      also (carry_words place d (fronts_of_words (stands (words_begin c.alphabet u.piece s before at w) h))) (λ p. group_of_words s)
+  carry_word {before = before} {at = at} other (formula_read {c = c} {u = u} s d) w (both_next place t h) =
+      let (n, alike, e) = read_is (carry_atoms at d both_dollars in_dollars (stands (formula_begins c.alphabet u.piece s before at w) h)) in
       also_read n alike (formula_read s e)
-  carry_word {before = before} {at = at} other (formula_refused {a = a} {u = u} s d) w (both_next place t h) =
-      let (r, kind, e) = refused_is (carry_atoms at d both_dollars in_dollars (stands (formula_begins a u.piece s before at w) h)) in
+  carry_word {before = before} {at = at} other (formula_refused {c = c} {u = u} s d) w (both_next place t h) =
+      let (r, kind, e) = refused_is (carry_atoms at d both_dollars in_dollars (stands (formula_begins c.alphabet u.piece s before at w) h)) in
       also_refused r kind (formula_refused s e)
-  carry_word {before = before} {at = at} other (words_in_alphabet {a = a} {b = b} {u = u} s d) w (both_next place t h) =
-      also (carry_word place d before_words (fronts (stands (words_follow a b u.piece s before at w) h))) (λ p. words_in_alphabet s)
+  carry_word {before = before} {at = at} other (words_in_alphabet {c = c} {a = a} {u = u} s d) w (both_next place t h) =
+      also (carry_word place d before_words (fronts (stands (words_follow c.alphabet a u.piece s before at w) h))) (λ p. words_in_alphabet s)
   carry_word other (no_word s) w (both_next place t h) = also_refused _ refl (no_word s)
   carry_word other (word_missing s) w (both_next place t h) = also_refused _ refl (word_missing s)
   carry_word other word_at_end w both_ended = also_refused _ refl word_at_end
   carry_word other word_stopped w (both_stopped e) = also_refused _ e word_stopped
 
   -- words in braces end with their brace
-  carry_words : {at : Standing} {place : ℕ} {a : Option Alphabet} {ws : Words} {l m : Units} {o : Outcome Words} (other : ℕ) → ReadsWords place a ws l o → Front (InWords at) l m → Carried at (ReadsWords other a ws m) o
+  carry_words : {at : Standing} {place : ℕ} {c : Context} {ws : Words} {l m : Units} {o : Outcome Words} (other : ℕ) → ReadsWords place c ws l o → Front (InWords at) l m → Carried at (ReadsWords other c ws m) o
   carry_words {at = at} other (words_end {u = u} s) (both_next {m = m} place t h) = also_read m (closed (InWords at) u.piece s h) (words_end s)
   carry_words other words_never_ended both_ended = also_refused _ refl words_never_ended
   carry_words other words_stopped (both_stopped e) = also_refused _ e words_stopped
-  carry_words other (word_read s d ds) (both_next place t h) =
+  carry_words other (word_read s z d ds) (both_next place t h) =
       let (n, alike, e) = read_is (carry_word other d within_words (both_next place t h)) in
-      also (carry_words other ds (fronts_of_words alike)) (λ p. word_read s e)
-  carry_words other (word_refused s d) (both_next place t h) = (let (r, kind, e) = refused_is (carry_word other d within_words (both_next place t h)) in also_refused r kind (word_refused s e))
+      also (carry_words other ds (fronts_of_words alike)) (λ p. word_read s z e)
+  carry_words other (word_refused s z d) (both_next place t h) =
+      let (r, kind, e) = refused_is (carry_word other d within_words (both_next place t h)) in also_refused r kind (word_refused s z e)
+  carry_words {at = at} other (words_resized {c = c} {u = u} s d) (both_next place t h) =
+      let alike = stands (size_changes c.alphabet u.piece s (InWords at) (InWords at) within_words t) h in
+      let (n, left, e) = read_is (carry_words other d (fronts_of_words alike)) in
+      also_read n left (words_resized s e)
+  carry_words {at = at} other (words_resized_refused {c = c} {u = u} s d) (both_next place t h) =
+      let alike = stands (size_changes c.alphabet u.piece s (InWords at) (InWords at) within_words t) h in
+      let (r, kind, e) = refused_is (carry_words other d (fronts_of_words alike)) in
+      also_refused r kind (words_resized_refused s e)

@@ -6,8 +6,8 @@ use Rattle.latex2mathml_tex_grammar.specs.{Atoms.Atom, Atoms.Before, Makes.Core,
 use Rattle.latex2mathml_tex_grammar.specs.Reading.{Outcome, Read, ReadsRule, ReadsOperand, ReadsScripts, ReadsAtom, divider_read, divider_refused, on_empty_row, base_read, base_refused, ReadsAtoms, ReadsWord, ReadsWords, ReadsRows, ReadsBehindCell}
 use Rattle.latex2mathml_tex_grammar.specs.Rests.{Rest, GoesOnIn, NoRest, rest_of}
 use Rattle.latex2mathml_tex_grammar.specs.Diagrams.{arrow_of, before_arrow, fills_cell, sign_of_arrow}
-use Rattle.latex2mathml_tex_grammar.specs.Rules.{Context, Ending, InBraces, Rule, rule, arrow_rule, TableEnd}
-use Rattle.latex2mathml_tex_grammar.specs.{Meaning.Change, Starts.atom_start, Starts.ChangeStart, Starts.step_next, Starts.step_of_mark, Starts.mark_of, Starts.Step, Starts.GoesOn, Starts.TakesOperand, Starts.Forbidden, Refusal.Kind, Refusal.Refusal, Refusal.refusal_at, Symbols.Alphabet, Words.Words, Words.WordRule, Words.TakesWords, Scanning.Found, Scanning.Given, Starts.CellEnd, Next.next_are, Next.past_space, RowGaps.gap_at, RowLines.line_next, RowLines.lined, Scanning.past_break, Scanning.past_gap, Tables.Lines, Tables.cell_of}
+use Rattle.latex2mathml_tex_grammar.specs.Rules.{Context, Ending, InBraces, Rule, rule, arrow_rule, in_size, in_words, TableEnd}
+use Rattle.latex2mathml_tex_grammar.specs.{Meaning.Change, Starts.atom_start, Starts.ChangeStart, Starts.step_next, Starts.step_of_mark, Starts.mark_of, Starts.Step, Starts.GoesOn, Starts.TakesOperand, Starts.Forbidden, Refusal.Kind, Refusal.Refusal, Refusal.refusal_at, Symbols.Alphabet, Symbols.TextSize, Words.Words, Words.WordRule, Words.TakesWords, Words.size_after, Scanning.Found, Scanning.Given, Starts.CellEnd, Next.next_are, Next.past_space, RowGaps.gap_at, RowLines.line_next, RowLines.lined, Scanning.past_break, Scanning.past_gap, Tables.Lines, Tables.cell_of}
 use Rattle.latex2mathml_tex_grammar.specs.Units.{Unit, Units, Next, End}
 
 -- what holds of the unit that comes next, and of the units after it, holds whichever way it was found
@@ -148,8 +148,8 @@ base_moved {c} {before} {o = o} e d = moved (λ x m. ReadsScripts c before x.ato
 pub atoms_moved : {ending : Ending} {c : Context} (row : Row) {x y : Atom} {m n : Units} {o : Outcome Row} → Read x m ≡ Read y n → ReadsAtoms ending c (with_atom c.style row y) n o → ReadsAtoms ending c (with_atom c.style row x) m o
 atoms_moved {ending} {c} row {o = o} e d = moved (λ x m. ReadsAtoms ending c (with_atom c.style row x) m o) e d
 
-pub words_moved : {place : ℕ} {a : Option Alphabet} {ws vs : Words} {m n : Units} {o : Outcome Words} → Read ws m ≡ Read vs n → ReadsWords place a vs n o → ReadsWords place a ws m o
-words_moved {place} {a} {o = o} e d = moved (λ ws m. ReadsWords place a ws m o) e d
+pub words_moved : {place : ℕ} {c : Context} {ws vs : Words} {m n : Units} {o : Outcome Words} → Read ws m ≡ Read vs n → ReadsWords place c vs n o → ReadsWords place c ws m o
+words_moved {place} {c} {o = o} e d = moved (λ ws m. ReadsWords place c ws m o) e d
 
 -- the mark that comes next has one step
 
@@ -178,8 +178,14 @@ ended_there scripts p s t = cc (ap (step_next scripts) p)
 pub same_alphabet : (P : Option Alphabet → Type 0) {r : WordRule} {a b : Option Alphabet} → r ≡ TakesWords a → r ≡ TakesWords b → P b → P a
 same_alphabet P {r} {a} {b} s t e = (let same : b ≡ a = cc in subst P same e)
 
-pub word_is : {place : ℕ} {r : WordRule} {a b : Option Alphabet} {ws : Words} {l : Units} {o : Outcome Words} → r ≡ TakesWords a → r ≡ TakesWords b → ReadsWord place b ws l o → ReadsWord place a ws l o
-word_is {place} {ws = ws} {l = l} {o = o} s t e = same_alphabet (λ a. ReadsWord place a ws l o) s t e
+pub word_is : {place : ℕ} (c : Context) {r : WordRule} {a b : Option Alphabet} {ws : Words} {l : Units} {o : Outcome Words} → r ≡ TakesWords a → r ≡ TakesWords b → ReadsWord place (in_words c b) ws l o → ReadsWord place (in_words c a) ws l o
+word_is {place} c {ws = ws} {l = l} {o = o} s t e = same_alphabet (λ a. ReadsWord place (in_words c a) ws l o) s t e
+
+-- a change of size in words is one
+pub words_resized_to : {place : ℕ} (c : Context) (r : WordRule) {a b : TextSize} {ws : Words} {l : Units} {o : Outcome Words} → size_after r ≡ Some a → size_after r ≡ Some b → ReadsWords place (in_size c b) ws l o → ReadsWords place (in_size c a) ws l o
+words_resized_to {place} c r {a = a} {b = b} {ws = ws} {l = l} {o = o} s t d =
+    let same : b ≡ a = cc in
+    subst (λ size. ReadsWords place (in_size c size) ws l o) same d
 
 pub scripts_go_on : (step : Unit → Option Step) {c : Context} {before : Before} {base : Atom} {w m n : Units} {u v : Unit} {a b : Scripts} {o : Outcome Atom} → w ≡ Next u m → w ≡ Next v n → step u ≡ Some (GoesOn a) → step v ≡ Some (GoesOn b) → ReadsScripts c before base b n o → ReadsScripts c before base a m o
 scripts_go_on step {c} {before} {base} {o = o} p q s t e = goes_on step (λ x n. ReadsScripts c before base x n o) p q s t e

@@ -6,20 +6,20 @@ use Rattle.std.proofs.lemmas.Bool.{cases_Bool}
 use Rattle.std.specs.Bool.{⊤}
 use Rattle.latex2mathml_tex_grammar.specs.{Atoms.Atom, Atoms.Before, Rows.Row, Rows.Operand, Rows.empty_row, Rows.lone, Rows.row_element, Rows.with_atom, Rows.operand_of, Rows.single, Delimiters.delimiter_of, Laws.HasOneOutcome, Makes.Core, Makes.core, Makes.divider, Makes.Scripts, Makes.no_scripts, Meaning.Beside, Meaning.Change, RowGaps.gap_at, RowLines.line_next, RowLines.lined, Tables.Lines, Tables.begun_cell, Tables.cell_of, Tables.a_row, Tables.with_last}
 use Rattle.latex2mathml_tex_grammar.specs.Next.{follows, is_space_piece, past_space, next_are, digits_next, digits_here}
-use Rattle.latex2mathml_tex_grammar.specs.Reading.{Outcome, Read, Refused, ReadsRule, rule_gives, rule_refuses, operand_read, operand_refused, core_read, core_refused, core_missing, core_stopped, atoms_read, atoms_refused, words_read, words_refused, units_taken, units_missing, unit_follows, no_unit_follows, digits_taken, delimiter_taken, delimiter_missing, ReadsOperand, group_operand, group_refused, digit_operand, other_operand, other_refused, no_operand, operand_at_end, operand_stopped, ReadsScripts, scripts_end, mark_taken, script_read, script_refused, mark_refused, ReadsAtom, divider_read, divider_refused, on_empty_row, base_read, base_refused, ReadsAtoms, text_ends, never_ended, atoms_stopped, atoms_end, atom_read, atom_refused, rest_read, change_refused, ReadsWord, word_stands, group_of_words, formula_read, formula_refused, words_in_alphabet, no_word, word_missing, word_at_end, word_stopped, ReadsWords, words_end, words_never_ended, words_stopped, word_read, word_refused, found_taken, found_refused, passed_over, rows_read, rows_refused, ReadsRows, cell_read, cell_refused, ReadsBehindCell, next_cell, arrow_read, arrow_refused, no_arrow, next_row, table_ends, rows_to_end, text_ends_table}
+use Rattle.latex2mathml_tex_grammar.specs.Reading.{Outcome, Read, Refused, ReadsRule, rule_gives, rule_refuses, operand_read, operand_refused, core_read, core_refused, core_missing, core_stopped, atoms_read, atoms_refused, words_read, words_refused, units_taken, units_missing, unit_follows, no_unit_follows, digits_taken, delimiter_taken, delimiter_missing, ReadsOperand, group_operand, group_refused, digit_operand, other_operand, other_refused, no_operand, operand_at_end, operand_stopped, ReadsScripts, scripts_end, mark_taken, script_read, script_refused, mark_refused, ReadsAtom, divider_read, divider_refused, on_empty_row, base_read, base_refused, ReadsAtoms, text_ends, never_ended, atoms_stopped, atoms_end, atom_read, atom_refused, rest_read, change_refused, ReadsWord, word_stands, group_of_words, formula_read, formula_refused, words_in_alphabet, no_word, word_missing, word_at_end, word_stopped, ReadsWords, words_end, words_never_ended, words_stopped, word_read, word_refused, words_resized, words_resized_refused, found_taken, found_refused, passed_over, rows_read, rows_refused, ReadsRows, cell_read, cell_refused, ReadsBehindCell, next_cell, arrow_read, arrow_refused, no_arrow, next_row, table_ends, rows_to_end, text_ends_table}
 use Rattle.latex2mathml_tex_grammar.specs.Diagrams.{arrow_of, before_arrow, fills_cell, sign_of_arrow}
 use Rattle.latex2mathml_tex_grammar.specs.Refusal.{Refusal}
-use Rattle.latex2mathml_tex_grammar.specs.Rests.{Rest, GoesOnIn, NoRest, finished, rest_behind_name, rest_below, rest_in, rest_of}
+use Rattle.latex2mathml_tex_grammar.specs.Rests.{Rest, GoesOnIn, NoRest, finished, rest_behind_name, rest_below, rest_in, rest_of, with_resized}
 use Rattle.latex2mathml_tex_grammar.specs.{Colors.color_of, Meaning.Change, Meaning.ToAlphabet, Meaning.ToStyle, Meaning.ToSize, Meaning.ToColor, Meaning.Divides, Meaning.FractionRule, Rows.Upper}
 use Rattle.latex2mathml_tex_grammar.specs.Scanning.{BeforeColor}
 use Rattle.latex2mathml_elements.specs.Colors.{Color}
-use Rattle.latex2mathml_tex_grammar.specs.Rules.{Context, in_context, styled, Ending, WholeText, InBraces, InBrackets, InDollars, InDelimiters, InLabel, begun, Rule, arrow_rule, gives, refuses, reads_operand, reads_core, reads_atoms, reads_words, takes_if, if_follows, takes_digits, takes_delimiter, rule, a_digit, TableEnd, InCell, takes_found, passes_over, reads_rows}
+use Rattle.latex2mathml_tex_grammar.specs.Rules.{Context, formula_in_words, in_size, in_words, styled, Ending, WholeText, InBraces, InBrackets, InDollars, InDelimiters, InLabel, begun, Rule, arrow_rule, gives, refuses, reads_operand, reads_core, reads_atoms, reads_words, takes_if, if_follows, takes_digits, takes_delimiter, rule, a_digit, TableEnd, InCell, takes_found, passes_over, reads_rows}
 use Rattle.latex2mathml_tex_grammar.specs.Starts.{Mark, change_by, start_of_mark, is_command, step_of, AtomStart, DividerStart, ScriptStart, RuleStart, ChangeStart, OperandStart, NoStart, GroupStart, DigitStart, OtherStart, atom_start, operand_start, mark_of, Step, GoesOn, TakesOperand, Forbidden, step_of_mark, step_next, empty_base, ends, unended, is_close, left_behind, CellEnd, PartsCells, BeginsArrow, EndsRow, EndsTable, cell_end}
 use Rattle.latex2mathml_elements.specs.Columns.{Columns}
 use Rattle.latex2mathml_tex_grammar.specs.Scanning.{Spot, BeforeStar, BeforeLength, BeforeRow, Deed, Passes, Adds, Ends, Leaves, Misses, Refuses, deed, done, may_end, found_at_end, with_character, Found, Given, Missing, scan, behind_found, past, past_break, past_gap}
-use Rattle.latex2mathml_tex_grammar.specs.Symbols.{InText, InScript, Alphabet}
+use Rattle.latex2mathml_tex_grammar.specs.Symbols.{InScript, TextSize}
 use Rattle.latex2mathml_tex_grammar.specs.Units.{Piece, Space, Open, Close, Command, Character, Unit, Units, Next, End, Stop}
-use Rattle.latex2mathml_tex_grammar.specs.Words.{formula_alphabet, Words, no_words, Formula, with_accent_ended, with_word, WordRule, IsWord, BeginsGroup, EndsGroup, BeginsFormula, TakesWords, NoWord, alphabet_behind, word_rule}
+use Rattle.latex2mathml_tex_grammar.specs.Words.{size_after, Words, no_words, Formula, with_accent_ended, with_word, WordRule, IsWord, BeginsGroup, EndsGroup, BeginsFormula, TakesWords, NoWord, alphabet_behind, word_rule}
 use Rattle.latex2mathml_tex_grammar.proofs.{Spaces.next_stays, Unique.one_atoms}
 
 -- how many units there are
@@ -163,8 +163,8 @@ record HasOutcomes (k : ℕ) : Type 0 where
   of_atoms : (ending : Ending) (c : Context) (row : Row) (l : Units) → size l < k → Comes Row (ReadsAtoms ending c row l) (size l)
   of_rows : (end : TableEnd) (place : ℕ) (columns : Columns) (c : Context) (rows cells : List Element) (l : Units) → size l < k → RowsCome (ReadsRows end place columns c rows cells l) (size l)
   -- what is a part of words is taken
-  of_word : (place : ℕ) (a : Option Alphabet) (ws : Words) (l : Units) → size l < k → Comes Words (ReadsWord place a ws l) (size l - 1)
-  of_words : (place : ℕ) (a : Option Alphabet) (ws : Words) (l : Units) → size l < k → Comes Words (ReadsWords place a ws l) (size l)
+  of_word : (place : ℕ) (c : Context) (ws : Words) (l : Units) → size l < k → Comes Words (ReadsWord place c ws l) (size l - 1)
+  of_words : (place : ℕ) (c : Context) (ws : Words) (l : Units) → size l < k → Comes Words (ReadsWords place c ws l) (size l)
 
 -- With one unit more
 
@@ -360,34 +360,42 @@ rows_total k has end place columns c rows cells l h = elim (atoms_total k has (I
   | is_refused r d ↦ rows_none r (cell_refused d)
 ]
 
-begun_word : (k : ℕ) → HasOutcomes k → (place : ℕ) (a : Option Alphabet) (ws : Words) (u : Unit) (l : Units) → size l < k → (r : WordRule) → word_rule a u.piece ≡ r → Comes Words (ReadsWord place a ws (Next u l)) (size l)
-begun_word k has place a ws u l h (IsWord w) s = comes_to (with_word ws w) l (omega arith) (word_stands s)
-begun_word k has place a ws u l h BeginsGroup s = with_outcome (has.of_words u.place a ws l h) (omega arith) (λ o. group_of_words s)
-begun_word k has place a ws u l h EndsGroup s = is_refused _ (word_missing s)
-begun_word k has place a ws u l h BeginsFormula s = elim (has.of_atoms (InDollars u.place) (in_context InText (formula_alphabet a)) (begun (InDollars u.place)) l h) [
+begun_word : (k : ℕ) → HasOutcomes k → (place : ℕ) (c : Context) (ws : Words) (u : Unit) (l : Units) → size l < k → (r : WordRule) → word_rule c.alphabet u.piece ≡ r → Comes Words (ReadsWord place c ws (Next u l)) (size l)
+begun_word k has place c ws u l h (IsWord w) s = comes_to (with_word ws w) l (omega arith) (word_stands s)
+begun_word k has place c ws u l h BeginsGroup s = with_outcome (has.of_words u.place c ws l h) (omega arith) (λ o. group_of_words s)
+begun_word k has place c ws u l h EndsGroup s = is_refused _ (word_missing s)
+begun_word k has place c ws u l h BeginsFormula s = elim (has.of_atoms (InDollars u.place) (formula_in_words c) (begun (InDollars u.place)) l h) [
   | comes_to row m fits d ↦ comes_to (with_word ws (Formula (row_element (lone row.last row.elements)))) m fits (formula_read s d)
   | is_refused r d ↦ is_refused r (formula_refused s d)
 ]
-begun_word k has place a ws u l h (TakesWords b) s =
-    let less = size-past_space l in with_outcome (has.of_word u.place b ws (past_space l) (omega arith)) (omega arith) (λ o. words_in_alphabet s)
-begun_word k has place a ws u l h (NoWord kind) s = is_refused _ (no_word s)
+begun_word k has place c ws u l h (TakesWords a) s =
+    let less = size-past_space l in with_outcome (has.of_word u.place (in_words c a) ws (past_space l) (omega arith)) (omega arith) (λ o. words_in_alphabet s)
+begun_word k has place c ws u l h (NoWord kind) s = is_refused _ (no_word s)
 
-word_total : (k : ℕ) → HasOutcomes k → (place : ℕ) (a : Option Alphabet) (ws : Words) (l : Units) → size l < suc k → Comes Words (ReadsWord place a ws l) (size l - 1)
-word_total k has place a ws (Next u l) h = with_outcome (begun_word k has place a ws u l (omega arith) (word_rule a u.piece) refl) (omega arith) (λ o d. d)
-word_total k has place a ws (End at) h = is_refused _ word_at_end
-word_total k has place a ws (Stop r) h = is_refused r word_stopped
+word_total : (k : ℕ) → HasOutcomes k → (place : ℕ) (c : Context) (ws : Words) (l : Units) → size l < suc k → Comes Words (ReadsWord place c ws l) (size l - 1)
+word_total k has place c ws (Next u l) h = with_outcome (begun_word k has place c ws u l (omega arith) (word_rule c.alphabet u.piece) refl) (omega arith) (λ o d. d)
+word_total k has place c ws (End at) h = is_refused _ word_at_end
+word_total k has place c ws (Stop r) h = is_refused r word_stopped
 
 -- a part of words that has an outcome, and then the words after it
-word_after : (k : ℕ) → HasOutcomes k → (place : ℕ) (a : Option Alphabet) (ws : Words) (u : Unit) (l : Units) → size l < k → is_close u.piece ≡ false → Comes Words (ReadsWord place a ws (Next u l)) (size l) → Comes Words (ReadsWords place a ws (Next u l)) (size (Next u l))
-word_after k has place a ws u l h s (is_refused r d) = is_refused r (word_refused s d)
-word_after k has place a ws u l h s (comes_to vs m fits d) = with_outcome (has.of_words place (alphabet_behind a u.piece) vs m (omega arith)) (omega arith) (λ o. word_read s d)
+word_after : (k : ℕ) → HasOutcomes k → (place : ℕ) (c : Context) (ws : Words) (u : Unit) (l : Units) → size l < k → is_close u.piece ≡ false → size_after (word_rule c.alphabet u.piece) ≡ None → Comes Words (ReadsWord place c ws (Next u l)) (size l) → Comes Words (ReadsWords place c ws (Next u l)) (size (Next u l))
+word_after k has place c ws u l h s z (is_refused r d) = is_refused r (word_refused s z d)
+word_after k has place c ws u l h s z (comes_to vs m fits d) = with_outcome (has.of_words place (in_words c (alphabet_behind c.alphabet u.piece)) vs m (omega arith)) (omega arith) (λ o. word_read s z d)
 
-words_total : (k : ℕ) → HasOutcomes k → (place : ℕ) (a : Option Alphabet) (ws : Words) (l : Units) → size l < suc k → Comes Words (ReadsWords place a ws l) (size l)
-words_total k has place a ws (End at) h = is_refused _ words_never_ended
-words_total k has place a ws (Stop r) h = is_refused r words_stopped
-words_total k has place a ws (Next u l) h = elim (cases_Bool (is_close u.piece)) [
+-- words after a change of size, if there is one
+after_size : (k : ℕ) → HasOutcomes k → (place : ℕ) (c : Context) (ws : Words) (u : Unit) (l : Units) → size l < k → is_close u.piece ≡ false → (changed : Option TextSize) → size_after (word_rule c.alphabet u.piece) ≡ changed → Comes Words (ReadsWords place c ws (Next u l)) (size (Next u l))
+after_size k has place c ws u l h s None z = word_after k has place c ws u l h s z (begun_word k has place c ws u l h (word_rule c.alphabet u.piece) refl)
+after_size k has place c ws u l h s (Some size) z = elim (has.of_words place (in_size c size) no_words l h) [
+  | comes_to vs m fits d ↦ comes_to (with_resized size c (with_accent_ended ws).elements vs.elements) m (omega arith) (words_resized z d)
+  | is_refused r d ↦ is_refused r (words_resized_refused z d)
+]
+
+words_total : (k : ℕ) → HasOutcomes k → (place : ℕ) (c : Context) (ws : Words) (l : Units) → size l < suc k → Comes Words (ReadsWords place c ws l) (size l)
+words_total k has place c ws (End at) h = is_refused _ words_never_ended
+words_total k has place c ws (Stop r) h = is_refused r words_stopped
+words_total k has place c ws (Next u l) h = elim (cases_Bool (is_close u.piece)) [
   | inl s ↦ comes_to (with_accent_ended ws) l (omega arith) (words_end s)
-  | inr s ↦ word_after k has place a ws u l (omega arith) s (begun_word k has place a ws u l (omega arith) (word_rule a u.piece) refl)
+  | inr s ↦ after_size k has place c ws u l (omega arith) s (size_after (word_rule c.alphabet u.piece)) refl
 ]
 
 -- so a rule has an outcome
@@ -430,8 +438,8 @@ rule_total k has (reads_operand place c then) l h =
 rule_total k has (reads_core place c then) l h = after_core k has place c then l h (λ x m fits. rule_total k has (then x) m (omega arith))
 rule_total k has (reads_atoms ending c then) l h =
     after (λ xs m. ReadsRule (then xs) m) (atoms_total k has ending c (begun ending) l h) (omega arith) (λ xs m fits. rule_total k has (then xs) m (omega arith)) (λ xs m o. atoms_read) (λ r. atoms_refused)
-rule_total k has (reads_words place a then) l h =
-    let less = size-past_space l in after (λ ws m. ReadsRule (then ws) m) (word_total k has place a no_words (past_space l) (omega arith)) (omega arith) (λ ws m fits. rule_total k has (then ws) m (omega arith)) (λ ws m o. words_read) (λ r. words_refused)
+rule_total k has (reads_words place c then) l h =
+    let less = size-past_space l in after (λ ws m. ReadsRule (then ws) m) (word_total k has place c no_words (past_space l) (omega arith)) (omega arith) (λ ws m fits. rule_total k has (then ws) m (omega arith)) (λ ws m o. words_read) (λ r. words_refused)
 rule_total k has (takes_if tests then otherwise) l h =
     after_tests l tests then otherwise (find_next tests l) (λ texts m fits. rule_total k has (then texts) m (omega arith)) (rule_total k has otherwise l h)
 rule_total k has (if_follows test then otherwise) l h = after_look l test then otherwise (rule_total k has then l h) (rule_total k has otherwise l h)
@@ -454,8 +462,8 @@ outcomes zero = record {
   of_scripts = λ c before base scripts l h. absurd (omega arith);
   of_atoms = λ ending c row l h. absurd (omega arith);
   of_rows = λ end place columns c rows cells l h. absurd (omega arith);
-  of_word = λ place a ws l h. absurd (omega arith);
-  of_words = λ place a ws l h. absurd (omega arith);
+  of_word = λ place c ws l h. absurd (omega arith);
+  of_words = λ place c ws l h. absurd (omega arith);
 }
 outcomes (suc k) = record {
   of_rule = rule_total k (outcomes k);

@@ -3,10 +3,10 @@ use Rattle.std.proofs.Common.{◌≡◌, ℕ, Bool, true, false, List, Option, S
 use Rattle.std.specs.Str.{byte}
 use Rattle.latex2mathml_tex_grammar.specs.{Commands.meaning_of, Delimiters.entry_of_name, TextCommands.text_accents, TextCommands.text_commands}
 use Rattle.latex2mathml_tex_grammar.specs.Meaning.{Meaning, takes_words, Shows, FunctionName, Dots, Spacing, Styled, Words as TakesWordsIn, Fraction, Root, Accent, Brace, Stack, StackedRelation, OperatorName, Negation, Slash, Sized, Left, Middle, Right, Limits, NoLimits, Classed, Changes, ToAlphabet, ToStyle, ToSize, Divides, ToColor, BeginTable, EndTable, LineBreak, Substack, Skip, SkipInBraces, Boxed, Smash, ContinuedFraction, GeneralFraction, Choice, Raise, InColor, Highlight, Rectangle, Arrow}
-use Rattle.latex2mathml_tex_grammar.specs.{Next.is_space_piece, Refusal.Kind, Symbols.Alphabet}
+use Rattle.latex2mathml_tex_grammar.specs.{Next.is_space_piece, Refusal.Kind, Symbols.Alphabet, Symbols.TextSize}
 use Rattle.latex2mathml_tex_grammar.specs.Spacing.{Standing, BeforeWords, InWords, BetweenDollars, standing_behind, is_in_words}
 use Rattle.latex2mathml_tex_grammar.specs.Units.{Piece, Space, Open, Close, Command, Character}
-use Rattle.latex2mathml_tex_grammar.specs.Words.{Font, Word, font_in, WordRule, IsWord, BeginsGroup, EndsGroup, BeginsFormula, TakesWords, NoWord, word_rule, command_rule, accent_rule, meaning_rule}
+use Rattle.latex2mathml_tex_grammar.specs.Words.{Font, Word, Shown, Formula, Accented, Changed, Resized, font_in, size_after, WordRule, IsWord, BeginsGroup, EndsGroup, BeginsFormula, TakesWords, NoWord, word_rule, command_rule, accent_rule, meaning_rule}
 use Rattle.latex2mathml_tex_grammar.proofs.{AlikeRules.WordsStand, AlikeRules.before_words, AlikeRules.within_words, Plain.TakesNone, Plain.text_accent_plain, Plain.text_command_plain}
 
 -- the piece is all of the words where words are due, or one part of words in braces
@@ -161,3 +161,19 @@ words_begin a piece e before at w = group_is (in_a_word a piece) e before at w
 
 pub words_follow : (a b : Option Alphabet) (piece : Piece) → word_rule a piece ≡ TakesWords b → (before at : Standing) → WordsStand before at → standing_behind piece before ≡ BeforeWords at
 words_follow a b piece e before at w = words_are (in_a_word a piece) e before at w
+
+-- a change of size is a part of words
+pub size_is : (r : WordRule) {size : TextSize} → size_after r ≡ Some size → r ≡ IsWord (Resized size)
+size_is (IsWord (Shown font text)) e = cc
+size_is (IsWord (Formula x)) e = cc
+size_is (IsWord (Accented accent)) e = cc
+size_is (IsWord (Changed alphabet)) e = cc
+size_is (IsWord (Resized size)) e = cc
+size_is BeginsGroup e = cc
+size_is EndsGroup e = cc
+size_is BeginsFormula e = cc
+size_is (TakesWords a) e = cc
+size_is (NoWord kind) e = cc
+
+pub size_changes : (a : Option Alphabet) (piece : Piece) {size : TextSize} → size_after (word_rule a piece) ≡ Some size → EndsWord piece
+size_changes a piece {size} e = word_ends a piece (Resized size) (size_is (word_rule a piece) e)

@@ -8,14 +8,14 @@ use Rattle.latex2mathml_tex_grammar.specs.{Meaning.Beside, Meaning.Change, Next.
 use Rattle.latex2mathml_tex_grammar.specs.Diagrams.{arrow_of, before_arrow, fills_cell, sign_of_arrow}
 use Rattle.latex2mathml_tex_grammar.specs.{RowGaps.gap_at, RowLines.line_next, RowLines.lined}
 use Rattle.latex2mathml_tex_grammar.specs.Refusal.{Kind, MissingArgument, UnclosedBrace, MissingDelimiter, IncompleteArrow, Refusal, refusal_at}
-use Rattle.latex2mathml_tex_grammar.specs.Rests.{GoesOnIn, NoRest, finished, rest_of}
-use Rattle.latex2mathml_tex_grammar.specs.Rules.{Context, in_context, styled, Ending, InBraces, InDollars, begun, Rule, gives, refuses, reads_operand, reads_core, reads_atoms, reads_words, takes_if, if_follows, takes_digits, takes_delimiter, rule, arrow_rule, TableEnd, InCell, takes_found, passes_over, reads_rows}
+use Rattle.latex2mathml_tex_grammar.specs.Rests.{GoesOnIn, NoRest, finished, rest_of, with_resized}
+use Rattle.latex2mathml_tex_grammar.specs.Rules.{Context, formula_in_words, in_size, in_words, styled, Ending, InBraces, InDollars, begun, Rule, gives, refuses, reads_operand, reads_core, reads_atoms, reads_words, takes_if, if_follows, takes_digits, takes_delimiter, rule, arrow_rule, TableEnd, InCell, takes_found, passes_over, reads_rows}
 use Rattle.latex2mathml_tex_grammar.specs.Starts.{DividerStart, ScriptStart, RuleStart, ChangeStart, NoStart, GroupStart, DigitStart, OtherStart, atom_start, operand_start, mark_of, GoesOn, TakesOperand, Forbidden, step_of_mark, step_next, empty_base, ends, unended, is_close, left_behind, PartsCells, BeginsArrow, EndsRow, EndsTable, cell_end}
 use Rattle.latex2mathml_tex_grammar.specs.Scanning.{Spot, BeforeRow, Given, Missing, scan, past, past_break, past_gap}
-use Rattle.latex2mathml_tex_grammar.specs.Symbols.{InText, InScript, Alphabet}
+use Rattle.latex2mathml_tex_grammar.specs.Symbols.{InScript, Alphabet, TextSize}
 use Rattle.latex2mathml_tex_grammar.specs.{Tables.Lines, Tables.begun_cell, Tables.cell_of, Tables.a_row, Tables.with_last}
 use Rattle.latex2mathml_tex_grammar.specs.Units.{Piece, Unit, Units, Next, End, Stop}
-use Rattle.latex2mathml_tex_grammar.specs.Words.{formula_alphabet, Word, Formula, Words, no_words, with_accent_ended, with_word, IsWord, BeginsGroup, EndsGroup, BeginsFormula, TakesWords, NoWord, alphabet_behind, word_rule}
+use Rattle.latex2mathml_tex_grammar.specs.Words.{Word, Formula, Words, no_words, with_accent_ended, with_word, IsWord, BeginsGroup, EndsGroup, BeginsFormula, TakesWords, NoWord, alphabet_behind, size_after, word_rule}
 
 -- what was read, with the units that are left, or the refusal
 pub data Outcome (A : Type 0) : Type 0 where
@@ -64,13 +64,13 @@ mutual
         → ReadsAtoms ending c (begun ending) l (Refused r)
         → ReadsRule (reads_atoms ending c then) l (Refused r)
     -- the words are read, then what follows them. White space before the words is ignored.
-    words_read : {place : ℕ} {a : Option Alphabet} {then : Words → Rule} {l m : Units} {ws : Words} {o : Outcome Core}
-        → ReadsWord place a no_words (past_space l) (Read ws m)
+    words_read : {place : ℕ} {c : Context} {then : Words → Rule} {l m : Units} {ws : Words} {o : Outcome Core}
+        → ReadsWord place c no_words (past_space l) (Read ws m)
         → ReadsRule (then ws) m o
-        → ReadsRule (reads_words place a then) l o
-    words_refused : {place : ℕ} {a : Option Alphabet} {then : Words → Rule} {l : Units} {r : Refusal}
-        → ReadsWord place a no_words (past_space l) (Refused r)
-        → ReadsRule (reads_words place a then) l (Refused r)
+        → ReadsRule (reads_words place c then) l o
+    words_refused : {place : ℕ} {c : Context} {then : Words → Rule} {l : Units} {r : Refusal}
+        → ReadsWord place c no_words (past_space l) (Refused r)
+        → ReadsRule (reads_words place c then) l (Refused r)
     -- the units come next, and the first rule goes on after them
     units_taken : {tests : List (Piece → Option (List ℕ))} {then : List ℕ → Rule} {otherwise : Rule} {l m : Units} {texts : List ℕ} {o : Outcome Core}
         → next_are tests l ≡ Some (texts, m)
@@ -320,54 +320,65 @@ mutual
         → past_space l ≡ End at
         → ReadsBehindCell end place columns c rows cells cell l (Read (with_last columns rows cells cell) l)
 
-  -- the outcome of words with one more part, in an alphabet; the place is that of what takes the part. White space counts.
-  pub data ReadsWord : ℕ → Option Alphabet → Words → Units → Outcome Words → Type 0 where
-    word_stands : {place : ℕ} {a : Option Alphabet} {ws : Words} {l : Units} {u : Unit} {w : Word}
-        → word_rule a u.piece ≡ IsWord w
-        → ReadsWord place a ws (Next u l) (Read (with_word ws w) l)
-    group_of_words : {place : ℕ} {a : Option Alphabet} {ws : Words} {l : Units} {u : Unit} {o : Outcome Words}
-        → word_rule a u.piece ≡ BeginsGroup
-        → ReadsWords u.place a ws l o
-        → ReadsWord place a ws (Next u l) o
-    formula_read : {place : ℕ} {a : Option Alphabet} {ws : Words} {l m : Units} {u : Unit} {row : Row}
-        → word_rule a u.piece ≡ BeginsFormula
-        → ReadsAtoms (InDollars u.place) (in_context InText (formula_alphabet a)) (begun (InDollars u.place)) l (Read row m)
-        → ReadsWord place a ws (Next u l) (Read (with_word ws (Formula (row_element (lone row.last row.elements)))) m)
-    formula_refused : {place : ℕ} {a : Option Alphabet} {ws : Words} {l : Units} {u : Unit} {r : Refusal}
-        → word_rule a u.piece ≡ BeginsFormula
-        → ReadsAtoms (InDollars u.place) (in_context InText (formula_alphabet a)) (begun (InDollars u.place)) l (Refused r)
-        → ReadsWord place a ws (Next u l) (Refused r)
-    words_in_alphabet : {place : ℕ} {a b : Option Alphabet} {ws : Words} {l : Units} {u : Unit} {o : Outcome Words}
-        → word_rule a u.piece ≡ TakesWords b
-        → ReadsWord u.place b ws (past_space l) o
-        → ReadsWord place a ws (Next u l) o
-    no_word : {place : ℕ} {a : Option Alphabet} {ws : Words} {l : Units} {u : Unit} {kind : Kind}
-        → word_rule a u.piece ≡ NoWord kind
-        → ReadsWord place a ws (Next u l) (Refused (refusal_at kind u.place))
-    word_missing : {place : ℕ} {a : Option Alphabet} {ws : Words} {l : Units} {u : Unit}
-        → word_rule a u.piece ≡ EndsGroup
-        → ReadsWord place a ws (Next u l) (Refused (refusal_at MissingArgument place))
-    word_at_end : {place at : ℕ} {a : Option Alphabet} {ws : Words}
-        → ReadsWord place a ws (End at) (Refused (refusal_at MissingArgument place))
-    word_stopped : {place : ℕ} {a : Option Alphabet} {ws : Words} {r : Refusal}
-        → ReadsWord place a ws (Stop r) (Refused r)
+  -- the outcome of words with one more part; the place is that of what takes the part. White space counts.
+  pub data ReadsWord : ℕ → Context → Words → Units → Outcome Words → Type 0 where
+    word_stands : {place : ℕ} {c : Context} {ws : Words} {l : Units} {u : Unit} {w : Word}
+        → word_rule c.alphabet u.piece ≡ IsWord w
+        → ReadsWord place c ws (Next u l) (Read (with_word ws w) l)
+    group_of_words : {place : ℕ} {c : Context} {ws : Words} {l : Units} {u : Unit} {o : Outcome Words}
+        → word_rule c.alphabet u.piece ≡ BeginsGroup
+        → ReadsWords u.place c ws l o
+        → ReadsWord place c ws (Next u l) o
+    formula_read : {place : ℕ} {c : Context} {ws : Words} {l m : Units} {u : Unit} {row : Row}
+        → word_rule c.alphabet u.piece ≡ BeginsFormula
+        → ReadsAtoms (InDollars u.place) (formula_in_words c) (begun (InDollars u.place)) l (Read row m)
+        → ReadsWord place c ws (Next u l) (Read (with_word ws (Formula (row_element (lone row.last row.elements)))) m)
+    formula_refused : {place : ℕ} {c : Context} {ws : Words} {l : Units} {u : Unit} {r : Refusal}
+        → word_rule c.alphabet u.piece ≡ BeginsFormula
+        → ReadsAtoms (InDollars u.place) (formula_in_words c) (begun (InDollars u.place)) l (Refused r)
+        → ReadsWord place c ws (Next u l) (Refused r)
+    words_in_alphabet : {place : ℕ} {c : Context} {a : Option Alphabet} {ws : Words} {l : Units} {u : Unit} {o : Outcome Words}
+        → word_rule c.alphabet u.piece ≡ TakesWords a
+        → ReadsWord u.place (in_words c a) ws (past_space l) o
+        → ReadsWord place c ws (Next u l) o
+    no_word : {place : ℕ} {c : Context} {ws : Words} {l : Units} {u : Unit} {kind : Kind}
+        → word_rule c.alphabet u.piece ≡ NoWord kind
+        → ReadsWord place c ws (Next u l) (Refused (refusal_at kind u.place))
+    word_missing : {place : ℕ} {c : Context} {ws : Words} {l : Units} {u : Unit}
+        → word_rule c.alphabet u.piece ≡ EndsGroup
+        → ReadsWord place c ws (Next u l) (Refused (refusal_at MissingArgument place))
+    word_at_end : {place at : ℕ} {c : Context} {ws : Words}
+        → ReadsWord place c ws (End at) (Refused (refusal_at MissingArgument place))
+    word_stopped : {place : ℕ} {c : Context} {ws : Words} {r : Refusal}
+        → ReadsWord place c ws (Stop r) (Refused r)
 
   -- the outcome of words with those that follow, up to their brace, which is taken; the place is where they begin
-  pub data ReadsWords : ℕ → Option Alphabet → Words → Units → Outcome Words → Type 0 where
-    words_end : {place : ℕ} {a : Option Alphabet} {ws : Words} {l : Units} {u : Unit}
+  pub data ReadsWords : ℕ → Context → Words → Units → Outcome Words → Type 0 where
+    words_end : {place : ℕ} {c : Context} {ws : Words} {l : Units} {u : Unit}
         → IsTrue (is_close u.piece)
-        → ReadsWords place a ws (Next u l) (Read (with_accent_ended ws) l)
-    words_never_ended : {place at : ℕ} {a : Option Alphabet} {ws : Words}
-        → ReadsWords place a ws (End at) (Refused (refusal_at UnclosedBrace place))
-    words_stopped : {place : ℕ} {a : Option Alphabet} {ws : Words} {r : Refusal}
-        → ReadsWords place a ws (Stop r) (Refused r)
+        → ReadsWords place c ws (Next u l) (Read (with_accent_ended ws) l)
+    words_never_ended : {place at : ℕ} {c : Context} {ws : Words}
+        → ReadsWords place c ws (End at) (Refused (refusal_at UnclosedBrace place))
+    words_stopped : {place : ℕ} {c : Context} {ws : Words} {r : Refusal}
+        → ReadsWords place c ws (Stop r) (Refused r)
     -- a part, and the words after it
-    word_read : {place : ℕ} {a : Option Alphabet} {ws vs : Words} {l m : Units} {u : Unit} {o : Outcome Words}
+    word_read : {place : ℕ} {c : Context} {ws vs : Words} {l m : Units} {u : Unit} {o : Outcome Words}
         → IsFalse (is_close u.piece)
-        → ReadsWord place a ws (Next u l) (Read vs m)
-        → ReadsWords place (alphabet_behind a u.piece) vs m o
-        → ReadsWords place a ws (Next u l) o
-    word_refused : {place : ℕ} {a : Option Alphabet} {ws : Words} {l : Units} {u : Unit} {r : Refusal}
+        → size_after (word_rule c.alphabet u.piece) ≡ None
+        → ReadsWord place c ws (Next u l) (Read vs m)
+        → ReadsWords place (in_words c (alphabet_behind c.alphabet u.piece)) vs m o
+        → ReadsWords place c ws (Next u l) o
+    word_refused : {place : ℕ} {c : Context} {ws : Words} {l : Units} {u : Unit} {r : Refusal}
         → IsFalse (is_close u.piece)
-        → ReadsWord place a ws (Next u l) (Refused r)
-        → ReadsWords place a ws (Next u l) (Refused r)
+        → size_after (word_rule c.alphabet u.piece) ≡ None
+        → ReadsWord place c ws (Next u l) (Refused r)
+        → ReadsWords place c ws (Next u l) (Refused r)
+    -- a change of size, and the words after it
+    words_resized : {place : ℕ} {c : Context} {ws vs : Words} {l m : Units} {u : Unit} {size : TextSize}
+        → size_after (word_rule c.alphabet u.piece) ≡ Some size
+        → ReadsWords place (in_size c size) no_words l (Read vs m)
+        → ReadsWords place c ws (Next u l) (Read (with_resized size c (with_accent_ended ws).elements vs.elements) m)
+    words_resized_refused : {place : ℕ} {c : Context} {ws : Words} {l : Units} {u : Unit} {size : TextSize} {r : Refusal}
+        → size_after (word_rule c.alphabet u.piece) ≡ Some size
+        → ReadsWords place (in_size c size) no_words l (Refused r)
+        → ReadsWords place c ws (Next u l) (Refused r)

@@ -7,8 +7,9 @@ use Rattle.latex2mathml_tex_grammar.specs.Refusal.{Refusal, SecondInfix, Unknown
 use Rattle.latex2mathml_tex_grammar.specs.Rows.{Row, Look, Restyled, Upper, empty_row, lone, row_element, with_atom, with_operand_ended}
 use Rattle.latex2mathml_tex_grammar.specs.Rules.{Context, in_size, lettered, styled}
 use Rattle.latex2mathml_tex_grammar.specs.Scanning.{Found, Given, Missing, scan, BeforeColor}
-use Rattle.latex2mathml_tex_grammar.specs.Symbols.{Ordinary, Style, InText, TextSize, is_script, scale_between, smaller}
+use Rattle.latex2mathml_tex_grammar.specs.Symbols.{Ordinary, Style, InText, TextSize, at_full_size, is_script, scale_between, smaller}
 use Rattle.latex2mathml_tex_grammar.specs.Units.{Units}
+use Rattle.latex2mathml_tex_grammar.specs.Words.{Words}
 
 -- Styles, colors and sizes
 
@@ -70,6 +71,14 @@ with_size size style look = record look { has_own_style = look.has_own_style || 
 -- a row that was read in this context, after a change of size
 abbrev pub resized : TextSize → Context → Row → Row
 resized size c row = begun_anew (with_size size c.style (look_after row.restyled c)) (settled c.style row)
+
+-- how words that are read in this context look after a change of size
+abbrev pub look_in_size : TextSize → Context → Look
+look_in_size size c = with_size size c.style (look_after None c)
+
+-- these elements of words that are read in this context, with those behind a change of size
+abbrev pub with_resized : TextSize → Context → List Element → List Element → Words
+with_resized size c before behind = record { elements = with_drawn (look_in_size size c) (at_full_size c.style) behind before; last = None; accent = None }
 
 -- Fractions
 

@@ -15,7 +15,7 @@ use Rattle.latex2mathml_elements.specs.Colors.{Color}
 use Rattle.latex2mathml_tex_grammar.specs.Symbols.{Style, InDisplay, InText, InScript, smaller, TextSize, NormalSize, at_full_size, Alphabet, Upright, Opening, Ordinary, Relation, Symbol}
 use Rattle.latex2mathml_tex_grammar.specs.Tables.{Lines, a_table}
 use Rattle.latex2mathml_tex_grammar.specs.Units.{Piece, Space, Open, Close, Command, Character}
-use Rattle.latex2mathml_tex_grammar.specs.Words.{Words, words_atom}
+use Rattle.latex2mathml_tex_grammar.specs.Words.{Words, formula_alphabet, words_atom}
 
 -- the context in which a unit is read: the style, the alphabet of letters and digits, where there is one, and their size
 pub record Context : Type 0 where
@@ -36,6 +36,14 @@ lettered c alphabet = record c { alphabet = Some alphabet }
 
 abbrev pub in_size : Context → TextSize → Context
 in_size c size = record c { style = at_full_size c.style; size = size }
+
+-- the context of words in this alphabet, where there is one
+abbrev pub in_words : Context → Option Alphabet → Context
+in_words c alphabet = record c { alphabet = alphabet }
+
+-- the context of a formula in words
+abbrev pub formula_in_words : Context → Context
+formula_in_words c = record c { style = InText; alphabet = formula_alphabet c.alphabet }
 
 -- how a table ends: an environment with `\end`, and so does a diagram, whose cells also end at arrows; rows in braces, each of one
 -- cell, with their brace; and rows that are a whole text with the text
@@ -82,8 +90,8 @@ pub data Rule : Type 0 where
   reads_core : ℕ → Context → (Core → Rule) → Rule
   -- atoms up to an ending, which is taken, and what follows it
   reads_atoms : Ending → Context → (Row → Rule) → Rule
-  -- an operand of words
-  reads_words : ℕ → Option Alphabet → (Words → Rule) → Rule
+  -- an operand of words in a context
+  reads_words : ℕ → Context → (Words → Rule) → Rule
   -- if units that pass these tests come next, they are taken and the first rule follows, otherwise the second
   takes_if : List (Piece → Option (List ℕ)) → (List ℕ → Rule) → Rule → Rule
   -- if a unit that passes this test comes next, the first rule follows, otherwise the second; the unit is not taken
@@ -425,7 +433,7 @@ meaning_rule place c Highlight = a_color place (λ color. a_box place c (OnColor
 meaning_rule place c Rectangle = a_rectangle place
 meaning_rule place c (Arrow sign_character) = an_arrow place c sign_character
 meaning_rule place c (Styled alphabet) = of_one place (lettered c alphabet) (λ x. core (group x))
-meaning_rule place c (TakesWordsIn alphabet) = reads_words place alphabet (λ ws. gives (core (words_atom ws)))
+meaning_rule place c (TakesWordsIn alphabet) = reads_words place (in_words c alphabet) (λ ws. gives (core (words_atom ws)))
 meaning_rule place c (Fraction rule own) = a_fraction place c rule own
 meaning_rule place c ContinuedFraction = a_continued_fraction place c
 meaning_rule place c GeneralFraction = a_general_fraction place c

@@ -5,7 +5,7 @@ use Rattle.latex2mathml_elements.specs.{Attributes.Attributes, Attributes.Monosp
 use Rattle.latex2mathml_tex_grammar.specs.{Alphabets.in_alphabet, Atoms.Atom, Atoms.Plain, Atoms.atom, Commands.meaning_of, Delimiters.entry_of_name, Dots.low_dots, Makes.symbol, Makes.text, Rows.row_element, Rows.single, TextCommands.text_accents, TextCommands.text_commands}
 use Rattle.latex2mathml_tex_grammar.specs.Meaning.{Meaning, Shows, Dots, Spacing, Words as TakesWordsIn, Changes, ToAlphabet, ToSize}
 use Rattle.latex2mathml_tex_grammar.specs.Refusal.{Kind, CommandInWords, CharacterInWords, UnknownCommand}
-use Rattle.latex2mathml_tex_grammar.specs.Symbols.{Alphabet, BoldItalic, Monospace, Ordinary, InText}
+use Rattle.latex2mathml_tex_grammar.specs.Symbols.{Alphabet, BoldItalic, Monospace, Ordinary, InText, TextSize}
 use Rattle.latex2mathml_tex_grammar.specs.Units.{Piece, Space, Open, Close, Command, Character}
 
 -- The font of a text: the usual one, or one whose characters are all equally wide. Unicode's letters of a typewriter are no
@@ -19,13 +19,14 @@ abbrev pub font_in : Option Alphabet → Font
 font_in (Some Monospace) = Typewriter
 font_in alphabet = Usual
 
--- a part of words: a text in a font, the element of a formula, an accent on the next character, or a change, which is nothing by
--- itself. One to another alphabet holds up to the end of the group, and one of size is lost.
+-- a part of words: a text in a font, the element of a formula, an accent on the next character, or a change to another alphabet or
+-- size, which is nothing by itself and holds up to the end of the group
 pub data Word : Type 0 where
   Shown : Font → List ℕ → Word
   Formula : Element → Word
   Accented : ℕ → Word
-  Changed : Option Alphabet → Word
+  Changed : Alphabet → Word
+  Resized : TextSize → Word
 
 -- what a unit is in words
 pub data WordRule : Type 0 where
@@ -75,8 +76,8 @@ meaning_rule font name (Some (Spacing width)) = IsWord (word_space font)
 meaning_rule font name (Some (Shows sign)) = IsWord (Formula (single InText (symbol None sign).atom).element)
 meaning_rule font name (Some Dots) = IsWord (Formula (single InText (symbol None low_dots).atom).element)
 meaning_rule font name (Some (TakesWordsIn alphabet)) = TakesWords alphabet
-meaning_rule font name (Some (Changes (ToAlphabet alphabet))) = IsWord (Changed (Some alphabet))
-meaning_rule font name (Some (Changes (ToSize size))) = IsWord (Changed None)
+meaning_rule font name (Some (Changes (ToAlphabet alphabet))) = IsWord (Changed alphabet)
+meaning_rule font name (Some (Changes (ToSize size))) = IsWord (Resized size)
 meaning_rule font name (Some meaning) = NoWord (CommandInWords name)
 meaning_rule font name None = NoWord (UnknownCommand name)
 
@@ -100,13 +101,18 @@ word_rule alphabet (Command name) = command_rule (font_in alphabet) name (entry_
 
 -- the alphabet of the words after a unit in the same group, where the unit is this in words in an alphabet
 abbrev pub alphabet_after : Option Alphabet → WordRule → Option Alphabet
-alphabet_after alphabet (IsWord (Changed (Some other))) = Some other
+alphabet_after alphabet (IsWord (Changed other)) = Some other
 alphabet_after alphabet rule = alphabet
 
 -- the alphabet of the words after a unit in the same group: only a command changes it
 abbrev pub alphabet_behind : Option Alphabet → Piece → Option Alphabet
 alphabet_behind alphabet (Command name) = alphabet_after alphabet (word_rule alphabet (Command name))
 alphabet_behind alphabet piece = alphabet
+
+-- the size of the words after a unit in the same group, if the unit, which is this in words, changes it
+abbrev pub size_after : WordRule → Option TextSize
+size_after (IsWord (Resized size)) = Some size
+size_after rule = None
 
 -- Words so far: their elements, the last one first; the font of the last one, if it is a text; and the accent that the next
 -- character gets, if there is one.
@@ -171,6 +177,7 @@ with_word ws (Shown font character) = with_character font ws character
 with_word ws (Formula x) = with_formula (with_accent_ended ws).elements x
 with_word ws (Accented accent) = record (with_accent_ended ws) { accent = Some accent }
 with_word ws (Changed alphabet) = ws
+with_word ws (Resized size) = ws
 
 -- words as one element; no words are an empty text
 abbrev pub words_element : List Element → Element

@@ -3,7 +3,8 @@ ghost use Rattle.latex2mathml_tex_grammar.specs.Rules.{an_arrow};
 ghost use Rattle.latex2mathml_tex_atoms.specs.Models.{context_of};
 ghost use Rattle.latex2mathml_tex.specs.Steps.{BeginsIn, CanBegin, Advances, LeadsOn};
 
-use crate::parse::frames::{Ending, Frame, Last};
+use crate::parse::endings::Ending;
+use crate::parse::frames::{Frame, Last};
 use crate::parse::{Parser, State};
 use latex2mathml_tex_atoms::arrows::put_arrow;
 use latex2mathml_tex_atoms::atoms::{Context, Row};

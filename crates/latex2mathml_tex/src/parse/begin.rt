@@ -5,11 +5,12 @@ ghost use Rattle.latex2mathml_tex_grammar.specs.Makes;
 ghost use Rattle.latex2mathml_tex_grammar.specs.{Meaning.Left};
 ghost use Rattle.latex2mathml_tex_grammar.specs.Rules.{a_negation, a_root, a_sized_delimiter, an_operator_name, character_rule, command_rule, gives, meaning_rule, reads_words, some_dots};
 ghost use Rattle.latex2mathml_tex_grammar.specs.{Makes.core, Words.words_atom};
-ghost use Rattle.latex2mathml_tex_commands.specs.Meanings.{alphabet_of, class_of, style_of, meaning_of};
+ghost use Rattle.latex2mathml_tex_commands.specs.Meanings.{class_of, style_of, meaning_of};
 ghost use Rattle.latex2mathml_tex_atoms.specs.Models.{context_of};
 ghost use Rattle.latex2mathml_tex.specs.Steps.{AwaitsCore, Begins, BeginsIn, BeginsUnit, CanBegin, HoldsIn, Advances, LeadsOn, Ready};
 
-use crate::parse::frames::{Ending, First, Frame, Last};
+use crate::parse::endings::Ending;
+use crate::parse::frames::{First, Frame, Last};
 use crate::parse::symbols::put_letter;
 use crate::parse::{Parser, State};
 use latex2mathml_attributes::attributes::{Attributes, Size};
@@ -199,7 +200,14 @@ impl<'a> Parser<'a> {
                 ),
                 next,
             ),
-            Meaning::Words(alphabet) => self.text(place, alphabet, next),
+            Meaning::Words(alphabet) => self.text(
+                place,
+                Context {
+                    alphabet,
+                    ..context
+                },
+                next,
+            ),
             Meaning::Fraction(rule, own) => self.open_fraction(rule, own, place, context, next),
             Meaning::ContinuedFraction => self.continued_fraction(place, context, next),
             Meaning::GeneralFraction => self.general_fraction(place, context, next),
@@ -357,28 +365,18 @@ impl<'a> Parser<'a> {
         self.open(Frame::Negation(place, context), next)
     }
 
-    /// Begins the words that a command takes. White space before them is skipped.
-    fn text(
-        &mut self,
-        place: usize,
-        alphabet: Option<Alphabet>,
-        next: &mut State,
-    ) -> Result<(), AllocError>
+    /// Begins the words that a command takes, in this context. White space before them is skipped.
+    fn text(&mut self, place: usize, context: Context, next: &mut State) -> Result<(), AllocError>
         requires begin { CanBegin 0 self.old }
         ensures holds { LeadsOn
-            (Begins (reads_words place (option_map alphabet_of alphabet)
+            (Begins (reads_words place (context_of context)
             (λ ws. gives (core (words_atom ws)))) 0)
             self.old self.new next.new result }
         ensures step { Advances 13 self.old self.new next.new result }
     {
         self.frames.push(Frame::Text)?;
         self.input.skip_space();
-        let words = Words {
-            count: 0,
-            last: None,
-            accent: None,
-        };
-        *next = State::Word(words, place, alphabet);
+        *next = State::Word(Words::of(0), place, context);
         Ok(())
     }
 

@@ -40,7 +40,7 @@ impl<'a> Parser<'a> {
                 let _ = self.frames.take(self.style);
                 self.negate(place, core, next)
             }
-            Frame::Text | Frame::Words(_, _) => unreachable!(),
+            Frame::Text | Frame::Words(_, _) | Frame::Resized(_, _, _) => unreachable!(),
             frame => {
                 let context = frame.context();
                 let row = with_atom(&mut self.builder, context.style, Row::empty(), core)?;

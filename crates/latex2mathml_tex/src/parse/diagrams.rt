@@ -6,10 +6,11 @@ ghost use Rattle.latex2mathml_tex_grammar.specs.Diagrams;
 ghost use Rattle.latex2mathml_tex_grammar.specs.Starts;
 ghost use Rattle.latex2mathml_tex_units.specs.Taking.{piece_of};
 ghost use Rattle.latex2mathml_tex.specs.Diagrams.{MakesArrow};
-ghost use Rattle.latex2mathml_tex.specs.Frames.{ending_count};
+ghost use Rattle.latex2mathml_tex.specs.{Frames.ending_count, Tables.table_of};
 ghost use Rattle.latex2mathml_tex.specs.Steps.{Advances, CanMake, ClosesBefore, ClosesCell, GoesOnTable, LeadsOn, core_made};
 
-use crate::parse::frames::{Ending, Frame, Labeled, Table, is_sign_of};
+use crate::parse::endings::{Diagram, Ending, Labeled, is_sign_of};
+use crate::parse::frames::Frame;
 use crate::parse::{Parser, State};
 use latex2mathml_tex_atoms::atoms::Row;
 use latex2mathml_tex_atoms::diagrams::{
@@ -27,15 +28,15 @@ impl<'a> Parser<'a> {
     /// stack.
     pub(crate) fn close_at_arrow(
         &mut self,
-        table: Table,
+        diagram: Diagram,
         place: usize,
         row: Row,
         unit: Unit<'a>,
         next: &mut State,
     ) -> Result<(), AllocError>
         requires begins { Starts.BeginsArrow ≡ Starts.cell_end (piece_of unit.piece) }
-        requires can { CanMake core_made (row.count + (table.cells + table.rows)) self.old }
-        ensures holds { LeadsOn (ClosesCell table place row unit.entry)
+        requires can { CanMake core_made (row.count + (diagram.cells + diagram.rows)) self.old }
+        ensures holds { LeadsOn (ClosesCell (table_of diagram) place row unit.entry)
             self.old self.new next.new result }
         ensures step { Advances 13 self.old self.new next.new result }
     {
@@ -43,26 +44,26 @@ impl<'a> Parser<'a> {
             *next = self.refuse(TexErrorKind::IncompleteArrow, unit.place);
             return Ok(());
         };
-        if fills_cell(arrow, table.cells, row.count) {
-            return self.begin_arrow(arrow, table, place, unit.place, next);
+        if fills_cell(arrow, diagram.cells, row.count) {
+            return self.begin_arrow(arrow, diagram, place, unit.place, next);
         }
         put_braced(&mut self.builder, row.count, row.last)?;
         let _ = self.builder.len();
-        let cells = table.cells + 1;
-        self.begin_arrow(arrow, Table { cells, ..table }, place, unit.place, next)
+        let cells = diagram.cells + 1;
+        self.begin_arrow(arrow, Diagram { cells, ..diagram }, place, unit.place, next)
     }
 
-    /// Begins an arrow that is the next cell of this table, which began at `place`. The at sign was at `at`.
+    /// Begins an arrow that is the next cell of this diagram, which began at `place`. The at sign was at `at`.
     fn begin_arrow(
         &mut self,
         arrow: DiagramArrow,
-        table: Table,
+        diagram: Diagram,
         place: usize,
         at: usize,
         next: &mut State,
     ) -> Result<(), AllocError>
-        requires can { CanMake core_made (table.cells + table.rows) self.old }
-        ensures holds { LeadsOn (MakesArrow arrow table place at)
+        requires can { CanMake core_made (diagram.cells + diagram.rows) self.old }
+        ensures holds { LeadsOn (MakesArrow arrow (table_of diagram) place at)
             self.old self.new next.new result }
         ensures step { Advances 6 self.old self.new next.new result }
     {
@@ -73,7 +74,7 @@ impl<'a> Parser<'a> {
                 let small = around.styled(Style::InScript);
                 let labeled = Labeled {
                     direction,
-                    table,
+                    diagram,
                     place,
                 };
                 self.open(
@@ -83,15 +84,15 @@ impl<'a> Parser<'a> {
             }
             DiagramArrow::LongEquals => {
                 put_long_equals(&mut self.builder)?;
-                self.next_cell(table, place, next)
+                self.next_cell(diagram, place, next)
             }
             DiagramArrow::HighBars => {
                 put_high_bars(&mut self.builder)?;
-                self.next_cell(table, place, next)
+                self.next_cell(diagram, place, next)
             }
             DiagramArrow::Nothing => {
                 put_row(&mut self.builder, 0)?;
-                self.next_cell(table, place, next)
+                self.next_cell(diagram, place, next)
             }
         }
     }
@@ -146,21 +147,26 @@ impl<'a> Parser<'a> {
             return Ok(());
         }
         put_labeled_arrow(&mut self.builder, labeled.direction, row.count)?;
-        self.next_cell(labeled.table, labeled.place, next)
+        self.next_cell(labeled.diagram, labeled.place, next)
     }
 
-    /// Goes on after one more cell of a table, whose element is the uppermost one.
-    fn next_cell(&mut self, table: Table, place: usize, next: &mut State) -> Result<(), AllocError>
-        requires can { CanMake core_made (table.cells + 1 + table.rows) self.old }
+    /// Goes on after one more cell of a diagram, whose element is the uppermost one.
+    fn next_cell(
+        &mut self,
+        diagram: Diagram,
+        place: usize,
+        next: &mut State,
+    ) -> Result<(), AllocError>
+        requires can { CanMake core_made (diagram.cells + 1 + diagram.rows) self.old }
         ensures holds { LeadsOn
-            (GoesOnTable (record table { cells = table.cells + 1 }) place)
+            (GoesOnTable (table_of (record diagram { cells = diagram.cells + 1 })) place)
             self.old self.new next.new result }
         ensures step { Advances 6 self.old self.new next.new result }
     {
         // all cells are among the elements of the builder, so their number fits in a `usize`
         let _ = self.builder.len();
-        let cells = table.cells + 1;
-        self.begin_cell(Table { cells, ..table }, place, next)
+        let cells = diagram.cells + 1;
+        self.begin_cell(Diagram { cells, ..diagram }.table(), place, next)
     }
 }
 

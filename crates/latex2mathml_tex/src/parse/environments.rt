@@ -11,7 +11,7 @@ ghost use Rattle.latex2mathml_tex_units.specs.{Scans.argument_of, Environments.e
 ghost use Rattle.latex2mathml_tex_atoms.specs.Models.{context_of};
 ghost use Rattle.latex2mathml_tex.specs.Steps.{BeginsIn, CanBegin, Advances, LeadsOn};
 
-use crate::parse::frames::TableKind;
+use crate::parse::endings::TableKind;
 use crate::parse::{Parser, State};
 use latex2mathml_attributes::columns::{Alignment, Columns, Density};
 use latex2mathml_attributes::line::Line;
@@ -245,9 +245,9 @@ impl<'a> Parser<'a> {
         ensures step { Advances 12 self.old self.new next.new result }
     {
         if columns.are_in_diagram() {
-            return self.begin_first_cell(TableKind::Diagram(environment), columns, place, next);
+            return self.begin_first_cell(TableKind::Diagram(environment), place, next);
         }
-        self.begin_first_cell(TableKind::Environment(environment), columns, place, next)
+        self.begin_first_cell(TableKind::Environment(environment, columns), place, next)
     }
 }
 

@@ -5,7 +5,8 @@ ghost use Rattle.latex2mathml_tex_units.specs.Taking.{piece_of};
 ghost use Rattle.latex2mathml_tex.specs.SymbolOperands.{TookOperand};
 ghost use Rattle.latex2mathml_tex.specs.Steps.{AwaitsOperand, CanBegin, HoldsIn, Advances, LeadsOn, Ready, Took};
 
-use crate::parse::frames::{Ending, Frame};
+use crate::parse::endings::Ending;
+use crate::parse::frames::Frame;
 use crate::parse::leaves::{begin_number, number};
 use crate::parse::symbols::put_letter;
 use crate::parse::{Parser, State};

@@ -8,7 +8,8 @@ ghost use Rattle.latex2mathml_tex_grammar.specs.Units as units;
 ghost use Rattle.latex2mathml_tex_units.specs.{Left.units_behind, Taking.unit_of};
 ghost use Rattle.latex2mathml_tex.specs.Steps.{Advances, Follows, Holds, HoldsIn, LeadsOn, Ready, left_of, to_do};
 
-use crate::parse::frames::{Ending, Frame};
+use crate::parse::endings::Ending;
+use crate::parse::frames::Frame;
 use crate::parse::leaves::{begin_number, number};
 use crate::parse::scripts::mark_of;
 use crate::parse::symbols::{put_letter, put_symbol};

@@ -1,14 +1,15 @@
 //! Rows: how each of their atoms begins, how it is put after the others, and how a row ends.
-ghost use Rattle.std.specs.Prelude.{◌≡◌, ◌≢◌, ◌+◌, ℕ, false, OnOk, option_map};
+ghost use Rattle.std.specs.Prelude.{◌≡◌, ◌+◌, ℕ, false, OnOk, option_map};
 ghost use Rattle.latex2mathml_tex_grammar.specs.{Makes.no_scripts, Meaning.Beside, Starts.change_meant, Starts.empty_base, Starts.ends};
 ghost use Rattle.latex2mathml_tex_commands.specs.Meanings.{change_of, meaning_of};
 ghost use Rattle.latex2mathml_tex_units.specs.Taking.{piece_of};
 ghost use Rattle.latex2mathml_tex.specs.{Frames.Start, Frames.ending_count, Frames.ending_of, Innermost.braced_ending};
 ghost use Rattle.latex2mathml_tex_atoms.specs.Models.{row_count};
-ghost use Rattle.latex2mathml_tex.specs.Steps.{Awaits, AwaitsAtom, BeginsDivider, BeginsRest, CanBegin, CanMake, ClosesRow, EndsFormula, EndsRow, EndsText, EndsWithText, HasElements, HoldsIn, InnermostIs, Advances, LeadsOn, MadeAtom, Ready, Took, TookMark, TookUnmarked, atom_made, core_made, ending_weight, level, row_makes, Closes, Holds};
+ghost use Rattle.latex2mathml_tex.specs.Steps.{Awaits, AwaitsAtom, BeginsDivider, BeginsRest, CanBegin, CanMake, ClosesRow, EndsFormula, EndsRow, EndsText, EndsWithText, HasElements, IsEnding, HoldsIn, InnermostIs, Advances, LeadsOn, MadeAtom, Ready, Took, TookMark, TookUnmarked, atom_made, core_made, ending_weight, level, row_makes, Closes, Holds};
 ghost use Rattle.latex2mathml_tex_atoms.specs.declared.atoms.{Context.Context, Row.Row};
 
-use crate::parse::frames::{Braced, Ending, Frame, Last, Table};
+use crate::parse::endings::{Ending, Table};
+use crate::parse::frames::{Braced, Frame, Last};
 use crate::parse::scripts::{Mark, mark_of};
 use crate::parse::{Parser, State};
 use latex2mathml_attributes::attributes::Attributes;
@@ -305,7 +306,7 @@ impl<'a> Parser<'a> {
         unit: Unit<'a>,
         next: &mut State,
     ) -> Result<(), AllocError>
-        requires ends { ending ≢ Ending.Text }
+        requires ends { IsEnding ending (piece_of unit.piece) }
         requires can { CanMake (row_makes ending) (row_count row + ending_count ending) self.old }
         ensures holds { LeadsOn (EndsRow ending place style row unit.entry)
             self.old self.new next.new result }
@@ -324,7 +325,7 @@ impl<'a> Parser<'a> {
         unit: Unit<'a>,
         next: &mut State,
     ) -> Result<(), AllocError>
-        requires ends { ending ≢ Ending.Text }
+        requires ends { IsEnding ending (piece_of unit.piece) }
         requires can { CanMake (row_makes ending) (row.count + ending_count ending) self.old }
         ensures holds { LeadsOn (Closes ending place row unit.entry)
             self.old self.new next.new result }

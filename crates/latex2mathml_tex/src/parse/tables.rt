@@ -14,9 +14,10 @@ ghost use Rattle.latex2mathml_tex.specs.Frames.{context_at};
 ghost use Rattle.latex2mathml_tex_atoms.specs.{Models.context_of, Models.kind_of, Shapes.height_of};
 ghost use Rattle.latex2mathml_tex_units.specs.Environments.{delimiter_texts};
 ghost use Rattle.latex2mathml_tex.specs.Tables.{cell_end_of, line_count};
-ghost use Rattle.latex2mathml_tex.specs.Steps.{BeginsIn, BeginsTable, CanBegin, CanMake, Begins, ClosesCell, EndsCells, EndsRows, GoesOnTable, Advances, LeadsOn, left_of, MakesTable, TookText, core_made, level};
+ghost use Rattle.latex2mathml_tex.specs.Steps.{BeginsIn, BeginsTable, CanBegin, CanMake, Begins, ClosesCell, EndsCells, EndsRows, GoesOnTable, IsEnding, Advances, LeadsOn, left_of, MakesTable, TookText, core_made, level};
 
-use crate::parse::frames::{Ending, Frame, Table, TableKind};
+use crate::parse::endings::{Diagram, Ending, Table, TableKind};
+use crate::parse::frames::Frame;
 use crate::parse::{Parser, State};
 use latex2mathml_attributes::attributes::{Attributes, MathStyle};
 use latex2mathml_attributes::columns::{Alignment, Columns, Density};
@@ -80,8 +81,7 @@ impl<'a> Parser<'a> {
             *next = State::Refused;
             return Ok(());
         };
-        let columns = Columns::alike(Density::Dense, Alignment::Centered);
-        self.begin_first_cell(TableKind::Braces, columns, place, next)
+        self.begin_first_cell(TableKind::Braces, place, next)
     }
 
     /// Begins the rows of the whole text.
@@ -94,27 +94,24 @@ impl<'a> Parser<'a> {
         ensures step { Advances 13 self.old self.new next.new result }
     {
         let columns = columns_by(self.input.has_separator());
-        self.begin_first_cell(TableKind::Text, columns, 0, next)
+        self.begin_first_cell(TableKind::Text(columns), 0, next)
     }
 
     /// Begins the first cell of a table, and the line before its row, if there is one.
     pub(crate) fn begin_first_cell(
         &mut self,
         kind: TableKind,
-        columns: Columns,
         place: usize,
         next: &mut State,
     ) -> Result<(), AllocError>
         requires begin { CanBegin 0 self.old }
-        ensures holds { LeadsOn (BeginsTable kind columns place)
-            self.old self.new next.new result }
+        ensures holds { LeadsOn (BeginsTable kind place) self.old self.new next.new result }
         ensures step { Advances 12 self.old self.new next.new result }
     {
         let line = self.input.pass_lines(self.alloc)?;
         let rows = put_line(&mut self.builder, line)?;
         let table = Table {
             kind,
-            columns,
             rows,
             cells: 0,
         };
@@ -149,6 +146,7 @@ impl<'a> Parser<'a> {
         unit: Unit<'a>,
         next: &mut State,
     ) -> Result<(), AllocError>
+        requires ends { IsEnding (Ending.Cell table) (piece_of unit.piece) }
         requires can { CanMake core_made (row.count + (table.cells + table.rows)) self.old }
         ensures holds { LeadsOn (ClosesCell table place row unit.entry)
             self.old self.new next.new result }
@@ -162,10 +160,20 @@ impl<'a> Parser<'a> {
                 let cells = table.cells + 1;
                 self.begin_cell(Table { cells, ..table }, place, next)
             }
-            CellEnd::BeginsArrow => self.close_at_arrow(table, place, row, unit, next),
+            CellEnd::BeginsArrow => {
+                let TableKind::Diagram(environment) = table.kind else {
+                    unreachable!()
+                };
+                let diagram = Diagram {
+                    environment,
+                    rows: table.rows,
+                    cells: table.cells,
+                };
+                self.close_at_arrow(diagram, place, row, unit, next)
+            }
             CellEnd::EndsRow => {
                 let gap = self.input.pass_gap(self.alloc)?;
-                let strut = table.columns.density().strut(gap);
+                let strut = table.kind.columns().density().strut(gap);
                 put_last(&mut self.builder, row.count, row.last, strut, table.cells)?;
                 let line = self.input.pass_lines(self.alloc)?;
                 let lines = put_line(&mut self.builder, line)?;
@@ -201,35 +209,35 @@ impl<'a> Parser<'a> {
     {
         // an empty last row does not count
         if is_no_row(count, table) {
-            return self.end_table(table.kind, table.columns, table.rows, at, next);
+            return self.end_table(table.kind, table.rows, at, next);
         }
-        let strut = table.columns.density().strut(0);
+        let strut = table.kind.columns().density().strut(0);
         put_last(&mut self.builder, count, last, strut, table.cells)?;
         let _ = self.builder.len();
         let rows = table.rows + 1;
-        self.end_table(table.kind, table.columns, rows, at, next)
+        self.end_table(table.kind, rows, at, next)
     }
 
     /// Ends a table of this many rows, whose end is at this place and was taken.
     fn end_table(
         &mut self,
         kind: TableKind,
-        columns: Columns,
         rows: usize,
         at: usize,
         next: &mut State,
     ) -> Result<(), AllocError>
         requires can { CanMake core_made rows self.old }
         requires some { 0 < rows }
-        ensures holds { LeadsOn (EndsRows kind columns rows at) self.old self.new next.new result }
+        ensures holds { LeadsOn (EndsRows kind rows at) self.old self.new next.new result }
         ensures step { Advances 5 self.old self.new next.new result }
     {
+        let columns = kind.columns();
         match kind {
-            TableKind::Environment(environment) | TableKind::Diagram(environment) => {
+            TableKind::Environment(environment, _) | TableKind::Diagram(environment) => {
                 self.end_environment(environment, columns, rows, at, next)
             }
             TableKind::Braces => self.make_table(None, columns, Style::InScript, rows, next),
-            TableKind::Text => self.make_table(None, columns, Style::InDisplay, rows, next),
+            TableKind::Text(_) => self.make_table(None, columns, Style::InDisplay, rows, next),
         }
     }
 
@@ -245,7 +253,7 @@ impl<'a> Parser<'a> {
         requires can { CanMake core_made rows self.old }
         requires some { 0 < rows }
         ensures holds { LeadsOn
-            (EndsRows (TableKind.Environment environment.entry) columns rows at)
+            (EndsRows (TableKind.Environment environment.entry columns) rows at)
             self.old self.new next.new result }
         ensures step { Advances 5 self.old self.new next.new result }
     {

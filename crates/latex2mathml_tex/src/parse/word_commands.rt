@@ -7,7 +7,7 @@ ghost use Rattle.latex2mathml_tex_commands.specs.Meanings.{meaning_of};
 ghost use Rattle.latex2mathml_tex.specs.WordCommands.{rule_of};
 
 use latex2mathml_tex_commands::commands;
-use latex2mathml_tex_commands::meaning::{Alphabet, Change, Meaning, Symbol};
+use latex2mathml_tex_commands::meaning::{Alphabet, Change, Meaning, Symbol, TextSize};
 use latex2mathml_tex_commands::text_commands::{text_accent, text_character};
 use latex2mathml_tex_units::dots::LOW_DOTS;
 
@@ -24,12 +24,19 @@ pub(crate) enum WordCommand {
     Sign(Symbol),
     /// Words in this alphabet.
     Words(Option<Alphabet>),
-    /// A change to this alphabet, up to the end of the group, or one that is lost.
-    Change(Option<Alphabet>),
+    /// A change up to the end of the group.
+    Change(WordChange),
     /// A command that cannot appear in words.
     Forbidden,
     /// No command.
     Unknown,
+}
+
+/// A change in words, up to the end of the group.
+#[derive(Clone, Copy)]
+pub(crate) enum WordChange {
+    ToAlphabet(Alphabet),
+    ToSize(TextSize),
 }
 
 impl WordCommand {
@@ -60,8 +67,10 @@ impl WordCommand {
             Meaning::Shows(symbol) => WordCommand::Sign(symbol),
             Meaning::Dots => WordCommand::Sign(LOW_DOTS),
             Meaning::Words(alphabet) => WordCommand::Words(alphabet),
-            Meaning::Changes(Change::ToAlphabet(alphabet)) => WordCommand::Change(Some(alphabet)),
-            Meaning::Changes(Change::ToSize(_)) => WordCommand::Change(None),
+            Meaning::Changes(Change::ToAlphabet(alphabet)) => WordCommand::Change(
+                WordChange::ToAlphabet(alphabet),
+            ),
+            Meaning::Changes(Change::ToSize(size)) => WordCommand::Change(WordChange::ToSize(size)),
             _ => WordCommand::Forbidden,
         }
     }

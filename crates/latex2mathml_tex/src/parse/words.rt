@@ -3,43 +3,47 @@ ghost use Rattle.std.specs.Prelude.{◌≡◌, ◌≢◌, ◌==◌, ◌||◌, fa
 ghost use Rattle.std.specs.Str.{byte};
 ghost use Rattle.latex2mathml_tex_grammar.specs.Makes;
 ghost use Rattle.latex2mathml_tex_grammar.specs.Makes.{core};
-ghost use Rattle.latex2mathml_tex_grammar.specs.Words.{Formula, Shown, alphabet_behind, font_in, text_atom};
+ghost use Rattle.latex2mathml_tex_grammar.specs.Words.{Formula, Shown, alphabet_behind, font_in, size_after, text_atom, word_rule};
 ghost use Rattle.latex2mathml_tex_grammar.specs.Symbols;
 ghost use Rattle.latex2mathml_tex_grammar.specs.Words as words;
 ghost use Rattle.latex2mathml_tex_grammar.specs.Refusal.{CommandInWords, refusal_at};
-ghost use Rattle.latex2mathml_tex_grammar.specs.{Rows.single, Rules.gives, Symbols.InText, Units.Character, Units.Close, Units.Command};
+ghost use Rattle.latex2mathml_tex_grammar.specs.{Rows.single, Rules.formula_in_words, Rules.gives, Symbols.InText, Units.Character, Units.Close, Units.Command};
 ghost use Rattle.latex2mathml_tex_units.specs.{Errors.refusal_of, Taking.piece_of};
-ghost use Rattle.latex2mathml_tex_commands.specs.Meanings.{alphabet_of, symbol_of};
-ghost use Rattle.latex2mathml_tex.specs.Steps.{Begins, BeginsWordOf, CanMake, EndsGroupOf, GoesOnInBraces, HoldsIn, IsChange, Advances, LeadsOn, Ready, WordGiven, core_made, elements_of, words_made};
+ghost use Rattle.latex2mathml_tex_commands.specs.Meanings.{alphabet_of, symbol_of, text_size_of};
+ghost use Rattle.latex2mathml_tex_atoms.specs.Models.{context_of};
+ghost use Rattle.latex2mathml_tex.specs.WordCommands.{word_of};
+ghost use Rattle.latex2mathml_tex.specs.Steps.{Begins, BeginsWordOf, CanMake, ChangesWords, EndsGroupOf, GoesOnInBraces, GoesOnInSize, HoldsIn, IsChange, Advances, LeadsOn, Ready, WordGiven, core_made, elements_of, words_made};
 
-use crate::parse::frames::{Ending, Frame};
+use crate::parse::endings::Ending;
+use crate::parse::frames::Frame;
 use crate::parse::symbols::put_symbol;
-use crate::parse::word_commands::WordCommand;
+use crate::parse::word_commands::{WordChange, WordCommand};
 use crate::parse::{Parser, State};
 use latex2mathml_attributes::attributes::Attributes;
 use latex2mathml_attributes::tag::Token;
 use latex2mathml_tex_atoms::atoms::{Context, Core, Kind, Row, Words};
 use latex2mathml_tex_atoms::fonts::Font;
+use latex2mathml_tex_atoms::rests::put_resized;
 use latex2mathml_tex_atoms::shapes::{put_row, with_atom};
 use latex2mathml_tex_atoms::words::{end_accent, put_character};
 use latex2mathml_tex_commands::alphabets::in_alphabet;
-use latex2mathml_tex_commands::meaning::{Alphabet, Class, Style, Symbol};
+use latex2mathml_tex_commands::meaning::{Alphabet, Class, Style, Symbol, TextSize};
 use latex2mathml_tex_units::error::TexErrorKind;
 use latex2mathml_tex_units::unit::{Next, Piece, Unit};
 use std::alloc::AllocError;
 
 impl<'a> Parser<'a> {
-    /// Reads one part of words after these.
+    /// Reads one part of words after these, in this context.
     pub(crate) fn word(
         &mut self,
         words: Words,
         place: usize,
-        alphabet: Option<Alphabet>,
+        context: Context,
         next: &mut State,
     ) -> Result<(), AllocError>
-        requires { Ready self.old (State.Word words place alphabet) }
+        requires { Ready self.old (State.Word words place context) }
         ensures holds { LeadsOn
-            (HoldsIn (State.Word words place alphabet))
+            (HoldsIn (State.Word words place context))
             self.old self.new next.new result }
         ensures step { Advances 1 self.old self.new next.new result }
     {
@@ -58,7 +62,7 @@ impl<'a> Parser<'a> {
                     return Ok(());
                 }
                 self.input.advance();
-                self.begin_word(words, unit, alphabet, next)
+                self.begin_word(words, unit, context, next)
             }
         }
     }
@@ -68,41 +72,40 @@ impl<'a> Parser<'a> {
         &mut self,
         words: Words,
         unit: Unit<'a>,
-        alphabet: Option<Alphabet>,
+        context: Context,
         next: &mut State,
     ) -> Result<(), AllocError>
         requires can { CanMake words_made words.count self.old }
         requires some { piece_of unit.piece ≢ Close }
         ensures holds { LeadsOn
-            (BeginsWordOf words (piece_of unit.entry.piece) unit.entry.place
-            (option_map alphabet_of alphabet))
+            (BeginsWordOf words (piece_of unit.entry.piece) unit.entry.place (context_of context))
             self.old self.new next.new result }
         ensures step { Advances 13 self.old self.new next.new result }
     {
         match unit.piece {
-            Piece::Open => self.words_in_braces(words, unit.place, alphabet, next),
-            Piece::Space => self.show(words, alphabet, '\u{a0}', next),
-            Piece::Character(c) => self.character_in_words(words, c, unit.place, alphabet, next),
-            Piece::Command(name) => self.word_command(words, name, unit.place, alphabet, next),
+            Piece::Open => self.words_in_braces(words, unit.place, context, next),
+            Piece::Space => self.show(words, context.alphabet, '\u{a0}', next),
+            Piece::Character(c) => self.character_in_words(words, c, unit.place, context, next),
+            Piece::Command(name) => self.word_command(words, name, unit.place, context, next),
             Piece::Close => unreachable!(),
         }
     }
 
-    /// Goes on with words in braces, which began at this place, in an alphabet if there is one.
+    /// Goes on with words in braces, which began at this place, in this context.
     fn words_in_braces(
         &mut self,
         words: Words,
         place: usize,
-        alphabet: Option<Alphabet>,
+        context: Context,
         next: &mut State,
     ) -> Result<(), AllocError>
         requires { CanMake words_made words.count self.old }
         ensures holds { LeadsOn
-            (GoesOnInBraces words place (option_map alphabet_of alphabet))
+            (GoesOnInBraces words place (context_of context))
             self.old self.new next.new result }
         ensures step { Advances 13 self.old self.new next.new result }
     {
-        self.frames.push(Frame::Words(place, alphabet))?;
+        self.frames.push(Frame::Words(place, context))?;
         *next = State::Words(words);
         Ok(())
     }
@@ -113,31 +116,40 @@ impl<'a> Parser<'a> {
         words: Words,
         c: char,
         place: usize,
-        alphabet: Option<Alphabet>,
+        context: Context,
         next: &mut State,
     ) -> Result<(), AllocError>
         requires { CanMake words_made words.count self.old }
         ensures holds { LeadsOn
-            (BeginsWordOf words (Character c) place (option_map alphabet_of alphabet))
+            (BeginsWordOf words (Character c) place (context_of context))
             self.old self.new next.new result }
         ensures step { Advances 13 self.old self.new next.new result }
     {
         if c == '$' {
             let words = end_accent(&mut self.builder, words)?;
-            let context = Context::new(Style::InText, formula_alphabet(alphabet));
             return self.open(
-                Frame::Row(Ending::Formula(words.count), place, context, Row::begun()),
+                Frame::Row(
+                    Ending::Formula(words.count),
+                    place,
+                    formula_context(context),
+                    Row::begun(),
+                ),
                 next,
             );
         }
         if c == '~' {
-            return self.show(words, alphabet, '\u{a0}', next);
+            return self.show(words, context.alphabet, '\u{a0}', next);
         }
         if is_no_word(c) {
             *next = self.refuse(TexErrorKind::CharacterInWords(c), place);
             return Ok(());
         }
-        self.show(words, alphabet, word_character(alphabet, c), next)
+        self.show(
+            words,
+            context.alphabet,
+            word_character(context.alphabet, c),
+            next,
+        )
     }
 
     /// Begins a part of words with a command.
@@ -146,17 +158,17 @@ impl<'a> Parser<'a> {
         words: Words,
         name: &'a str,
         place: usize,
-        alphabet: Option<Alphabet>,
+        context: Context,
         next: &mut State,
     ) -> Result<(), AllocError>
         requires { CanMake words_made words.count self.old }
         ensures holds { LeadsOn
-            (BeginsWordOf words (Command name.now) place (option_map alphabet_of alphabet))
+            (BeginsWordOf words (Command name.now) place (context_of context))
             self.old self.new next.new result }
         ensures step { Advances 13 self.old self.new next.new result }
     {
         match WordCommand::of(name) {
-            WordCommand::Character(c) => self.show(words, alphabet, c, next),
+            WordCommand::Character(c) => self.show(words, context.alphabet, c, next),
             WordCommand::Accent(accent) => {
                 let words = end_accent(&mut self.builder, words)?;
                 *next = State::Words(Words {
@@ -165,11 +177,18 @@ impl<'a> Parser<'a> {
                 });
                 Ok(())
             }
-            WordCommand::Space => self.show(words, alphabet, '\u{a0}', next),
+            WordCommand::Space => self.show(words, context.alphabet, '\u{a0}', next),
             WordCommand::Sign(symbol) => self.show_symbol(words, symbol, next),
             WordCommand::Words(alphabet) => {
                 self.input.skip_space();
-                *next = State::Word(words, place, alphabet);
+                *next = State::Word(
+                    words,
+                    place,
+                    Context {
+                        alphabet,
+                        ..context
+                    },
+                );
                 Ok(())
             }
             WordCommand::Change(_) => {
@@ -215,20 +234,26 @@ impl<'a> Parser<'a> {
                 let words = end_accent(&mut self.builder, words)?;
                 self.end_text(words.count, next)
             }
-            Frame::Words(place, alphabet) => match self.input.peek() {
+            Frame::Resized(before, size, context) => {
+                let _ = self.frames.take(self.style);
+                let words = put_resized(&mut self.builder, size, context, words.count, before)?;
+                *next = State::Words(words);
+                Ok(())
+            }
+            Frame::Words(place, context) => match self.input.peek() {
                 Next::Unit(unit) => match unit.piece {
                     Piece::Close => {
                         self.input.advance();
                         let _ = self.frames.take(self.style);
                         self.end_group(words, next)
                     }
-                    piece => match alphabet_change(piece) {
-                        Some(other) => {
+                    piece => match change_in_words(piece) {
+                        Some(change) => {
                             self.input.advance();
                             let _ = self.frames.take(self.style);
-                            self.words_in_braces(words, place, Some(other), next)
+                            self.change_words(words, place, context, change, next)
                         }
-                        None => self.word(words, place, alphabet, next),
+                        None => self.word(words, place, context, next),
                     },
                 },
                 Next::End(_) => {
@@ -236,12 +261,60 @@ impl<'a> Parser<'a> {
                     Ok(())
                 }
                 Next::Fault(_, _) => {
-                    *next = State::Word(words, place, alphabet);
+                    *next = State::Word(words, place, context);
                     Ok(())
                 }
             },
             _ => unreachable!(),
         }
+    }
+
+    /// Goes on with words in braces, which began at this place and were read in this context, behind a change of them.
+    fn change_words(
+        &mut self,
+        words: Words,
+        place: usize,
+        context: Context,
+        change: WordChange,
+        next: &mut State,
+    ) -> Result<(), AllocError>
+        requires { CanMake words_made words.count self.old }
+        ensures holds { LeadsOn
+            (ChangesWords words place (context_of context) (word_of change))
+            self.old self.new next.new result }
+        ensures step { Advances 17 self.old self.new next.new result }
+    {
+        match change {
+            WordChange::ToAlphabet(alphabet) => {
+                let changed = Context {
+                    alphabet: Some(alphabet),
+                    ..context
+                };
+                self.words_in_braces(words, place, changed, next)
+            }
+            WordChange::ToSize(size) => self.words_in_size(words, place, size, context, next),
+        }
+    }
+
+    /// Goes on in this size with words in braces, which began at this place, after those that were read in this context.
+    fn words_in_size(
+        &mut self,
+        words: Words,
+        place: usize,
+        size: TextSize,
+        context: Context,
+        next: &mut State,
+    ) -> Result<(), AllocError>
+        requires { CanMake words_made words.count self.old }
+        ensures holds { LeadsOn
+            (GoesOnInSize words place (text_size_of size) (context_of context))
+            self.old self.new next.new result }
+        ensures step { Advances 17 self.old self.new next.new result }
+    {
+        let words = end_accent(&mut self.builder, words)?;
+        self.frames
+            .push(Frame::Resized(words.count, size, context))?;
+        self.words_in_braces(Words::of(0), place, context.sized(size), next)
     }
 
     /// Appends a character to words, in the font of this alphabet.
@@ -282,11 +355,7 @@ impl<'a> Parser<'a> {
         let row = with_atom(&mut self.builder, Style::InText, Row::empty(), core)?;
         put_row(&mut self.builder, row.count)?;
         let _ = self.builder.len();
-        *next = State::Words(Words {
-            count: words.count + 1,
-            last: None,
-            accent: None,
-        });
+        *next = State::Words(Words::of(words.count + 1));
         Ok(())
     }
 
@@ -318,18 +387,20 @@ impl<'a> Parser<'a> {
     }
 }
 
-/// Returns the alphabet of the words after the unit in the same group, if the unit changes it.
-fn alphabet_change(piece: Piece) -> Option<Alphabet>
-    ensures changed { IfSome result (λ other. (a : Option Symbols.Alphabet)
-        → IsChange a (piece_of piece.entry) (alphabet_of other)) }
-    ensures kept { result ≡ None → (a : Option Symbols.Alphabet)
+/// Returns how the unit changes the words after it in the same group, if it changes them.
+fn change_in_words(piece: Piece) -> Option<WordChange>
+    ensures changed { IfSome result (λ change. (a : Option Symbols.Alphabet)
+        → IsChange a (piece_of piece.entry) (word_of change)) }
+    ensures alphabet { result ≡ None → (a : Option Symbols.Alphabet)
         → alphabet_behind a (piece_of piece.entry) ≡ a }
+    ensures size { result ≡ None → (a : Option Symbols.Alphabet)
+        → size_after (word_rule a (piece_of piece.entry)) ≡ None }
 {
     let Piece::Command(name) = piece else {
         return None;
     };
     match WordCommand::of(name) {
-        WordCommand::Change(alphabet) => alphabet,
+        WordCommand::Change(change) => Some(change),
         _ => None,
     }
 }
@@ -352,14 +423,19 @@ fn word_character(alphabet: Option<Alphabet>, c: char) -> char
     }
 }
 
-/// Returns the alphabet of the formulas in words: bold italic after `\boldmath`, otherwise none.
-fn formula_alphabet(alphabet: Option<Alphabet>) -> Option<Alphabet>
-    ensures { option_map alphabet_of result
-        ≡ words.formula_alphabet (option_map alphabet_of alphabet) }
+/// Returns the context of the formulas in words that are read in this context. They are bold italic after `\boldmath`, and otherwise in
+/// no alphabet.
+fn formula_context(context: Context) -> Context
+    ensures { context_of result ≡ formula_in_words (context_of context) }
 {
-    match alphabet {
-        Some(Alphabet::BoldItalic) => alphabet,
+    let alphabet = match context.alphabet {
+        Some(Alphabet::BoldItalic) => context.alphabet,
         _ => None,
+    };
+    Context {
+        style: Style::InText,
+        alphabet,
+        ..context
     }
 }
 

@@ -26,7 +26,7 @@ returns-clause-holds c = λ s g.
     let took = took_some string_bytes place BeforeBrace p q _ c.in-Some._brace c.in-Some.is c.in_ok-_brace.ensures in
     let rule : List ℕ → Rule = λ brace. reads_rows ByBrace place (Alike Dense Centered) (styled context InScript) (λ lines end. gives (a_table None (Alike Dense Centered) InScript context.style lines)) in
     let begins = text_taken p q place BeforeBrace (string_bytes c.in-Some._brace) took s c.args.context rule g in
-    c.begin_first_cell.ensures.holds s (substack_begins s q c.alike-columns.result place c.args.context c.alike-columns.ensures begins)
+    c.begin_first_cell.ensures.holds s (substack_begins s q place c.args.context begins)
 
 pub returns-clause-step : goal.returns-clause-step
 returns-clause-step c =

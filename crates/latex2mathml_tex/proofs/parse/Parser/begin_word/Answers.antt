@@ -1,6 +1,6 @@
-use Rattle.std.proofs.Common.{Option, ap, option_map}
-use Rattle.latex2mathml_tex_grammar.specs.{Symbols.Alphabet, Words.font_in, Words.word_rule, Words.word_space}
-use Rattle.latex2mathml_tex_commands.specs.Meanings.{alphabet_of}
+use Rattle.std.proofs.Common.{ap}
+use Rattle.latex2mathml_tex_grammar.specs.{Words.font_in, Words.word_rule, Words.word_space}
+use Rattle.latex2mathml_tex_atoms.specs.Models.{context_of}
 use Rattle.latex2mathml_tex_units.specs.Taking.{piece_of}
 use Rattle.latex2mathml_tex.proofs.{WordRules.group_begun, Wording.stands}
 use Rattle.latex2mathml_tex.proofs.parse.Parser.begin_word.Goals as goal
@@ -10,9 +10,9 @@ returns-in-Open-clause-holds c = λ s g. c.words_in_braces.ensures.holds s (grou
 
 pub returns-in-Space-clause-holds : goal.returns-in-Space-clause-holds
 returns-in-Space-clause-holds c = λ s g.
-    let a : Option Alphabet = option_map alphabet_of c.args.alphabet in
-    let rule = ap (λ piece. word_rule a (piece_of piece)) c.in-Space.is in
-    c.show.ensures.holds s (stands s c.args.self.now c.args.words (piece_of c.args.unit.piece) c.args.unit.place a (word_space (font_in a)) rule g)
+    let k = context_of c.args.context in
+    let rule = ap (λ piece. word_rule k.alphabet (piece_of piece)) c.in-Space.is in
+    c.show.ensures.holds s (stands s c.args.self.now c.args.words (piece_of c.args.unit.piece) c.args.unit.place k (word_space (font_in k.alphabet)) rule g)
 
 pub returns-in-Character-clause-holds : goal.returns-in-Character-clause-holds
 returns-in-Character-clause-holds c = λ s g. c.character_in_words.ensures.holds s (rw c.in-Character.is at g)

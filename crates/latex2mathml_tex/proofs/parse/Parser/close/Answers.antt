@@ -1,6 +1,9 @@
-use Rattle.std.proofs.Common.{arith}
+use Rattle.std.proofs.Common.{ap, arith}
+use Rattle.latex2mathml_tex_grammar.specs.Starts as starts
+use Rattle.latex2mathml_tex_units.specs.Taking.{piece_of}
+use Rattle.latex2mathml_tex.specs.Frames.{ending_of}
 use Rattle.latex2mathml_tex.specs.Steps.{ClosesRow, core_made}
-use Rattle.latex2mathml_tex.specs.declared.parse.frames.Ending.TheVariants as ending
+use Rattle.latex2mathml_tex.specs.declared.parse.endings.Ending.TheVariants as ending
 use Rattle.latex2mathml_tex.proofs.Closing.{arrow_closed, closed_can, degree_closed, formula_closed, words_closed_step}
 use Rattle.latex2mathml_tex.proofs.Rows.{step_within}
 use Rattle.latex2mathml_tex.proofs.parse.Parser.close.Goals as goal
@@ -46,3 +49,12 @@ pub returns-in_ok-put_label_row-in-BelowArrow-clause-step : goal.returns-in_ok-p
 returns-in_ok-put_label_row-in-BelowArrow-clause-step c =
     let p = c.args.self.now in
     step_within p (record p { builder = c.put_label_row.new.builder }) c.open-in-BelowArrow.new.self c.open-in-BelowArrow.new.next c.open-in-BelowArrow.result 6 13 (omega arith) c.open-in-BelowArrow.ensures.step
+
+pub close_cell-requires-clause-ends : goal.close_cell-requires-clause-ends
+close_cell-requires-clause-ends c = rw c.in-Cell.is at c.requires.ends
+
+pub unreachable-requires : goal.unreachable-requires
+unreachable-requires c =
+    let ends = c.requires.ends 0 in
+    let none = ap (λ e. starts.ends (ending_of e 0) (piece_of c.args.unit.piece)) c.in-Text.is in
+    cc

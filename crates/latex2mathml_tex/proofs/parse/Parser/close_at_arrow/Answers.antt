@@ -7,8 +7,8 @@ use Rattle.latex2mathml_tex_units.specs.Left.{units_at}
 use Rattle.latex2mathml_tex_units.proofs.Nexts.{no_more_taken}
 use Rattle.latex2mathml_tex_atoms.specs.{Models.kind_of, declared.atoms.Row.Row}
 use Rattle.latex2mathml_tex.specs.Steps.{elements_of, left_of}
-use Rattle.latex2mathml_tex.specs.Tables.{cells_of}
-use Rattle.latex2mathml_tex.specs.declared.parse.frames.Table.{Table}
+use Rattle.latex2mathml_tex.specs.Tables.{cells_of, table_of}
+use Rattle.latex2mathml_tex.specs.declared.parse.endings.Table.{Table}
 use Rattle.latex2mathml_tex.proofs.{Diagrams.cell_before, Diagrams.cell_filled, Diagrams.none_follows, Rows.step_within, TableRules.refused_at, Tabled.count_below, Tabled.lone_length}
 use Rattle.latex2mathml_tex.proofs.parse.Parser.close_at_arrow.Goals as goal
 
@@ -23,7 +23,7 @@ module _ (xs : List Element) (t : Table) (row : Row) (there : row.count + (t.cel
 pub returns-in_default-clause-holds : goal.returns-in_default-clause-holds
 returns-in_default-clause-holds c = λ s g.
     let p = c.args.self.now in
-    let t = c.args.table in
+    let t = table_of c.args.diagram in
     let r = refusal_at IncompleteArrow c.args.unit.place in
     rw c.refuse.ensures.state
     (refused_at s p c.refuse.new.self (c.args.row.count + (t.cells + t.rows)) r (rw c.refuse.ensures.parser refl) (rw c.refuse.ensures.parser refl) g.style (none_follows s p t c.args.place c.args.row c.args.unit c.requires.begins g c.in_default.ensures.0))
@@ -31,7 +31,7 @@ returns-in_default-clause-holds c = λ s g.
 pub returns-then-fills_cell-clause-holds : goal.returns-then-fills_cell-clause-holds
 returns-then-fills_cell-clause-holds c = λ s g.
     let p = c.args.self.now in
-    let t = c.args.table in
+    let t = table_of c.args.diagram in
     let row = c.args.row in
     let xs = elements_of p in
     let a = c.in-Some.arrow in
@@ -51,7 +51,7 @@ returns-then-fills_cell-clause-step c =
 pub returns-clause-holds : goal.returns-clause-holds
 returns-clause-holds c = λ s g.
     let p = c.args.self.now in
-    let t = c.args.table in
+    let t = table_of c.args.diagram in
     let row = c.args.row in
     let xs = elements_of p in
     let a = c.in-Some.arrow in

@@ -1,14 +1,15 @@
-use Rattle.std.proofs.Common.{◌≡◌, ℕ, ℤ, of_z, to_z, w32, ◌+◌, ap, arith, drop, length, refl, sym, ◌∙◌}
+use Rattle.std.proofs.Common.{◌≡◌, ℕ, ℤ, of_z, to_z, w32, ◌+◌, ap, arith, drop, length, refl, subst, sym, ◌∙◌}
 use Rattle.std.proofs.lemmas.Int.{ints}
 use Rattle.latex2mathml_attributes.specs.Lines.{line_of}
 use Rattle.latex2mathml_attributes.specs.Arounds.{extent_of}
-use Rattle.latex2mathml_elements.specs.Struts.{strut}
+use Rattle.latex2mathml_elements.specs.{Columns.density_in, Struts.strut}
 use Rattle.latex2mathml_tex_grammar.specs.{RowLines.line_next, RowLines.lined, Scanning.BeforeRow, Scanning.past}
-use Rattle.latex2mathml_tex.specs.declared.parse.frames.Table.{Table}
+use Rattle.latex2mathml_tex.specs.declared.parse.endings.Table.{Table}
 use Rattle.std.proofs.lemmas.List.{length-drop}
-use Rattle.latex2mathml_tex.specs.Steps.{core_made, elements_of}
+use Rattle.latex2mathml_tex.specs.Steps.{ClosesCell, core_made, elements_of}
 use Rattle.latex2mathml_tex.specs.Tables.{cell_end_of}
-use Rattle.latex2mathml_tex.proofs.{Closing.closed_can, Rows.step_within, TableRules.broken_step, Tabled.cell_ends, Tabled.cell_parted, Tabled.row_broken}
+use Rattle.latex2mathml_tex_units.specs.Taking.{piece_of}
+use Rattle.latex2mathml_tex.proofs.{Closing.closed_can, Diagrams.only_diagrams, Rows.step_within, TableRules.broken_step, Tabled.cell_ends, Tabled.cell_parted, Tabled.row_broken}
 use Rattle.latex2mathml_tex.proofs.parse.Parser.close_cell.Goals as goal
 
 pub returns-in_ok-put_braced-in-PartsCells-clause-holds : goal.returns-in_ok-put_braced-in-PartsCells-clause-holds
@@ -24,7 +25,7 @@ returns-in_ok-lines-in-EndsRow-clause-holds c = λ s g.
     let table : ℕ → Table = λ n. record t { rows = t.rows + 1 + n; cells = 0 } in
     let gap : ℤ = to_z w32 (of_z w32 c.in_ok-gap-in-EndsRow.gap) in
     let same : gap ≡ c.in_ok-gap-in-EndsRow.gap = omega (arith, ints) in
-    let props = c.strut-strut.ensures ∙ ap (λ d. strut d gap) c.density.ensures in
+    let props = c.strut-strut.ensures ∙ ap (λ d. strut d gap) c.density.ensures ∙ ap (λ columns. strut (density_in columns) gap) c.columns.ensures in
     let puts = c.in_ok-lines-in-EndsRow.ensures.elements ∙ ap (lined line) c.in_ok-put_last-in-EndsRow.ensures in
     let behind = c.in_ok-gap-in-EndsRow.ensures.units in
     let follows = c.in_ok-line-in-EndsRow.ensures.line ∙ ap line_next behind in
@@ -70,3 +71,11 @@ begin_cell-requires-in-EndsRow c =
         awaits = record { accepted = can.awaits.accepted; nested = can.awaits.nested };
       };
     }
+
+pub unreachable-requires : goal.unreachable-requires
+unreachable-requires c = only_diagrams c.args.table.kind 0 (piece_of c.args.unit.piece) c.in_default.not-Diagram c.in-BeginsArrow.ensures (c.requires.ends 0)
+
+pub returns-in-Diagram-clause-holds : goal.returns-in-Diagram-clause-holds
+returns-in-Diagram-clause-holds c = λ s g.
+    let same = ap (λ k. record c.args.table { kind = k }) c.in-Diagram.is in
+    c.close_at_arrow.ensures.holds s (subst (λ t. ClosesCell t c.args.place c.args.row c.args.unit s c.args.self.now) same g)

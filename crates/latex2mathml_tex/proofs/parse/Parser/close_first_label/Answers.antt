@@ -1,7 +1,7 @@
 use Rattle.std.proofs.Common.{◌+◌, refl}
 use Rattle.latex2mathml_tex_grammar.specs.Refusal.{IncompleteArrow, refusal_at}
 use Rattle.latex2mathml_tex.specs.Frames.{ending_count}
-use Rattle.latex2mathml_tex.specs.declared.parse.frames.Ending.TheVariants as ending
+use Rattle.latex2mathml_tex.specs.declared.parse.endings.Ending.TheVariants as ending
 use Rattle.latex2mathml_tex.proofs.Diagrams.{first_label_unended, second_label_due}
 use Rattle.latex2mathml_tex.proofs.TableRules.{refused_at}
 use Rattle.latex2mathml_tex.proofs.parse.Parser.close_first_label.Goals as goal

@@ -3,7 +3,7 @@ use Rattle.std.proofs.lemmas.List.{length-drop}
 use Rattle.latex2mathml_tex.specs.Steps.{elements_of}
 use Rattle.latex2mathml_tex_grammar.specs.Refusal.{IncompleteArrow, refusal_at}
 use Rattle.latex2mathml_tex.specs.Frames.{ending_count}
-use Rattle.latex2mathml_tex.specs.declared.parse.frames.Ending.TheVariants as ending
+use Rattle.latex2mathml_tex.specs.declared.parse.endings.Ending.TheVariants as ending
 use Rattle.latex2mathml_tex.proofs.Diagrams.{labels_joined, second_label_unended}
 use Rattle.latex2mathml_tex.proofs.TableRules.{refused_at}
 use Rattle.latex2mathml_tex.proofs.parse.Parser.close_second_label.Goals as goal

@@ -14,7 +14,7 @@ put_alone c =
     (rw c.empty.ensures at put.row, rw c.empty.ensures at put.below, put.count)
 
 waits_there : (c : goal.In_ok-row-in_default) → WaitsIn c.context-context.result c.innermost.result
-waits_there c = rw c.context-context.ensures (others_wait c.innermost.result c.in_default.not-Row c.in_default.not-Negation c.in_default.not-Text c.in_default.not-Words)
+waits_there c = rw c.context-context.ensures (others_wait c.innermost.result c.in_default.not-Row c.in_default.not-Negation c.in_default.not-Text c.in_default.not-Words c.in_default.not-Resized)
 
 pub returns-in_ok-row-in_default-clause-holds : goal.returns-in_ok-row-in_default-clause-holds
 returns-in_ok-row-in_default-clause-holds c = λ s g.

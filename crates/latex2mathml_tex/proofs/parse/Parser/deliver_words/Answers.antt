@@ -1,16 +1,17 @@
-use Rattle.std.proofs.Common.{◌≡◌, ◌∙◌, ◌+◌, Some, ap, arith, option_map, refl, suc}
+use Rattle.std.proofs.Common.{◌≡◌, ◌∙◌, ◌+◌, Some, ap, arith, refl, suc}
 use Rattle.latex2mathml_tex_grammar.specs.Refusal.{UnclosedBrace, refusal_at}
 use Rattle.latex2mathml_tex_grammar.specs.Starts.{is_close}
 use Rattle.latex2mathml_tex_grammar.specs.Units.{End, Next, Stop}
 use Rattle.latex2mathml_tex_units.specs.{Errors.refusal_of, Left.put_back, Left.unit_count, Left.units_at, Left.units_behind, Taking.kind_of, Taking.piece_of, Taking.unit_of}
 use Rattle.latex2mathml_tex_units.proofs.Nexts.{passed}
-use Rattle.latex2mathml_tex_commands.specs.Meanings.{alphabet_of}
+use Rattle.latex2mathml_tex_atoms.specs.Models.{context_of}
+use Rattle.latex2mathml_tex.specs.WordCommands.{word_of}
 use Rattle.latex2mathml_tex.specs.Steps.{left_of}
 use Rattle.latex2mathml_tex.specs.declared.parse.frames.Frame.TheVariants as frame
-use Rattle.latex2mathml_tex.proofs.Rows.{step_within}
+use Rattle.latex2mathml_tex.proofs.Rows.{step_within, weighed}
 use Rattle.latex2mathml_tex.proofs.WordStarts.{other_piece, taken_innermost}
-use Rattle.latex2mathml_tex.proofs.Taken.{taken_can, taken_step, text_taken}
-use Rattle.latex2mathml_tex.proofs.Wording.{alphabet_changed, braces_closed, braces_unended, word_behind, word_stops}
+use Rattle.latex2mathml_tex.proofs.Taken.{resized_taken, taken_can, taken_step, text_taken}
+use Rattle.latex2mathml_tex.proofs.Wording.{braces_closed, braces_unended, change_taken, word_behind, word_stops}
 use Rattle.latex2mathml_tex.proofs.parse.Parser.deliver_words.Goals as goal
 
 pub end_accent-requires : goal.end_accent-requires
@@ -40,7 +41,7 @@ pub end_group-requires : goal.end_group-requires
 end_group-requires c =
     let p = c.args.self.now in
     let frames = c.take-in-Close.new.self in
-    let braces = frame.Words c.in-Words.place c.in-Words.alphabet in
+    let braces = frame.Words c.in-Words.place c.in-Words.context in
     let inner = taken_innermost p.style p.frames.stack.items c.in-Words.ensures.0 frames.stack.items braces c.take-in-Close.result c.in-Words.ensures.1 c.take-in-Close.ensures in
     let can = taken_can p frames braces inner c.args.words.count (c.args.words.count + 0) c.requires.elements c.requires.may_come.nested (omega arith) in
     record { elements = omega (arith, can.elements); awaits = record { accepted = can.awaits.accepted; nested = can.awaits.nested } }
@@ -50,22 +51,22 @@ returns-in-Close c =
     let p = c.args.self.now in
     let i = c.advance.new.self in
     let frames = c.take-in-Close.new.self in
-    let braces = frame.Words c.in-Words.place c.in-Words.alphabet in
+    let braces = frame.Words c.in-Words.place c.in-Words.context in
     let inner = taken_innermost p.style p.frames.stack.items c.in-Words.ensures.0 frames.stack.items braces c.take-in-Close.result c.in-Words.ensures.1 c.take-in-Close.ensures in
     let stands : left_of p ≡ Next (unit_of c.in-Unit.unit) (units_at i) = passed c.peek.result p.input i c.peek.ensures c.advance.ensures.left ∙ ap (λ n. put_back n (units_at i)) c.in-Unit.is in
     let left : unit_count (left_of p) ≡ suc (unit_count (units_at i)) = ap unit_count stands in
     let close = ap (λ piece. is_close (piece_of piece)) c.in-Close.is in
     let step = taken_step (record p { input = i }) frames braces inner 6 2 c.end_group.new.self c.end_group.new.next c.end_group.result (omega arith) c.end_group.ensures.step in
     record {
-      holds = λ s h. c.end_group.ensures.holds s (braces_closed s p c.args.words c.in-Words.place c.in-Words.alphabet frames.stack.items inner h i frames (unit_of c.in-Unit.unit) refl stands close);
+      holds = λ s h. c.end_group.ensures.holds s (braces_closed s p c.args.words c.in-Words.place c.in-Words.context frames.stack.items inner h i frames (unit_of c.in-Unit.unit) refl stands close);
       step = step_within p (record p { input = i }) c.end_group.new.self c.end_group.new.next c.end_group.result 2 2 (omega (arith, left)) step;
     }
 
-pub words_in_braces-requires : goal.words_in_braces-requires
-words_in_braces-requires c =
+pub change_words-requires : goal.change_words-requires
+change_words-requires c =
     let p = c.args.self.now in
     let frames = c.take-in-Some.new.self in
-    let braces = frame.Words c.in-Words.place c.in-Words.alphabet in
+    let braces = frame.Words c.in-Words.place c.in-Words.context in
     let inner = taken_innermost p.style p.frames.stack.items c.in-Words.ensures.0 frames.stack.items braces c.take-in-Some.result c.in-Words.ensures.1 c.take-in-Some.ensures in
     let can = taken_can p frames braces inner c.args.words.count (c.args.words.count + 0) c.requires.elements c.requires.may_come.nested (omega arith) in
     record { elements = omega (arith, can.elements); awaits = record { accepted = can.awaits.accepted; nested = can.awaits.nested } }
@@ -75,17 +76,44 @@ returns-in-Some c =
     let p = c.args.self.now in
     let i = c.advance-in-Some.new.self in
     let frames = c.take-in-Some.new.self in
-    let braces = frame.Words c.in-Words.place c.in-Words.alphabet in
+    let braces = frame.Words c.in-Words.place c.in-Words.context in
     let inner = taken_innermost p.style p.frames.stack.items c.in-Words.ensures.0 frames.stack.items braces c.take-in-Some.result c.in-Words.ensures.1 c.take-in-Some.ensures in
     let u = c.in-Unit.unit in
     let stands : left_of p ≡ Next (unit_of u) (units_at i) = passed c.peek.result p.input i c.peek.ensures c.advance-in-Some.ensures.left ∙ ap (λ n. put_back n (units_at i)) c.in-Unit.is in
     let left : unit_count (left_of p) ≡ suc (unit_count (units_at i)) = ap unit_count stands in
     let other = other_piece u.piece c.in_default-piece.not-Close in
-    let change = c.in-Some.ensures.changed (option_map alphabet_of c.in-Words.alphabet) in
-    let step = taken_step (record p { input = i }) frames braces inner 13 9 c.words_in_braces.new.self c.words_in_braces.new.next c.words_in_braces.result (omega arith) c.words_in_braces.ensures.step in
+    let change = c.in-Some.ensures.changed (context_of c.in-Words.context).alphabet in
+    let step = taken_step (record p { input = i }) frames braces inner 17 13 c.change_words.new.self c.change_words.new.next c.change_words.result (omega arith) c.change_words.ensures.step in
     record {
-      holds = λ s h. c.words_in_braces.ensures.holds s (alphabet_changed s p c.args.words c.in-Words.place c.in-Words.alphabet frames.stack.items inner h i frames (unit_of u) (alphabet_of c.in-Some.other) refl stands other change);
-      step = step_within p (record p { input = i }) c.words_in_braces.new.self c.words_in_braces.new.next c.words_in_braces.result 9 2 (omega (arith, left)) step;
+      holds = λ s h. c.change_words.ensures.holds s (change_taken s p c.args.words c.in-Words.place c.in-Words.context frames.stack.items inner h i frames (unit_of u) (word_of c.in-Some.change) refl stands other change);
+      step = step_within p (record p { input = i }) c.change_words.new.self c.change_words.new.next c.change_words.result 13 2 (omega (arith, left)) step;
+    }
+
+pub put_resized-requires : goal.put_resized-requires
+put_resized-requires c =
+    let p = c.args.self.now in
+    let resized = frame.Resized c.in-Resized.before c.in-Resized.size c.in-Resized.context in
+    let inner = taken_innermost p.style p.frames.stack.items c.in-Resized.ensures.0 c.take-in-Resized.new.self.stack.items resized c.take-in-Resized.result c.in-Resized.ensures.1 c.take-in-Resized.ensures in
+    let can = taken_can p c.take-in-Resized.new.self resized inner c.args.words.count (c.args.words.count + c.in-Resized.before) c.requires.elements c.requires.may_come.nested (omega arith) in
+    omega (arith, can.elements)
+
+pub returns-in_ok-words-in-Resized : goal.returns-in_ok-words-in-Resized
+returns-in_ok-words-in-Resized c =
+    let p = c.args.self.now in
+    let frames = c.take-in-Resized.new.self in
+    let b = c.put_resized.new.builder in
+    let after = c.in_ok-words-in-Resized.words in
+    let says = c.in_ok-words-in-Resized.ensures in
+    let resized = frame.Resized c.in-Resized.before c.in-Resized.size c.in-Resized.context in
+    let inner = taken_innermost p.style p.frames.stack.items c.in-Resized.ensures.0 frames.stack.items resized c.take-in-Resized.result c.in-Resized.ensures.1 c.take-in-Resized.ensures in
+    let can = taken_can p frames resized inner c.args.words.count (c.args.words.count + c.in-Resized.before) c.requires.elements c.requires.may_come.nested (omega arith) in
+    let brought = weighed p.style p.frames.stack.items frames.stack.items resized inner in
+    record {
+      holds = λ s h. resized_taken p frames resized inner s b c.args.words after c.in-Resized.before c.in-Resized.size c.in-Resized.context refl says.words says.below h;
+      step = record {
+        ready = record { elements = omega (arith, can.elements, says.grown); may_come = record { accepted = can.awaits.accepted; nested = can.awaits.nested } };
+        falls = omega (arith, brought);
+      };
     }
 
 pub returns-in-None : goal.returns-in-None
@@ -95,9 +123,9 @@ returns-in-None c =
     let others = units_behind p.input in
     let stands : left_of p ≡ Next (unit_of u) others = c.peek.ensures ∙ ap (λ n. put_back n others) c.in-Unit.is in
     let other = other_piece u.piece c.in_default-piece.not-Close in
-    let kept = c.in-None.ensures.kept refl (option_map alphabet_of c.in-Words.alphabet) in
+    let a = (context_of c.in-Words.context).alphabet in
     record {
-      holds = λ s h. c.word.ensures.holds s (word_behind s p c.args.words c.in-Words.place c.in-Words.alphabet c.in-Words.ensures.0 c.in-Words.ensures.1 h (unit_of u) others stands other kept);
+      holds = λ s h. c.word.ensures.holds s (word_behind s p c.args.words c.in-Words.place c.in-Words.context c.in-Words.ensures.0 c.in-Words.ensures.1 h (unit_of u) others stands other (c.in-None.ensures.size refl a) (c.in-None.ensures.alphabet refl a));
       step = step_within p p c.word.new.self c.word.new.next c.word.result 1 2 (omega arith) c.word.ensures.step;
     }
 
@@ -108,11 +136,11 @@ returns-in-End-clause-holds c = λ s h.
     let reason : refusal_of q.refusal ≡ Some (refusal_at UnclosedBrace c.in-Words.place) = rw c.refuse.ensures.parser refl in
     let stands : left_of p ≡ End c.in-End.field-0 = c.peek.ensures ∙ ap (λ n. put_back n (units_behind p.input)) c.in-End.is in
     rw c.refuse.ensures.state
-    (braces_unended s p c.args.words c.in-Words.place c.in-Words.alphabet c.in-Words.ensures.0 c.in-Words.ensures.1 h q c.in-End.field-0 stands (rw c.refuse.ensures.parser refl) reason)
+    (braces_unended s p c.args.words c.in-Words.place c.in-Words.context c.in-Words.ensures.0 c.in-Words.ensures.1 h q c.in-End.field-0 stands (rw c.refuse.ensures.parser refl) reason)
 
 pub returns-in-Fault-clause-holds : goal.returns-in-Fault-clause-holds
 returns-in-Fault-clause-holds c = λ s h.
     let p = c.args.self.now in
     let r = refusal_at (kind_of c.in-Fault.field-0) c.in-Fault.field-1 in
     let stands : left_of p ≡ Stop r = c.peek.ensures ∙ ap (λ n. put_back n (units_behind p.input)) c.in-Fault.is in
-    word_stops s p c.args.words c.in-Words.place c.in-Words.alphabet c.in-Words.ensures.0 c.in-Words.ensures.1 h r stands
+    word_stops s p c.args.words c.in-Words.place c.in-Words.context c.in-Words.ensures.0 c.in-Words.ensures.1 h r stands

@@ -1,5 +1,5 @@
 use Rattle.std.proofs.Common.{◌∙◌, pos, ap, arith, refl, drop}
-use Rattle.latex2mathml_elements.specs.Struts.{strut}
+use Rattle.latex2mathml_elements.specs.{Columns.density_in, Struts.strut}
 use Rattle.latex2mathml_attributes.specs.Arounds.{extent_of}
 use Rattle.latex2mathml_tex.proofs.Tabled.{row_is_last, row_is_none}
 use Rattle.std.proofs.lemmas.List.{length-drop}
@@ -13,7 +13,7 @@ returns-then-is_no_row-clause-holds c = λ s g.
 
 pub returns-clause-holds : goal.returns-clause-holds
 returns-clause-holds c = λ s g.
-    let props = c.strut-strut.ensures ∙ ap (λ d. strut d (pos 0)) c.density.ensures in
+    let props = c.strut-strut.ensures ∙ ap (λ d. strut d (pos 0)) c.density.ensures ∙ ap (λ columns. strut (density_in columns) (pos 0)) c.columns.ensures in
     c.end_table-2.ensures.holds s (row_is_last s c.args.self.now c.args.table c.args.count c.args.last c.args.at g c.put_last.new.builder _ (extent_of c.strut-strut.result) refl c.if-is_no_row.ensures (omega (arith, c.requires.can.elements)) c.in_ok-put_last.ensures props)
 
 pub end_table-requires-2-clause-can : goal.end_table-requires-2-clause-can

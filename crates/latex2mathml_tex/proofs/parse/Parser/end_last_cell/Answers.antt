@@ -1,4 +1,4 @@
-use Rattle.latex2mathml_tex.specs.declared.parse.frames.Ending.TheVariants as ending
+use Rattle.latex2mathml_tex.specs.declared.parse.endings.Ending.TheVariants as ending
 use Rattle.latex2mathml_tex.proofs.Resting.{finished_can, made_finished}
 use Rattle.latex2mathml_tex.proofs.Tabled.{text_ends_cell}
 use Rattle.latex2mathml_tex.proofs.parse.Parser.end_last_cell.Goals as goal

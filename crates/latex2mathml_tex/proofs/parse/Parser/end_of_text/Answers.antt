@@ -1,6 +1,6 @@
 use Rattle.std.proofs.Common.{refl}
 use Rattle.latex2mathml_tex.specs.Steps.{EndsText}
-use Rattle.latex2mathml_tex.specs.declared.parse.frames.Ending.TheVariants as ending
+use Rattle.latex2mathml_tex.specs.declared.parse.endings.Ending.TheVariants as ending
 use Rattle.latex2mathml_tex.proofs.parse.Parser.end_of_text.Goals as goal
 
 pub returns-in-Text-clause-holds : goal.returns-in-Text-clause-holds

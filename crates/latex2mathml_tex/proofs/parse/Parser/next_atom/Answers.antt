@@ -1,14 +1,14 @@
 use Rattle.std.proofs.Common.{◌≡◌, ◌∙◌, refl, sym}
 use Rattle.latex2mathml_tex_grammar.specs.{Next.past_space, Refusal.refusal_at}
 use Rattle.latex2mathml_tex_grammar.specs.Units.{End, Stop}
-use Rattle.latex2mathml_tex_units.specs.{Left.units_at, Taking.kind_of, Taking.piece_of, Taking.unit_of}
+use Rattle.latex2mathml_tex_units.specs.{Left.units_at, Taking.kind_of, Taking.unit_of}
 use Rattle.latex2mathml_tex_units.proofs.Nexts.{passed}
 use Rattle.latex2mathml_tex.specs.Steps.{left_of}
-use Rattle.latex2mathml_tex.proofs.NoAtom.{closing_step, ended_step, no_text_ends, no_unit_there, row_can_close, row_closed, text_ended, unit_next, unit_step}
+use Rattle.latex2mathml_tex.proofs.NoAtom.{closing_step, ended_step, no_unit_there, row_can_close, row_closed, text_ended, unit_next, unit_step}
 use Rattle.latex2mathml_tex.proofs.parse.Parser.next_atom.Goals as goal
 
 pub end_row-requires-clause-ends : goal.end_row-requires-clause-ends
-end_row-requires-clause-ends c = no_text_ends c.args.ending c.args.place (piece_of c.in-Unit.unit.piece) (c.if-is.ensures c.args.place)
+end_row-requires-clause-ends c = λ place. sym (c.if-is.ensures place)
 
 pub end_row-requires-clause-can : goal.end_row-requires-clause-can
 end_row-requires-clause-can c =

@@ -26,6 +26,6 @@ returns c =
     let x = (single InText k.atom).element in
     let can = replaced_can with_accent_ended p ended c.args.words after r c.requires in
     record {
-      holds = λ s g. formula_put s p ended c.put_row.new.builder c.args.words after x r e g;
-      step = word_step (record p { builder = ended }) c.put_row.new.builder n (record { count = n + 1; last = None; accent = None }) x can refl e;
+      holds = λ s g. rw c.of.ensures (formula_put s p ended c.put_row.new.builder c.args.words after x r e g);
+      step = rw c.of.ensures (word_step (record p { builder = ended }) c.put_row.new.builder n (record { count = n + 1; last = None; accent = None }) x can refl e);
     }

@@ -14,7 +14,7 @@ returns-in-Close-clause-holds c = λ s h.
     let others = units_behind p.input in
     let reason : refusal_of q.refusal ≡ Some (refusal_at MissingArgument c.args.place) = rw c.refuse-in-Close.ensures.parser refl in
     let stands : left_of p ≡ Next (unit_of c.in-Unit.unit) others = c.peek.ensures ∙ ap (λ n. put_back n others) c.in-Unit.is in
-    rw c.refuse-in-Close.ensures.state (none_in_braces s p c.args.words c.args.place c.args.alphabet h q (rw c.refuse-in-Close.ensures.parser refl) reason (unit_of c.in-Unit.unit) others stands (ap piece_of c.in-Close.is))
+    rw c.refuse-in-Close.ensures.state (none_in_braces s p c.args.words c.args.place c.args.context h q (rw c.refuse-in-Close.ensures.parser refl) reason (unit_of c.in-Unit.unit) others stands (ap piece_of c.in-Close.is))
 
 pub returns-in-Fault-clause-holds : goal.returns-in-Fault-clause-holds
 returns-in-Fault-clause-holds c = λ s h.
@@ -22,7 +22,7 @@ returns-in-Fault-clause-holds c = λ s h.
     let q = c.refuse_fault.new.self in
     let r = refusal_at (kind_of c.in-Fault.fault) c.in-Fault.at in
     let stands : left_of p ≡ Stop r = c.peek.ensures ∙ ap (λ n. put_back n (units_behind p.input)) c.in-Fault.is in
-    rw c.refuse_fault.ensures.state (none_at_stop s p c.args.words c.args.place c.args.alphabet h q (rw c.refuse_fault.ensures.parser refl) r c.refuse_fault.ensures.refusal stands)
+    rw c.refuse_fault.ensures.state (none_at_stop s p c.args.words c.args.place c.args.context h q (rw c.refuse_fault.ensures.parser refl) r c.refuse_fault.ensures.refusal stands)
 
 pub returns-in-End-clause-holds : goal.returns-in-End-clause-holds
 returns-in-End-clause-holds c = λ s h.
@@ -30,7 +30,7 @@ returns-in-End-clause-holds c = λ s h.
     let q = c.refuse.new.self in
     let reason : refusal_of q.refusal ≡ Some (refusal_at MissingArgument c.args.place) = rw c.refuse.ensures.parser refl in
     let stands : left_of p ≡ End c.in-End.field-0 = c.peek.ensures ∙ ap (λ n. put_back n (units_behind p.input)) c.in-End.is in
-    rw c.refuse.ensures.state (none_at_end s p c.args.words c.args.place c.args.alphabet h q (rw c.refuse.ensures.parser refl) reason c.in-End.field-0 stands)
+    rw c.refuse.ensures.state (none_at_end s p c.args.words c.args.place c.args.context h q (rw c.refuse.ensures.parser refl) reason c.in-End.field-0 stands)
 
 pub returns-in_default : goal.returns-in_default
 returns-in_default c =
@@ -40,7 +40,7 @@ returns-in_default c =
     let stands : left_of p ≡ Next (unit_of u) (units_at i) = passed c.peek.result p.input i c.peek.ensures c.advance.ensures.left ∙ ap (λ n. put_back n (units_at i)) c.in-Unit.is in
     let left : unit_count (left_of p) ≡ suc (unit_count (units_at i)) = ap unit_count stands in
     record {
-      holds = λ s h. c.begin_word.ensures.holds s (word_begins s p c.args.words c.args.place c.args.alphabet h i u stands);
+      holds = λ s h. c.begin_word.ensures.holds s (word_begins s p c.args.words c.args.place c.args.context h i u stands);
       step = step_within p (record p { input = i }) c.begin_word.new.self c.begin_word.new.next c.begin_word.result 13 1 (omega (arith, left)) c.begin_word.ensures.step;
     }
 

@@ -2,7 +2,7 @@ use Rattle.std.proofs.Common.{◌≡◌, ◌≤◌, [], ◌∷◌, List, ap, ari
 use Rattle.latex2mathml_tex_atoms.specs.Models.{begun}
 use Rattle.latex2mathml_tex.specs.Innermost.{none_begun}
 use Rattle.latex2mathml_tex.specs.declared.parse.frames.Frame.{Frame}
-use Rattle.latex2mathml_tex.specs.declared.parse.frames.Ending.TheVariants as ending
+use Rattle.latex2mathml_tex.specs.declared.parse.endings.Ending.TheVariants as ending
 use Rattle.latex2mathml_tex.specs.declared.parse.frames.Frame.TheVariants as frame
 use Rattle.latex2mathml_tex.proofs.parse.frames.Frames.row_context.Goals as goal
 
