@@ -47,12 +47,14 @@ def macros():
 
 
 def other_macros():
-    """The usual macros that take more than arguments: the name, the form, what else it has if it has more, and the body."""
+    """The usual macros that take more than arguments: the name, the form, what else it has, and the body."""
     written = " ".join(function(f"{UNITS}/macros/usual.rt", "other_named").split())
-    found = re.findall(rf"name == ({TEXT}) {{ Some\(Other::(\w+) {{ (?:\w+: ({TEXT}), )?body: ({TEXT}),? }}\)", written)
+    named = rf"(?:name == ({TEXT})|is_break\(name\))"
+    found = re.findall(rf"{named} {{ Some\(Other::(\w+) {{ (?:\w+: ({TEXT}|\d), )?body: ({TEXT}),? }}\)", written)
     if len(found) != written.count("Some(Other::"):
         raise WrongForm(f"{len(found)} of {written.count('Some(Other::')} usual macros that take more than arguments can be read")
-    return found
+    breaks = re.findall(TEXT, function(f"{UNITS}/macros/usual.rt", "is_break"))
+    return [(one, *said) for name, *said in found for one in ([name] if name else breaks)]
 
 
 def uses_of(name, form, other, body):
@@ -60,7 +62,7 @@ def uses_of(name, form, other, body):
     if form == "Divided":
         return [(f"\\{value(name)} #1\\{value(other)}{{#2}}", body)]
     if form == "Optional":
-        return [(f"\\{value(name)}[#1]{{#2}}", body)]
+        return [(f"\\{value(name)}[#1]" + "{#2}" * (int(other) - 1), body)]
     return [(f"\\{value(name)}{{#1}}", body), (f"\\{value(name)}*{{#1}}", other)]
 
 

@@ -38,7 +38,7 @@ entries_allowed (entry ∷ entries) name m e =
 other_allowed : (other : Other) → EachInMacro IsAllowedPiece (other_macro other)
 other_allowed (Divided command text) = (body_allowed 2 text, tt, tt, tt)
 other_allowed (Starred starred text) = (body_allowed 1 text, tt, body_allowed 1 starred, tt)
-other_allowed (Optional text) = (body_allowed 2 text, tt, tt, tt)
+other_allowed (Optional n text) = (body_allowed n text, tt, tt, tt)
 
 either_allowed : (other : Option Other) (found : Option Macro) → ((m : Macro) → found ≡ Some m → EachInMacro IsAllowedPiece m) → (m : Macro) → other_or other found ≡ Some m → EachInMacro IsAllowedPiece m
 either_allowed (Some other) found h m e = (let same : other_macro other ≡ m = cc in subst (EachInMacro IsAllowedPiece) same (other_allowed other))

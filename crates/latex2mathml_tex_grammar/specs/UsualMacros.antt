@@ -1,6 +1,6 @@
 -- The usual macros, which hold in every text, in the order of their names' bytes. A name and a body are their bytes, a name
 -- without its backslash. A definition by the author takes precedence.
-use Rattle.std.specs.Prelude.{ℕ, List, [], ◌∷◌, Option, Some, None, codes, if◌then◌else◌}
+use Rattle.std.specs.Prelude.{ℕ, ◌||◌, Bool, List, [], ◌∷◌, Option, Some, None, codes, if◌then◌else◌}
 use Rattle.std.specs.{Option.unwrap_or, Str.bytes_eq, Str.chars}
 use Rattle.latex2mathml_tex_grammar.specs.{Cutting.units_of, Definitions.parts_of}
 use Rattle.latex2mathml_tex_grammar.specs.Macros.{Part, Parameter, Sign, Macro, macro, macro_of_parts, macro_taking, macro_with_default, parameters, Table}
@@ -14,8 +14,12 @@ usual_entries =
     (codes "*", 0, codes "") ∷
     (codes "-", 0, codes "") ∷
     (codes "/", 0, codes "") ∷
+    (codes "Acute", 0, codes "\\acute") ∷
+    (codes "Bar", 0, codes "\\bar") ∷
     (codes "Bbbk", 0, codes "\\mathbb{k}") ∷
     (codes "Bra", 1, codes "\\left\\langle #1\\right|") ∷
+    (codes "Breve", 0, codes "\\breve") ∷
+    (codes "Check", 0, codes "\\check") ∷
     (codes "Colonapprox", 0, codes "\\mathrel{::\\approx}") ∷
     (codes "Coloneq", 0, codes "\\mathrel{::=}") ∷
     (codes "Coloneqq", 0, codes "\\mathrel{::=}") ∷
@@ -23,22 +27,28 @@ usual_entries =
     (codes "DOTSB", 0, codes "") ∷
     (codes "DOTSI", 0, codes "") ∷
     (codes "DOTSX", 0, codes "") ∷
+    (codes "Ddot", 0, codes "\\ddot") ∷
+    (codes "Dot", 0, codes "\\dot") ∷
     (codes "Eqcolon", 0, codes "\\mathrel{=::}") ∷
     (codes "Eqqcolon", 0, codes "\\mathrel{=::}") ∷
+    (codes "Grave", 0, codes "\\grave") ∷
+    (codes "Hat", 0, codes "\\hat") ∷
     (codes "KaTeX", 0, codes "\\text{KaTeX}") ∷
     (codes "Ket", 1, codes "\\left|#1\\right\\rangle") ∷
     (codes "Ketbra", 2, codes "\\left|{#1}\\right\\rangle\\left\\langle{#2}\\right|") ∷
     (codes "LaTeX", 0, codes "\\text{LaTeX}") ∷
     (codes "TeX", 0, codes "\\text{TeX}") ∷
+    (codes "Tilde", 0, codes "\\tilde") ∷
+    (codes "Vec", 0, codes "\\vec") ∷
     (codes "adjustlimits", 0, codes "") ∷
     (codes "allowbreak", 0, codes "") ∷
-    (codes "allowdisplaybreaks", 0, codes "") ∷
     (codes "approxcolon", 0, codes "\\mathrel{\\approx:}") ∷
     (codes "approxcoloncolon", 0, codes "\\mathrel{\\approx::}") ∷
     (codes "array", 1, codes "\\begin{matrix}#1\\end{matrix}") ∷
     (codes "begingroup", 0, codes "{") ∷
     (codes "bfseries", 0, codes "\\bf") ∷
     (codes "bgroup", 0, codes "{") ∷
+    (codes "bigskip", 0, codes "") ∷
     (codes "bmod", 0, codes "\\mathbin{\\mathchoice{\\mkern1mu\\mathrm{mod}\\mkern1mu}{\\mkern1mu\\mathrm{mod}\\mkern1mu}{\\mkern5mu\\mathrm{mod}\\mkern5mu}{\\mkern5mu\\mathrm{mod}\\mkern5mu}}") ∷
     (codes "bra", 1, codes "\\mathinner{\\langle{#1}|}") ∷
     (codes "braket", 1, codes "\\mathinner{\\langle{#1}\\rangle}") ∷
@@ -61,7 +71,6 @@ usual_entries =
     (codes "colorbox", 2, codes "\\mathcolorbox{#1}{\\text{#2}}") ∷
     (codes "cssId", 2, codes "#2") ∷
     (codes "ddddot", 1, codes "\\overset{....}{#1}") ∷
-    (codes "displaybreak", 0, codes "") ∷
     (codes "displaylines", 1, codes "\\begin{gathered}#1\\end{gathered}") ∷
     (codes "dotsb", 0, codes "\\cdots") ∷
     (codes "dotsc", 0, codes "\\ldots") ∷
@@ -93,6 +102,8 @@ usual_entries =
     (codes "ignorespaces", 0, codes "") ∷
     (codes "impliedby", 0, codes "\\;\\Longleftarrow\\;") ∷
     (codes "implies", 0, codes "\\;\\Longrightarrow\\;") ∷
+    (codes "index", 1, codes "") ∷
+    (codes "intertext", 1, codes "\\\\\\mathrlap{\\text{#1}}\\\\") ∷
     (codes "itshape", 0, codes "\\it") ∷
     (codes "ket", 1, codes "\\mathinner{|{#1}\\rangle}") ∷
     (codes "ketbra", 2, codes "\\mathinner{|{#1}\\rangle\\langle{#2}|}") ∷
@@ -110,15 +121,17 @@ usual_entries =
     (codes "mathtoolsset", 1, codes "") ∷
     (codes "matrix", 1, codes "\\begin{matrix}#1\\end{matrix}") ∷
     (codes "mdseries", 0, codes "") ∷
+    (codes "medskip", 0, codes "") ∷
     (codes "minuscoloncolon", 0, codes "\\mathrel{\\relbar::}") ∷
     (codes "mod", 1, codes "\\mathchoice{\\mkern18mu}{\\mkern12mu}{\\mkern12mu}{\\mkern12mu}\\mathrm{mod}\\,\\,#1") ∷
-    (codes "nicefrac", 2, codes "#1/#2") ∷
+    (codes "nicefrac", 2, codes "{\\raisemath{0.5ex}{\\scriptstyle #1}\\mkern-1.8mu/\\mkern-2.7mu\\raisemath{-0.25ex}{\\scriptstyle #2}}") ∷
     (codes "nobreak", 0, codes "") ∷
     (codes "noindent", 0, codes "") ∷
     (codes "nonumber", 0, codes "") ∷
     (codes "normalfont", 0, codes "") ∷
     (codes "notag", 0, codes "") ∷
     (codes "null", 0, codes "{}") ∷
+    (codes "openone", 0, codes "\\mathbb{1}") ∷
     (codes "operatornamewithlimits", 0, codes "\\operatorname*") ∷
     (codes "overunderset", 3, codes "\\overset{#1}{\\underset{#2}{#3}}") ∷
     (codes "pmatrix", 1, codes "\\begin{pmatrix}#1\\end{pmatrix}") ∷
@@ -135,19 +148,23 @@ usual_entries =
     (codes "rmfamily", 0, codes "\\rm") ∷
     (codes "rq", 0, codes "'") ∷
     (codes "sb", 0, codes "_") ∷
+    (codes "sc", 0, codes "") ∷
     (codes "scr", 0, codes "\\cal") ∷
     (codes "scshape", 0, codes "") ∷
     (codes "setlength", 2, codes "") ∷
     (codes "sffamily", 0, codes "\\sf") ∷
-    (codes "sfrac", 2, codes "#1/#2") ∷
+    (codes "sfrac", 2, codes "{\\raisemath{0.5ex}{\\scriptstyle #1}\\mkern-1.8mu/\\mkern-2.7mu\\raisemath{-0.25ex}{\\scriptstyle #2}}") ∷
+    (codes "shortintertext", 1, codes "\\\\\\mathrlap{\\text{#1}}\\\\") ∷
     (codes "shoveleft", 1, codes "#1") ∷
     (codes "shoveright", 1, codes "#1") ∷
     (codes "sideset", 3, codes "\\mathop{\\vphantom{#3}#1\\!#3\\nolimits#2}") ∷
     (codes "simcolon", 0, codes "\\mathrel{\\sim:}") ∷
     (codes "simcoloncolon", 0, codes "\\mathrel{\\sim::}") ∷
     (codes "skew", 3, codes "{#2{#3\\mkern#1mu}\\mkern-#1mu}") ∷
+    (codes "sl", 0, codes "\\it") ∷
     (codes "slash", 0, codes "/") ∷
     (codes "slshape", 0, codes "\\it") ∷
+    (codes "smallskip", 0, codes "") ∷
     (codes "sp", 0, codes "^") ∷
     (codes "splitdfrac", 2, codes "\\genfrac{}{}{0pt}{0}{#1\\quad}{\\quad #2}") ∷
     (codes "splitfrac", 2, codes "\\genfrac{}{}{0pt}{1}{#1\\quad}{\\quad #2}") ∷
@@ -203,25 +220,33 @@ pub data Other : Type 0 where
   Divided : List ℕ → List ℕ → Other
   -- one argument, and a star if one comes next, with the text of the body after a star, and without one
   Starred : List ℕ → List ℕ → Other
-  -- two arguments, the first of which is in brackets or left out, with the text of the body
-  Optional : List ℕ → Other
+  -- this many arguments, the first of which is in brackets or left out, with the text of the body
+  Optional : ℕ → List ℕ → Other
+
+-- whether it has the name of a command that breaks lines or pages, or does not: how much, may follow in brackets
+abbrev pub is_break : List ℕ → Bool
+is_break name =
+    bytes_eq name (codes "allowdisplaybreaks") || bytes_eq name (codes "displaybreak") || bytes_eq name (codes "linebreak")
+    || bytes_eq name (codes "nolinebreak") || bytes_eq name (codes "nopagebreak") || bytes_eq name (codes "pagebreak")
 
 -- the one that has this name, if one does
 abbrev pub other_named : List ℕ → Option Other
 other_named name =
-    if bytes_eq name (codes "bbox") then Some (Optional (codes "#2"))
+    if is_break name then Some (Optional 1 [])
+    else if bytes_eq name (codes "bbox") then Some (Optional 2 (codes "#2"))
     else if bytes_eq name (codes "buildrel") then Some (Divided (codes "over") (codes "\\stackrel{#1}{#2}"))
     else if bytes_eq name (codes "lower") then Some (Divided (codes "hbox") (codes "\\raisebox{-#1}{#2}"))
     else if bytes_eq name (codes "raise") then Some (Divided (codes "hbox") (codes "\\raisebox{#1}{#2}"))
     else if bytes_eq name (codes "root") then Some (Divided (codes "of") (codes "\\sqrt[{#1}]{#2}"))
     else if bytes_eq name (codes "tag") then Some (Starred (codes "\\qquad\\text{#1}") (codes "\\qquad\\text{(#1)}"))
+    else if bytes_eq name (codes "vspace") then Some (Starred [] [])
     else None
 
 -- its macro
 abbrev pub other_macro : Other → Macro
 other_macro (Divided command text) = macro_taking (Parameter ∷ Sign (Command command) ∷ Parameter ∷ []) (body_with 2 text)
 other_macro (Starred starred text) = macro_of_parts (Some (body_with 1 starred)) None (parameters 1) (body_with 1 text)
-other_macro (Optional text) = macro_with_default (Some []) 2 (body_with 2 text)
+other_macro (Optional n text) = macro_with_default (Some []) n (body_with n text)
 
 -- the macro of this one, if there is one, or else the one that was found
 abbrev pub other_or : Option Other → Option Macro → Option Macro

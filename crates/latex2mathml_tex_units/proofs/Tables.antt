@@ -21,7 +21,7 @@ entry_no_name (entry ∷ entries) name m e = of_found (λ y. y.alias ≡ None) (
 other_no_name : (other : Option Other) (found : Option Macro) (m : Macro) → ((y : Macro) → found ≡ Some y → y.alias ≡ None) → other_or other found ≡ Some m → m.alias ≡ None
 other_no_name (Some (Divided command text)) found m h e = cc
 other_no_name (Some (Starred starred text)) found m h e = cc
-other_no_name (Some (Optional text)) found m h e = cc
+other_no_name (Some (Optional n text)) found m h e = cc
 other_no_name None found m h e = h m e
 
 pub usual_no_name : (name : List ℕ) (m : Macro) → usual_macros name ≡ Some m → m.alias ≡ None

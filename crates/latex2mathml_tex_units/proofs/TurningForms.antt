@@ -3,7 +3,7 @@ use Rattle.std.proofs.Common.{◌≡◌, ◌==◌, ◌∙◌, inl, inr, ℕ, ◌
 use Rattle.std.proofs.lemmas.Bool.{and_parts, cases_Bool}
 use Rattle.std.proofs.lemmas.Slice.Eq.{bytes_eq-Decides}
 use Rattle.std.specs.Str.{byte, bytes_eq}
-use Rattle.latex2mathml_tex_grammar.specs.UsualMacros.{entry_macro, other_named, other_or, usual_entries, usual_macros}
+use Rattle.latex2mathml_tex_grammar.specs.UsualMacros.{is_break, entry_macro, other_named, other_or, usual_entries, usual_macros}
 use Rattle.latex2mathml_tex_grammar.specs.Definitions.{word_named}
 use Rattle.latex2mathml_tex_units.specs.TurningForms.{is_frequent, is_turning_form}
 use Rattle.latex2mathml_tex_units.proofs.Tables.{usual_is}
@@ -40,9 +40,13 @@ apart name word none may = elim (cases_Bool (bytes_eq name word)) [
   | inr h ↦ h
 ]
 
+no_break : (name : List ℕ) → may_turn name ≡ false → is_break name ≡ false
+no_break name none =
+    rw (apart name (codes "allowdisplaybreaks") none refl, apart name (codes "displaybreak") none refl, apart name (codes "linebreak") none refl, apart name (codes "nolinebreak") none refl, apart name (codes "nopagebreak") none refl, apart name (codes "pagebreak") none refl) refl
+
 no_other : (name : List ℕ) → may_turn name ≡ false → other_named name ≡ None
 no_other name none =
-    rw (apart name (codes "bbox") none refl, apart name (codes "buildrel") none refl, apart name (codes "lower") none refl, apart name (codes "raise") none refl, apart name (codes "root") none refl, apart name (codes "tag") none refl) refl
+    rw (no_break name none, apart name (codes "bbox") none refl, apart name (codes "buildrel") none refl, apart name (codes "lower") none refl, apart name (codes "raise") none refl, apart name (codes "root") none refl, apart name (codes "tag") none refl, apart name (codes "vspace") none refl) refl
 
 pub no_usual : (name : List ℕ) → may_turn name ≡ false → usual_macros name ≡ None
 no_usual name none = sym (usual_is name) ∙ ap (λ other. other_or other (entry_macro usual_entries name)) (no_other name none) ∙ none_named usual_entries name all_usual none

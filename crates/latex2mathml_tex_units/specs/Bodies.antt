@@ -56,7 +56,7 @@ form_in m None = macro_of m
 abbrev pub other_of : Other → usual.Other
 other_of (other.Divided command body) = usual.Divided command.now body.now
 other_of (other.Starred starred body) = usual.Starred starred.now body.now
-other_of (other.Optional body) = usual.Optional body.now
+other_of (other.Optional arity body) = usual.Optional arity body.now
 
 -- an entry of the table of usual macros
 abbrev pub entry_of : Usual → List ℕ × ℕ × List ℕ

@@ -3,7 +3,7 @@ ghost use Rattle.std.specs.Prelude.{◌≡◌, ◌∷◌, ◌++◌, ℕ, IfSome,
 ghost use Rattle.std.specs.Str.{byte, chars};
 ghost use Rattle.latex2mathml_tex_grammar.specs.Units.{Spells};
 ghost use Rattle.latex2mathml_tex_grammar.specs.{Definitions.word_named, Expansion.Stands, Expansion.role_of, Macros.Table, UsualMacros.usual_macros};
-ghost use Rattle.latex2mathml_tex_units.specs.{Left.units_left, Taking.piece_of, TurningForms.is_frequent, TurningForms.is_turning_form, TurningForms.turns_from_m, TurningForms.turns_up_to_l};
+ghost use Rattle.latex2mathml_tex_units.specs.{Left.units_left, Taking.piece_of, TurningForms.is_frequent, TurningForms.is_turning_form, TurningForms.turns_capital, TurningForms.turns_from_m, TurningForms.turns_up_to_l};
 ghost use Rattle.latex2mathml_tex_units.specs.Standing.{AreStanding, IsUsual, Moves};
 
 use crate::lexer::Lexer;
@@ -133,7 +133,8 @@ fn stands(usual: bool, piece: Piece) -> bool
 }
 
 /// Whether a usual macro or a word that begins definitions may have this name, by its first two bytes and its length. Those of
-/// `matrix` are also those of `mathbb` and the like, and those of `let` are also those of `leq`, which are frequent.
+/// `matrix` are also those of `mathbb` and the like, those of `let` also of `leq`, and those of `index` also of `infty`, which are
+/// frequent.
 #[inline(always)]
 pub(crate) fn may_turn(name: &str) -> bool
     ensures usual { IsFalse result → usual_macros name.now ≡ None }
@@ -148,14 +149,15 @@ pub(crate) fn may_turn(name: &str) -> bool
     }
 }
 
-/// Whether the name has six bytes, of which the first and the fourth are those of `mathbb`, or three, of which the first and the
-/// last are those of `leq`.
+/// Whether the name has six bytes, of which the first and the fourth are those of `mathbb`, or three or five, of which the first and
+/// the last are those of `leq` or `infty`.
 #[inline(always)]
 fn is_frequent(name: &str) -> bool
     ensures { result ≡ is_frequent name.now }
 {
     match name.as_bytes() {
         [first, _, _, fourth, _, _] => *first == b'm' && *fourth == b'h',
+        [first, _, _, _, last] => *first == b'i' && *last == b'y',
         [first, _, last] => *first == b'l' && *last == b'q',
         _ => false,
     }
@@ -166,38 +168,65 @@ fn is_frequent(name: &str) -> bool
 fn is_turning_form(first: u8, second: u8, len: usize) -> bool
     ensures { result ≡ is_turning_form first second len }
 {
-    if first < b'm' {
+    if first < b'a' {
+        turns_capital(first, second, len)
+    } else if first < b'm' {
         turns_up_to_l(first, second, len)
     } else {
         turns_from_m(first, second, len)
     }
 }
 
-/// Whether such a name, which begins before m, has these first two bytes and this length.
+/// Whether such a name, which begins with a capital letter, has these first two bytes and this length.
 #[inline(always)]
-fn turns_up_to_l(first: u8, second: u8, len: usize) -> bool
-    ensures { result ≡ turns_up_to_l first second len }
+fn turns_capital(first: u8, second: u8, len: usize) -> bool
+    ensures { result ≡ turns_capital first second len }
 {
     match first {
+        b'A' => second == b'c' && len == 5,
         b'B' => match second {
+            b'a' => len == 3,
             b'b' => len == 4,
-            b'r' => len == 3,
+            b'r' => matches!(len, 3 | 5),
             _ => false,
         },
-        b'C' => second == b'o' && matches!(len, 7 | 8 | 11),
+        b'C' => match second {
+            b'h' => len == 5,
+            b'o' => matches!(len, 7 | 8 | 11),
+            _ => false,
+        },
         b'D' => match second {
             b'O' => len == 5,
+            b'd' => len == 4,
             b'e' => matches!(len, 19 | 20 | 22),
+            b'o' => len == 3,
             _ => false,
         },
         b'E' => second == b'q' && matches!(len, 7 | 8),
+        b'G' => second == b'r' && len == 5,
+        b'H' => second == b'a' && len == 3,
         b'K' => match second {
             b'a' => len == 5,
             b'e' => matches!(len, 3 | 6),
             _ => false,
         },
         b'L' => second == b'a' && len == 5,
-        b'T' => second == b'e' && len == 3,
+        b'T' => match second {
+            b'e' => len == 3,
+            b'i' => len == 5,
+            _ => false,
+        },
+        b'V' => second == b'e' && len == 3,
+        _ => false,
+    }
+}
+
+/// Whether such a name, which begins with a small letter before m, has these first two bytes and this length.
+#[inline(always)]
+fn turns_up_to_l(first: u8, second: u8, len: usize) -> bool
+    ensures { result ≡ turns_up_to_l first second len }
+{
+    match first {
         b'a' => match second {
             b'd' => len == 12,
             b'l' => matches!(len, 10 | 18),
@@ -210,6 +239,7 @@ fn turns_up_to_l(first: u8, second: u8, len: usize) -> bool
             b'e' => len == 10,
             b'f' => len == 8,
             b'g' => len == 6,
+            b'i' => len == 7,
             b'm' => len == 4,
             b'r' => matches!(len, 3 | 6),
             b'u' => len == 8,
@@ -255,6 +285,7 @@ fn turns_up_to_l(first: u8, second: u8, len: usize) -> bool
             b'f' => len == 3,
             b'g' => len == 12,
             b'm' => matches!(len, 7 | 9),
+            b'n' => matches!(len, 5 | 9),
             b't' => len == 7,
             _ => false,
         },
@@ -262,6 +293,7 @@ fn turns_up_to_l(first: u8, second: u8, len: usize) -> bool
         b'l' => match second {
             b'a' => len == 5,
             b'e' => matches!(len, 3 | 5 | 7 | 8 | 10),
+            b'i' => len == 9,
             b'l' => len == 4,
             b'o' => matches!(len, 4 | 5),
             b'q' => len == 2,
@@ -280,6 +312,7 @@ fn turns_from_m(first: u8, second: u8, len: usize) -> bool
         b'm' => match second {
             b'a' => matches!(len, 6 | 9 | 11 | 12),
             b'd' => len == 8,
+            b'e' => len == 7,
             b'i' => len == 15,
             b'o' => len == 3,
             _ => false,
@@ -287,16 +320,17 @@ fn turns_from_m(first: u8, second: u8, len: usize) -> bool
         b'n' => match second {
             b'e' => len == 10,
             b'i' => len == 8,
-            b'o' => matches!(len, 5 | 7 | 8 | 10),
+            b'o' => matches!(len, 5 | 7 | 8 | 10 | 11),
             b'u' => len == 4,
             _ => false,
         },
         b'o' => match second {
-            b'p' => len == 22,
+            b'p' => matches!(len, 7 | 22),
             b'v' => len == 12,
             _ => false,
         },
         b'p' => match second {
+            b'a' => len == 9,
             b'm' => matches!(len, 4 | 7),
             b'o' => len == 3,
             b'r' => matches!(len, 7 | 9 | 14),
@@ -313,13 +347,14 @@ fn turns_from_m(first: u8, second: u8, len: usize) -> bool
         },
         b's' => match second {
             b'b' => len == 2,
-            b'c' => matches!(len, 3 | 7),
+            b'c' => matches!(len, 2 | 3 | 7),
             b'e' => len == 9,
             b'f' => matches!(len, 5 | 8),
-            b'h' => matches!(len, 9 | 10),
+            b'h' => matches!(len, 9 | 10 | 14),
             b'i' => matches!(len, 7 | 8 | 13),
             b'k' => len == 4,
-            b'l' => matches!(len, 5 | 7),
+            b'l' => matches!(len, 2 | 5 | 7),
+            b'm' => len == 9,
             b't' => len == 5,
             b'p' => matches!(len, 2 | 9 | 10),
             _ => false,
@@ -338,6 +373,7 @@ fn turns_from_m(first: u8, second: u8, len: usize) -> bool
         b'v' => match second {
             b'a' => matches!(len, 5 | 6 | 8 | 9 | 10),
             b'c' => len == 7,
+            b's' => len == 6,
             b'v' => len == 2,
             _ => false,
         },

@@ -3,7 +3,7 @@ ghost use Rattle.std.specs.Prelude.{◌≡◌, ◌<◌, IfOk, IsTrue, length, ma
 ghost use Rattle.std.specs.Option.{is_some};
 ghost use Rattle.std.specs.Str.{chars};
 ghost use Rattle.latex2mathml_tex_grammar.specs.{Cutting.units_of, Sorted.ascending};
-ghost use Rattle.latex2mathml_tex_grammar.specs.UsualMacros.{body_with, entry_macro, listed, macro_with, other_macro, other_named, usual_entries, usual_macros};
+ghost use Rattle.latex2mathml_tex_grammar.specs.UsualMacros.{body_with, entry_macro, is_break, listed, macro_with, other_macro, other_named, usual_entries, usual_macros};
 ghost use Rattle.latex2mathml_tex_units.specs.{Bodies.entry_of, Bodies.macro_of, Bodies.named_entry, Bodies.other_of, Bodies.parts_in, Taking.unit_of};
 
 use crate::lexer::Lexer;
@@ -31,14 +31,18 @@ fn entries() -> &'static [Usual]
 
 /// An entry for each macro, in the order of their names' bytes.
 #[rattlefmt::skip]
-static ENTRIES: [Usual; 168] = [
+static ENTRIES: [Usual; 185] = [
     Usual { name: "(", arity: 0, body: "$" },
     Usual { name: ")", arity: 0, body: "$" },
     Usual { name: "*", arity: 0, body: "" },
     Usual { name: "-", arity: 0, body: "" },
     Usual { name: "/", arity: 0, body: "" },
+    Usual { name: "Acute", arity: 0, body: "\\acute" },
+    Usual { name: "Bar", arity: 0, body: "\\bar" },
     Usual { name: "Bbbk", arity: 0, body: "\\mathbb{k}" },
     Usual { name: "Bra", arity: 1, body: "\\left\\langle #1\\right|" },
+    Usual { name: "Breve", arity: 0, body: "\\breve" },
+    Usual { name: "Check", arity: 0, body: "\\check" },
     Usual { name: "Colonapprox", arity: 0, body: "\\mathrel{::\\approx}" },
     Usual { name: "Coloneq", arity: 0, body: "\\mathrel{::=}" },
     Usual { name: "Coloneqq", arity: 0, body: "\\mathrel{::=}" },
@@ -46,22 +50,28 @@ static ENTRIES: [Usual; 168] = [
     Usual { name: "DOTSB", arity: 0, body: "" },
     Usual { name: "DOTSI", arity: 0, body: "" },
     Usual { name: "DOTSX", arity: 0, body: "" },
+    Usual { name: "Ddot", arity: 0, body: "\\ddot" },
+    Usual { name: "Dot", arity: 0, body: "\\dot" },
     Usual { name: "Eqcolon", arity: 0, body: "\\mathrel{=::}" },
     Usual { name: "Eqqcolon", arity: 0, body: "\\mathrel{=::}" },
+    Usual { name: "Grave", arity: 0, body: "\\grave" },
+    Usual { name: "Hat", arity: 0, body: "\\hat" },
     Usual { name: "KaTeX", arity: 0, body: "\\text{KaTeX}" },
     Usual { name: "Ket", arity: 1, body: "\\left|#1\\right\\rangle" },
     Usual { name: "Ketbra", arity: 2, body: "\\left|{#1}\\right\\rangle\\left\\langle{#2}\\right|" },
     Usual { name: "LaTeX", arity: 0, body: "\\text{LaTeX}" },
     Usual { name: "TeX", arity: 0, body: "\\text{TeX}" },
+    Usual { name: "Tilde", arity: 0, body: "\\tilde" },
+    Usual { name: "Vec", arity: 0, body: "\\vec" },
     Usual { name: "adjustlimits", arity: 0, body: "" },
     Usual { name: "allowbreak", arity: 0, body: "" },
-    Usual { name: "allowdisplaybreaks", arity: 0, body: "" },
     Usual { name: "approxcolon", arity: 0, body: "\\mathrel{\\approx:}" },
     Usual { name: "approxcoloncolon", arity: 0, body: "\\mathrel{\\approx::}" },
     Usual { name: "array", arity: 1, body: "\\begin{matrix}#1\\end{matrix}" },
     Usual { name: "begingroup", arity: 0, body: "{" },
     Usual { name: "bfseries", arity: 0, body: "\\bf" },
     Usual { name: "bgroup", arity: 0, body: "{" },
+    Usual { name: "bigskip", arity: 0, body: "" },
     Usual { name: "bmod", arity: 0, body: "\\mathbin{\\mathchoice{\\mkern1mu\\mathrm{mod}\\mkern1mu}{\\mkern1mu\\mathrm{mod}\\mkern1mu}{\\mkern5mu\\mathrm{mod}\\mkern5mu}{\\mkern5mu\\mathrm{mod}\\mkern5mu}}" },
     Usual { name: "bra", arity: 1, body: "\\mathinner{\\langle{#1}|}" },
     Usual { name: "braket", arity: 1, body: "\\mathinner{\\langle{#1}\\rangle}" },
@@ -84,7 +94,6 @@ static ENTRIES: [Usual; 168] = [
     Usual { name: "colorbox", arity: 2, body: "\\mathcolorbox{#1}{\\text{#2}}" },
     Usual { name: "cssId", arity: 2, body: "#2" },
     Usual { name: "ddddot", arity: 1, body: "\\overset{....}{#1}" },
-    Usual { name: "displaybreak", arity: 0, body: "" },
     Usual { name: "displaylines", arity: 1, body: "\\begin{gathered}#1\\end{gathered}" },
     Usual { name: "dotsb", arity: 0, body: "\\cdots" },
     Usual { name: "dotsc", arity: 0, body: "\\ldots" },
@@ -116,6 +125,8 @@ static ENTRIES: [Usual; 168] = [
     Usual { name: "ignorespaces", arity: 0, body: "" },
     Usual { name: "impliedby", arity: 0, body: "\\;\\Longleftarrow\\;" },
     Usual { name: "implies", arity: 0, body: "\\;\\Longrightarrow\\;" },
+    Usual { name: "index", arity: 1, body: "" },
+    Usual { name: "intertext", arity: 1, body: "\\\\\\mathrlap{\\text{#1}}\\\\" },
     Usual { name: "itshape", arity: 0, body: "\\it" },
     Usual { name: "ket", arity: 1, body: "\\mathinner{|{#1}\\rangle}" },
     Usual { name: "ketbra", arity: 2, body: "\\mathinner{|{#1}\\rangle\\langle{#2}|}" },
@@ -133,15 +144,17 @@ static ENTRIES: [Usual; 168] = [
     Usual { name: "mathtoolsset", arity: 1, body: "" },
     Usual { name: "matrix", arity: 1, body: "\\begin{matrix}#1\\end{matrix}" },
     Usual { name: "mdseries", arity: 0, body: "" },
+    Usual { name: "medskip", arity: 0, body: "" },
     Usual { name: "minuscoloncolon", arity: 0, body: "\\mathrel{\\relbar::}" },
     Usual { name: "mod", arity: 1, body: "\\mathchoice{\\mkern18mu}{\\mkern12mu}{\\mkern12mu}{\\mkern12mu}\\mathrm{mod}\\,\\,#1" },
-    Usual { name: "nicefrac", arity: 2, body: "#1/#2" },
+    Usual { name: "nicefrac", arity: 2, body: "{\\raisemath{0.5ex}{\\scriptstyle #1}\\mkern-1.8mu/\\mkern-2.7mu\\raisemath{-0.25ex}{\\scriptstyle #2}}" },
     Usual { name: "nobreak", arity: 0, body: "" },
     Usual { name: "noindent", arity: 0, body: "" },
     Usual { name: "nonumber", arity: 0, body: "" },
     Usual { name: "normalfont", arity: 0, body: "" },
     Usual { name: "notag", arity: 0, body: "" },
     Usual { name: "null", arity: 0, body: "{}" },
+    Usual { name: "openone", arity: 0, body: "\\mathbb{1}" },
     Usual { name: "operatornamewithlimits", arity: 0, body: "\\operatorname*" },
     Usual { name: "overunderset", arity: 3, body: "\\overset{#1}{\\underset{#2}{#3}}" },
     Usual { name: "pmatrix", arity: 1, body: "\\begin{pmatrix}#1\\end{pmatrix}" },
@@ -158,19 +171,23 @@ static ENTRIES: [Usual; 168] = [
     Usual { name: "rmfamily", arity: 0, body: "\\rm" },
     Usual { name: "rq", arity: 0, body: "'" },
     Usual { name: "sb", arity: 0, body: "_" },
+    Usual { name: "sc", arity: 0, body: "" },
     Usual { name: "scr", arity: 0, body: "\\cal" },
     Usual { name: "scshape", arity: 0, body: "" },
     Usual { name: "setlength", arity: 2, body: "" },
     Usual { name: "sffamily", arity: 0, body: "\\sf" },
-    Usual { name: "sfrac", arity: 2, body: "#1/#2" },
+    Usual { name: "sfrac", arity: 2, body: "{\\raisemath{0.5ex}{\\scriptstyle #1}\\mkern-1.8mu/\\mkern-2.7mu\\raisemath{-0.25ex}{\\scriptstyle #2}}" },
+    Usual { name: "shortintertext", arity: 1, body: "\\\\\\mathrlap{\\text{#1}}\\\\" },
     Usual { name: "shoveleft", arity: 1, body: "#1" },
     Usual { name: "shoveright", arity: 1, body: "#1" },
     Usual { name: "sideset", arity: 3, body: "\\mathop{\\vphantom{#3}#1\\!#3\\nolimits#2}" },
     Usual { name: "simcolon", arity: 0, body: "\\mathrel{\\sim:}" },
     Usual { name: "simcoloncolon", arity: 0, body: "\\mathrel{\\sim::}" },
     Usual { name: "skew", arity: 3, body: "{#2{#3\\mkern#1mu}\\mkern-#1mu}" },
+    Usual { name: "sl", arity: 0, body: "\\it" },
     Usual { name: "slash", arity: 0, body: "/" },
     Usual { name: "slshape", arity: 0, body: "\\it" },
+    Usual { name: "smallskip", arity: 0, body: "" },
     Usual { name: "sp", arity: 0, body: "^" },
     Usual { name: "splitdfrac", arity: 2, body: "\\genfrac{}{}{0pt}{0}{#1\\quad}{\\quad #2}" },
     Usual { name: "splitfrac", arity: 2, body: "\\genfrac{}{}{0pt}{1}{#1\\quad}{\\quad #2}" },
@@ -215,8 +232,9 @@ enum Other {
         starred: &'static str,
         body: &'static str,
     },
-    /// It takes two arguments, the first of which is in brackets or left out.
+    /// It takes this many arguments, the first of which is in brackets or left out.
     Optional {
+        arity: usize,
         body: &'static str,
     },
 }
@@ -225,8 +243,13 @@ enum Other {
 fn other_named(name: &str) -> Option<Other>
     ensures { option_map other_of result ≡ other_named name.now }
 {
-    if name == "bbox" {
-        Some(Other::Optional { body: "#2" })
+    if is_break(name) {
+        Some(Other::Optional { arity: 1, body: "" })
+    } else if name == "bbox" {
+        Some(Other::Optional {
+            arity: 2,
+            body: "#2",
+        })
     } else if name == "buildrel" {
         Some(Other::Divided {
             command: "over",
@@ -252,9 +275,29 @@ fn other_named(name: &str) -> Option<Other>
             starred: "\\qquad\\text{#1}",
             body: "\\qquad\\text{(#1)}",
         })
+    } else if name == "vspace" {
+        Some(Other::Starred {
+            starred: "",
+            body: "",
+        })
     } else {
         None
     }
+}
+
+/// Whether the command with this name breaks lines or pages, or does not. How much, may follow in brackets.
+fn is_break(name: &str) -> bool
+    ensures { result ≡ is_break name.now }
+{
+    matches!(
+        name,
+        "allowdisplaybreaks"
+            | "displaybreak"
+            | "linebreak"
+            | "nolinebreak"
+            | "nopagebreak"
+            | "pagebreak"
+    )
 }
 
 impl Other {
@@ -278,9 +321,11 @@ impl Other {
                 takes: Takes::Arguments(1),
                 body: body_of(alloc, 1, body)?,
             }),
-            Other::Optional { body } => {
-                Ok(Macro::new(Some(Vec::new(alloc)), 2, body_of(alloc, 2, body)?))
-            }
+            Other::Optional { arity, body } => Ok(Macro::new(
+                Some(Vec::new(alloc)),
+                arity,
+                body_of(alloc, arity, body)?,
+            )),
         }
     }
 }
