@@ -51,6 +51,9 @@ TABLES = ("matrix", "pmatrix", "vmatrix", "cases", "aligned", "smallmatrix")
 MAYBE_BRACKETS = st.one_of(st.just(""), joined("[", LETTERS, "]"))
 NAMES = joined(command("sin log max lim det Pr"), "x")
 CELLS = joined(ROWS, "&", ROWS)
+WORDS = st.deferred(lambda: st.lists(WORD, max_size=4).map("".join))
+WORD = st.one_of(one_of("if a b,"), st.just(" "), joined("$", ROWS, "$"), joined("{", WORDS, "}"), joined(r"\textbf{", WORDS, "}"),
+                 command(r"small tiny Large normalsize bf rm"))
 
 CONSTRUCTS = [
     joined(one_of(r"\frac \dfrac \tfrac \cfrac \binom \overset \underset \stackrel"), GROUPS, GROUPS),
@@ -59,7 +62,7 @@ CONSTRUCTS = [
            r"\right", one_of(r") ] \} | . \rangle"), " "),
     joined(one_of(r"\hat \bar \vec \tilde \dot \ddot \overline \underline \widehat \mathring \check \breve"), GROUPS),
     joined(one_of(r"\mathbf \mathrm \mathcal \mathbb \mathfrak \mathsf \boldsymbol"), "{", one_of(r"A AB x R1 \Gamma ab+c"), "}"),
-    joined(one_of(r"\text \textbf \mbox"), "{", one_of("if a,b x$y^2$z"), " }"),
+    joined(one_of(r"\text \textbf \textrm"), "{", WORDS, "}"),
     joined(one_of(r"\mathrel \mathbin \mathord \mathopen \mathpunct \mathop \phantom \smash \textcolor{red}"), GROUPS),
     joined(r"\operatorname{lcm}", "x"),
     joined(one_of(r"\sum \int \bigcup"), one_of(r"\limits \nolimits"), "_", OPERANDS, "^", OPERANDS),
