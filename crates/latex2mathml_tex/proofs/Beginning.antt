@@ -1,5 +1,5 @@
 -- How rules, operands and words begin with the unit that was taken.
-use Rattle.std.proofs.Common.{◌≡◌, ℕ, ◌+◌, ◌≤◌, suc, false, true, List, [], ◌∷◌, ◌++◌, None, Some, option_map, refl, sym, ap, ◌∙◌, subst, arith}
+use Rattle.std.proofs.Common.{inl, inr, ◌≡◌, ℕ, ◌+◌, ◌≤◌, suc, false, true, List, [], ◌∷◌, ◌++◌, None, Some, option_map, refl, sym, ap, ◌∙◌, subst, arith}
 use Rattle.std.specs.Char.{is_ascii_digit}
 use Rattle.latex2mathml_elements.specs.Element.{Element}
 use Rattle.latex2mathml_builder.specs.Built.{Built, elements_in}
@@ -101,12 +101,15 @@ group_begins s p k row place e g = rw e (row_due (λ xs. gives (core (braced xs)
 pub rule_refused : (s : Start) (p : Parser) (r : Refusal) → Begins (refuses r) 0 s p → Refuses (level 0 s p) r
 rule_refused s p r g = core_refuses r (level 0 s p) (refused g.leads)
 
--- Atoms that are negated
+-- Atoms without scripts
 
 module _ (s : Start) (p : Parser) (place : ℕ) (due : AwaitsCore place p) (g : Holds s p state.Next) where
   -- what holds at any level where an atom without scripts is due holds at this one
   at_core : (P : Level → Type 0) → ((c : RuleContext) (K : Outcome Core → Type 0) → P (levels.core place c K)) → P (level 0 s p)
-  at_core P on = out_of_frame P s p.style g.style p.frames.stack.items due.1.0 (frame.Negation place due.0) (elements_of p) due.1.1 (on _ _)
+  at_core P on = elim due.1 [
+    | inl i ↦ out_of_frame P s p.style g.style p.frames.stack.items i.0 (frame.Negation place due.0) (elements_of p) i.1 (on _ _)
+    | inr (n, i) ↦ out_of_frame P s p.style g.style p.frames.stack.items i.0 (frame.AtomInWords n place due.0) (elements_of p) i.1 (on _ _)
+  ]
 
   pub core_begins : (i : Input) (u : Unit) → past_space (left_of p) ≡ Next (unit_of u) (units_at i) → BeginsUnit u s (record p { input = i })
   core_begins i u e = record {

@@ -3,7 +3,7 @@ use Rattle.std.proofs.Common.{ap, Bool, true, false, ◌≡◌, ℕ, IsTrue, IsF
 use Rattle.latex2mathml_tex_grammar.specs.{Atoms.Atom, Delimiters.delimiter_of}
 use Rattle.latex2mathml_tex_grammar.specs.Makes.{Core, number, Scripts, no_scripts, scripted}
 use Rattle.latex2mathml_tex_grammar.specs.{Meaning.Beside, Meaning.Change, Next.past_space, Next.follows, Next.next_are, Next.digits_next, Next.refusal_here}
-use Rattle.latex2mathml_tex_grammar.specs.Reading.{Outcome, Read, Refused, ReadsRule, ReadsWords, rule_gives, rule_refuses, operand_read, operand_refused, core_read, core_refused, core_missing, core_stopped, atoms_read, atoms_refused, words_read, words_refused, units_taken, units_missing, unit_follows, no_unit_follows, digits_taken, delimiter_taken, delimiter_missing, group_operand, group_refused, digit_operand, other_operand, other_refused, no_operand, operand_at_end, operand_stopped, scripts_end, mark_taken, script_read, script_refused, mark_refused, ReadsAtom, on_empty_row, base_read, base_refused, text_ends, never_ended, atoms_stopped, atoms_end, atom_read, atom_refused, rest_read, change_refused, word_stands, group_of_words, formula_read, formula_refused, words_in_alphabet, no_word, word_missing, word_at_end, word_stopped, words_end, words_never_ended, words_stopped, word_read, word_refused, words_resized, words_resized_refused, found_taken, found_refused, passed_over, rows_read, rows_refused, ReadsRows, rows_to_end}
+use Rattle.latex2mathml_tex_grammar.specs.Reading.{Outcome, Read, Refused, ReadsRule, ReadsWords, rule_gives, rule_refuses, operand_read, operand_refused, core_read, core_refused, core_missing, core_stopped, atoms_read, atoms_refused, words_read, words_refused, units_taken, units_missing, unit_follows, no_unit_follows, digits_taken, delimiter_taken, delimiter_missing, group_operand, group_refused, digit_operand, other_operand, other_refused, no_operand, operand_at_end, operand_stopped, scripts_end, mark_taken, script_read, script_refused, mark_refused, ReadsAtom, on_empty_row, base_read, base_refused, text_ends, never_ended, atoms_stopped, atoms_end, atom_read, atom_refused, rest_read, change_refused, word_stands, group_of_words, formula_read, formula_refused, words_in_alphabet, no_word, word_missing, word_at_end, word_stopped, words_end, words_never_ended, words_stopped, atom_in_words, atom_refused_in_words, word_read, word_refused, words_resized, words_resized_refused, found_taken, found_refused, passed_over, rows_read, rows_refused, ReadsRows, rows_to_end}
 use Rattle.latex2mathml_tex_grammar.specs.Refusal.{Kind, MissingArgument, UnclosedBrace, MissingDelimiter, Refusal, refusal_at}
 use Rattle.latex2mathml_tex_grammar.specs.Rests.{Rest, GoesOnIn, NoRest, finished, rest_of}
 use Rattle.latex2mathml_tex_grammar.specs.Rows.{Operand, Row, empty_row, single}
@@ -16,8 +16,8 @@ use Rattle.latex2mathml_tex_grammar.specs.Tables.{Lines}
 use Rattle.latex2mathml_tex.specs.Tables.{RowsLead}
 use Rattle.latex2mathml_tex_grammar.specs.Symbols.{InScript, Alphabet, TextSize}
 use Rattle.latex2mathml_tex_grammar.specs.Units.{Piece, Unit, Units, Next, End, Stop}
-use Rattle.latex2mathml_tex_grammar.specs.Words.{Resized, Word, Words, no_words, with_accent_ended, with_word, IsWord, BeginsGroup, Changed, EndsGroup, BeginsFormula, TakesWords, NoWord, alphabet_behind, size_after, word_rule}
-use Rattle.latex2mathml_tex.specs.Levels.{AtomMade, CoreMade, FollowsChange, Leads, Level, PartMade, RestLeads, RuleLeads, ScriptsLead, Then, WordLeads, as_operand, as_resized, as_words, row, operand, part, words}
+use Rattle.latex2mathml_tex_grammar.specs.Words.{Resized, ShowsAtom, Word, Words, no_words, with_accent_ended, with_word, IsWord, BeginsGroup, Changed, EndsGroup, BeginsFormula, TakesWords, NoWord, alphabet_behind, size_after, word_rule}
+use Rattle.latex2mathml_tex.specs.Levels.{AtomMade, CoreMade, FollowsChange, Leads, Level, PartMade, RestLeads, RuleLeads, ScriptsLead, Then, WordLeads, as_atom_in_words, as_operand, as_resized, as_words, row, operand, part, words}
 use Rattle.latex2mathml_tex.specs.Levels.{core as core_level}
 
 -- A rule that leads somewhere
@@ -204,6 +204,14 @@ module _ (level : Level) {place : ℕ} {c : Context} {ws : Words} {l : Units} {u
 
   pub words_in_alphabet_due : {a : Option Alphabet} → word_rule c.alphabet u.piece ≡ TakesWords a → WordLeads level place c ws (Next u l) → WordLeads level u.place (in_words c a) ws (past_space l)
   words_in_alphabet_due e k = λ o d. k o (words_in_alphabet e d)
+
+  -- an atom in words
+  atom_shown : word_rule c.alphabet u.piece ≡ ShowsAtom → WordLeads level place c ws (Next u l) → (o : Outcome Core) → ReadsRule (rule u.place c u.piece) l o → PartMade level (as_atom_in_words (with_accent_ended ws).elements o)
+  atom_shown e k (Read x m) d = k _ (atom_in_words e d)
+  atom_shown e k (Refused r) d = k _ (atom_refused_in_words e d)
+
+  pub atom_in_words_due : word_rule c.alphabet u.piece ≡ ShowsAtom → WordLeads level place c ws (Next u l) → RuleLeads (rule u.place c u.piece) (λ o. PartMade level (as_atom_in_words (with_accent_ended ws).elements o)) l
+  atom_in_words_due e k = record { to = atom_shown e k }
 
   pub word_refused_at : {kind : Kind} → word_rule c.alphabet u.piece ≡ NoWord kind → WordLeads level place c ws (Next u l) → PartMade level (Refused (refusal_at kind u.place))
   word_refused_at e k = k _ (no_word e)

@@ -83,6 +83,7 @@ module _ (r : Refusal) where
     frame_refuses frame.Text xs k = on (core_refuses l k)
     frame_refuses (frame.Words place c) xs k = on (part_refuses l k)
     frame_refuses (frame.Resized n size c) xs k = on (part_refuses l k)
+    frame_refuses (frame.AtomInWords n place c) xs k = on (part_refuses l k)
 
   pub all_refuse : (s : Start) (fs : List Frame) (xs : List Element) → Refuses (inside_all s fs xs) r → Whole s (Refused r)
   all_refuse s [] xs k = k

@@ -93,15 +93,16 @@ waits c f (inl (made, place, e)) = rw e refl
 waits c f (inr (inl (one, place, e))) = rw e refl
 waits c f (inr (inr (base, scripts, on, place, e))) = rw e refl
 
-pub others_wait : (f : Frame) → ((e : Ending) (place : ℕ) (c : Context) (row : CodeRow) → f ≡ frame.Row e place c row → ⊥) → ((place : ℕ) (c : Context) → f ≡ frame.Negation place c → ⊥) → (f ≡ frame.Text → ⊥) → ((place : ℕ) (c : Context) → f ≡ frame.Words place c → ⊥) → ((n : ℕ) (size : TextSize) (c : Context) → f ≡ frame.Resized n size c → ⊥) → WaitsIn (frame_context f) f
-others_wait (frame.Last made place c) no_row no_negation no_text no_words no_resized = refl
-others_wait (frame.First one place c) no_row no_negation no_text no_words no_resized = refl
-others_wait (frame.Script base scripts on place c) no_row no_negation no_text no_words no_resized = refl
-others_wait (frame.Row e place c row) no_row no_negation no_text no_words no_resized = absurd (no_row e place c row refl)
-others_wait (frame.Negation place c) no_row no_negation no_text no_words no_resized = absurd (no_negation place c refl)
-others_wait frame.Text no_row no_negation no_text no_words no_resized = absurd (no_text refl)
-others_wait (frame.Words place c) no_row no_negation no_text no_words no_resized = absurd (no_words place c refl)
-others_wait (frame.Resized n size c) no_row no_negation no_text no_words no_resized = absurd (no_resized n size c refl)
+pub others_wait : (f : Frame) → ((e : Ending) (place : ℕ) (c : Context) (row : CodeRow) → f ≡ frame.Row e place c row → ⊥) → ((place : ℕ) (c : Context) → f ≡ frame.Negation place c → ⊥) → (f ≡ frame.Text → ⊥) → ((place : ℕ) (c : Context) → f ≡ frame.Words place c → ⊥) → ((n : ℕ) (size : TextSize) (c : Context) → f ≡ frame.Resized n size c → ⊥) → ((n place : ℕ) (c : Context) → f ≡ frame.AtomInWords n place c → ⊥) → WaitsIn (frame_context f) f
+others_wait (frame.Last made place c) no_row no_negation no_text no_words no_resized no_atom = refl
+others_wait (frame.First one place c) no_row no_negation no_text no_words no_resized no_atom = refl
+others_wait (frame.Script base scripts on place c) no_row no_negation no_text no_words no_resized no_atom = refl
+others_wait (frame.Row e place c row) no_row no_negation no_text no_words no_resized no_atom = absurd (no_row e place c row refl)
+others_wait (frame.Negation place c) no_row no_negation no_text no_words no_resized no_atom = absurd (no_negation place c refl)
+others_wait frame.Text no_row no_negation no_text no_words no_resized no_atom = absurd (no_text refl)
+others_wait (frame.Words place c) no_row no_negation no_text no_words no_resized no_atom = absurd (no_words place c refl)
+others_wait (frame.Resized n size c) no_row no_negation no_text no_words no_resized no_atom = absurd (no_resized n size c refl)
+others_wait (frame.AtomInWords n place c) no_row no_negation no_text no_words no_resized no_atom = absurd (no_atom n place c refl)
 
 single_made : (s : Start) (others : List Frame) (f : Frame) (xs : List Element) (c : Context) (x : Core) (m : Units) → WaitsIn c f → CoreMade (within s others f xs) (Read x m) → OperandMade (within s others f xs) (Read (single (style_of c.style) x.atom) m)
 single_made s others (frame.Last made place d) xs c x m e k = rw (sym e) k

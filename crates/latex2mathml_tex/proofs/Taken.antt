@@ -1,10 +1,12 @@
 -- What holds of the parser where its innermost frame is taken off, and where a frame is pushed.
 use Rattle.std.specs.Prelude.{⊤}
-use Rattle.std.proofs.Common.{◌≡◌, ◌∙◌, ◌+◌, ◌≤◌, ◌&&◌, ◌++◌, ℕ, Bool, IsTrue, List, Result, [], ◌∷◌, ap, arith, drop, false, refl, reverse, subst, sum_by, sym, take, true}
+use Rattle.std.proofs.Common.{◌<◌, None, length, ◌≡◌, ◌∙◌, ◌+◌, ◌≤◌, ◌&&◌, ◌++◌, ℕ, Bool, IsTrue, List, Result, [], ◌∷◌, ap, arith, drop, false, refl, reverse, subst, sum_by, sym, take, true}
 use Rattle.std.proofs.lemmas.{Bool.and_parts, List.reverse-append, List.Sums.sum_by_push}
 use Rattle.std.specs.declared.alloc.AllocError.{AllocError}
 use Rattle.latex2mathml_tex_grammar.specs.{Makes.core, Makes.struck, Reading.Read, Rests.with_resized, Rules.gives, Rules.struck_atom}
 use Rattle.latex2mathml_builder.specs.Built.{Built, elements_in}
+use Rattle.latex2mathml_elements.specs.Element.{Element}
+use Rattle.latex2mathml_tex_atoms.proofs.Wording.{drop_more, take_more}
 use Rattle.latex2mathml_tex_grammar.specs.Words as words
 use Rattle.latex2mathml_tex_grammar.specs.Words.{text_atom, with_accent_ended}
 use Rattle.latex2mathml_tex_atoms.specs.Wording.{Replaced}
@@ -29,6 +31,15 @@ counted style fs others f (on_top h) = ap (sum_by element_count) h ∙ sum_by_pu
 others_await : (style : Style) (fs others : List Frame) (f : Frame) → IsInnermost style fs f others → IsTrue (are_nested (reverse fs)) → IsTrue (first_accepts (makes f) (reverse others) && are_nested (reverse others))
 others_await style fs others f (none_begun h k g) nested = rw (k, g) (cc)
 others_await style fs others f (on_top h) nested = subst (λ l. IsTrue (are_nested l)) (ap reverse h ∙ reverse-append others (f ∷ [])) nested
+
+-- the uppermost elements
+take_one : (n : ℕ) (xs : List Element) → 0 < length xs → take (n + 1) xs ≡ top xs ∷ take n (drop 1 xs)
+take_one n [] some = absurd (omega (arith, some))
+take_one n (x ∷ xs) some = take_more n x xs
+
+drop_one : (n : ℕ) (xs : List Element) → 0 < length xs → drop (n + 1) xs ≡ drop n (drop 1 xs)
+drop_one n [] some = absurd (omega (arith, some))
+drop_one n (x ∷ xs) some = drop_more n x xs
 
 module _ (p : Parser) (fr : Frames) (f : Frame) (inner : IsInnermost p.style p.frames.stack.items f fr.stack.items) where
   -- the elements of the frame are now free, and what it makes is awaited
@@ -66,6 +77,17 @@ module _ (p : Parser) (fr : Frames) (f : Frame) (inner : IsInnermost p.style p.f
       record {
         style = h.style;
         claims = rw (same, below) (into_frame (λ l. PartMade l (Read (words_with ws (elements_of p)) (left_of p))) s p.style h.style p.frames.stack.items fr.stack.items (frame.Resized n size c) (drop ws.count (elements_of p)) within h.claims);
+      }
+
+  -- an atom in words follows those before it
+  pub atom_taken : (s : Start) (n place : ℕ) (context : Context) (c : Core) → f ≡ frame.AtomInWords n place context → 0 < length (elements_of p) → Holds s p (state.Core c) → Holds s (record p { frames = fr }) (state.Words (record { count = n + 1; last = None; accent = None }))
+  atom_taken s n place context c is some h =
+      let within = subst (λ f. IsInnermost p.style p.frames.stack.items f fr.stack.items) is inner in
+      let first = take_one n (elements_of p) some in
+      let below = drop_one n (elements_of p) some in
+      record {
+        style = h.style;
+        claims = rw (first, below) (into_frame (λ l. CoreMade l (Read (core_with c (top (elements_of p))) (left_of p))) s p.style h.style p.frames.stack.items fr.stack.items (frame.AtomInWords n place context) (drop 1 (elements_of p)) within h.claims);
       }
 
   -- what is to be negated is struck through

@@ -42,6 +42,8 @@ pub record IsNoWord (m : CodeMeaning) : Type 0 where
   pub no_space : (width : ℤ) → m ≡ code_meaning.Spacing width → ⊥
   pub no_words : (b : Option CodeAlphabet) → m ≡ code_meaning.Words b → ⊥
   pub no_alphabet : (b : CodeAlphabet) → m ≡ code_meaning.Changes (code_change.ToAlphabet b) → ⊥
+  pub no_skip : m ≡ code_meaning.Skip → ⊥
+  pub no_skip_in_braces : m ≡ code_meaning.SkipInBraces → ⊥
   pub no_size : (size : TextSize) → m ≡ code_meaning.Changes (code_change.ToSize size) → ⊥
 
 pub no_word_meant : (font : words.Font) (name : List ℕ) (m : CodeMeaning) → IsNoWord m → meaning_rule font name (Some (Meanings.meaning_of m)) ≡ NoWord (CommandInWords name)
@@ -51,6 +53,8 @@ no_word_meant font name (code_meaning.Spacing width) none = absurd (none.no_spac
 no_word_meant font name (code_meaning.Words b) none = absurd (none.no_words b refl)
 no_word_meant font name (code_meaning.Changes (code_change.ToAlphabet b)) none = absurd (none.no_alphabet b refl)
 no_word_meant font name (code_meaning.Changes (code_change.ToSize size)) none = absurd (none.no_size size refl)
+no_word_meant font name code_meaning.Skip none = absurd (none.no_skip refl)
+no_word_meant font name code_meaning.SkipInBraces none = absurd (none.no_skip_in_braces refl)
 no_word_meant font name m none = refl
 
 -- most commands change neither the alphabet nor the size

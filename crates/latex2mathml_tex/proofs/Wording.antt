@@ -5,17 +5,17 @@ use Rattle.latex2mathml_builder.specs.Built.{Built, elements_in}
 use Rattle.latex2mathml_tex_grammar.specs.{Makes.Core, Rows.empty_row, Rows.row_element, Rows.single, Rows.with_atom, Symbols.Alphabet, Symbols.InText, Symbols.TextSize}
 use Rattle.latex2mathml_tex_grammar.specs.Reading.{Outcome, Read, Refused, word_stopped}
 use Rattle.latex2mathml_tex_grammar.specs.Refusal.{Kind, Refusal, UnclosedBrace, refusal_at}
-use Rattle.latex2mathml_tex_grammar.specs.Rules.{Context, gives, in_size, in_words}
+use Rattle.latex2mathml_tex_grammar.specs.Rules.{Context, Rule, gives, in_size, in_words, rule}
 use Rattle.latex2mathml_tex_grammar.specs.Next.{past_space}
 use Rattle.latex2mathml_tex_grammar.specs.Units as grammar
 use Rattle.latex2mathml_tex_grammar.specs.Units.{Piece}
-use Rattle.latex2mathml_tex_grammar.specs.Words.{Accented, Resized, Word, Words, size_after, Changed, Formula, IsWord, NoWord, TakesWords, alphabet_behind, with_accent_ended, word_rule, words_element}
+use Rattle.latex2mathml_tex_grammar.specs.Words.{Accented, Resized, ShowsAtom, Word, Words, size_after, Changed, Formula, IsWord, NoWord, TakesWords, alphabet_behind, with_accent_ended, word_rule, words_element}
 use Rattle.latex2mathml_tex_units.specs.{Errors.refusal_of, Left.units_at}
 use Rattle.latex2mathml_tex.specs.Frames.{Start, Whole, inside}
 use Rattle.latex2mathml_tex.specs.Levels.{Level, PartMade, WordLeads, words}
 use Rattle.latex2mathml_tex_commands.specs.Meanings.{style_of, text_size_of}
 use Rattle.latex2mathml_tex_atoms.specs.{Models.context_of, Models.core_with, Models.row_with, Models.top, Models.words_with, Shapes.IsPut}
-use Rattle.latex2mathml_tex.specs.Steps.{Begins, BeginsWordOf, CanMake, ChangesWords, EndsGroupOf, Follows, GoesOnInBraces, GoesOnInSize, IsChange, Holds, WordGiven, core_made, elements_of, left_of, level, to_do, words_made}
+use Rattle.latex2mathml_tex.specs.Steps.{Begins, BeginsIn, ShowsAtomOf, BeginsWordOf, CanMake, ChangesWords, EndsGroupOf, Follows, GoesOnInBraces, GoesOnInSize, IsChange, Holds, WordGiven, core_made, elements_of, left_of, level, to_do, words_made}
 use Rattle.latex2mathml_tex_units.specs.declared.input.Input.{Input}
 use Rattle.latex2mathml_tex_commands.specs.declared.meaning.TextSize.{TextSize as CodeSize}
 use Rattle.latex2mathml_tex_atoms.specs.declared.{atoms.Context.Context as CodeContext, atoms.Core.Core as CodeCore, atoms.Row.Row as CodeRow, atoms.Words.Words as CodeWords}
@@ -31,7 +31,7 @@ use Rattle.latex2mathml_tex.specs.Innermost.{IsInnermost, none_begun, on_top}
 use Rattle.latex2mathml_tex_commands.specs.declared.meaning.Style.{Style as CodeStyle}
 use Rattle.latex2mathml_tex.specs.declared.parse.frames.Frames.{Frames}
 use Rattle.latex2mathml_tex_grammar.specs.Starts.{is_close}
-use Rattle.latex2mathml_tex.proofs.Leading.{changed_due, given, word_given, word_refused_at, words_ended, words_halted, words_in_alphabet_due, words_unended, word_due, resized_due}
+use Rattle.latex2mathml_tex.proofs.Leading.{changed_due, given, word_given, word_refused_at, words_ended, words_halted, words_in_alphabet_due, words_unended, word_due, resized_due, atom_in_words_due}
 use Rattle.latex2mathml_tex_atoms.specs.Wording.{Replaced}
 use Rattle.latex2mathml_tex_atoms.proofs.Wording.{drop_more, take_more}
 use Rattle.latex2mathml_tex.proofs.Marks as marks
@@ -129,6 +129,23 @@ module _ (s : Start) (p : Parser) (ws : CodeWords) (piece : Piece) (place : ℕ)
 
   pub in_alphabet_due : (i : Input) (d : CodeContext) {a : Option Alphabet} → units_at i ≡ past_space (left_of p) → context_of d ≡ in_words c a → word_rule c.alphabet piece ≡ TakesWords a → BeginsWordOf ws piece place c s p → Holds s (record p { input = i }) (state.Word ws place d)
   in_alphabet_due i d h is e g = record { style = g.style; claims = rw (h, is) (words_in_alphabet_due (level ws.count s p) {u = grammar.unit piece place} e g.leads) }
+
+-- Atoms in words
+
+-- a command takes a length, and its atom is due
+pub atom_shown : (s : Start) (p : Parser) (ws : CodeWords) (name : List ℕ) (place : ℕ) (c : Context) → word_rule c.alphabet (grammar.Command name) ≡ ShowsAtom → BeginsWordOf ws (grammar.Command name) place c s p → ShowsAtomOf ws (rule place c (grammar.Command name)) s p
+atom_shown s p ws name place c e g = record { style = g.style; leads = atom_in_words_due (level ws.count s p) {u = grammar.unit (grammar.Command name) place} e g.leads }
+
+-- its frame holds the words before it
+pub atom_held : (s : Start) (p : Parser) (b : Built) (fr : Frames) (ws after : CodeWords) (place : ℕ) (c : CodeContext) (r : Rule) → Replaced with_accent_ended ws (elements_of p) after (elements_in b) → fr.stack.items ≡ p.frames.stack.items ++ frame.AtomInWords after.count place c ∷ [] → ShowsAtomOf ws r s p → BeginsIn c r 0 s (record p { builder = b; frames = fr })
+atom_held s p b fr ws after place c r ended same g =
+    let elements : take after.count (elements_in b) ≡ (with_accent_ended (words_with ws (elements_of p))).elements = ap (λ (w : Words). w.elements) ended.words in
+    let around = pushed s p.frames.stack.items (frame.AtomInWords after.count place c) (elements_in b) in
+    record {
+      style = g.style;
+      context = rw (same, around) refl;
+      leads = rw (same, around, elements, ended.below) g.leads;
+    }
 
 -- Words in braces
 

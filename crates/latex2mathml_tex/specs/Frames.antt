@@ -12,7 +12,7 @@ use Rattle.latex2mathml_tex_grammar.specs.Rules as rules
 use Rattle.latex2mathml_tex_grammar.specs.Separators.{text_columns}
 use Rattle.latex2mathml_tex_grammar.specs.Rules.{Context, begun, Rule, gives, of_one, of_two, a_label, after_label, reads_operand, rows_of_text, slashed, struck_atom, takes_delimiter, WholeText, InBraces, InBrackets, InDollars, InDelimiters, InCell, InLabel}
 use Rattle.latex2mathml_tex_grammar.specs.Words.{words_atom}
-use Rattle.latex2mathml_tex.specs.Levels.{AtomMade, as_operand, as_resized, as_words, CoreMade, Level, OperandMade, PartMade, ScriptsLead, Then}
+use Rattle.latex2mathml_tex.specs.Levels.{AtomMade, as_atom_in_words, as_operand, as_resized, as_words, CoreMade, Level, OperandMade, PartMade, ScriptsLead, Then}
 use Rattle.latex2mathml_tex.specs.Levels as level
 use Rattle.latex2mathml_tex_commands.specs.Meanings.{box_of, class_of, fraction_rule_of, limit_place_of, style_of, text_size_of}
 use Rattle.latex2mathml_tex_atoms.specs.Models.{context_of, core_with, has_script, operand_with, row_count, row_with, script_count, scripts_with, top}
@@ -189,6 +189,7 @@ enter s (frame.Negation place c) xs l = level.core place (context_of c) (Then (�
 enter s (frame.Script base scripts on place c) xs l = level.operand place (context_of c) (ScriptMade l base scripts on xs)
 enter s frame.Text xs l = level.part (Then (λ ws. gives (core (words_atom ws))) (CoreMade l))
 enter s (frame.Words place c) xs l = level.words place (context_of c) (PartMade l)
+enter s (frame.AtomInWords n place c) xs l = level.core place (context_of c) (λ o. PartMade l (as_atom_in_words (take n xs) o))
 enter s (frame.Resized n size c) xs l = level.part (λ o. PartMade l (as_resized (text_size_of size) (context_of c) (take n xs) o))
 
 -- how many of the elements given next to a frame belong to it
@@ -222,6 +223,7 @@ element_count (frame.Last made place c) = last_count made
 element_count (frame.First one place c) = first_count one
 element_count (frame.Script base scripts on place c) = primes_put on scripts.primes + (script_count scripts + 1)
 element_count (frame.Resized n size c) = n
+element_count (frame.AtomInWords n place c) = n
 element_count f = 0
 
 -- the level inside all frames, the innermost first

@@ -26,6 +26,7 @@ frame_context (frame.Row e place c row) = c
 frame_context (frame.Last made place c) = c
 frame_context (frame.First one place c) = c
 frame_context (frame.Negation place c) = c
+frame_context (frame.AtomInWords n place c) = c
 frame_context (frame.Script base scripts on place c) = c
 frame_context f = usual_context style.InText None
 

@@ -72,6 +72,11 @@ abbrev pub as_resized : TextSize → Context → List Element → Outcome Words 
 as_resized size c before (Read ws l) = Read (with_resized size c before ws.elements) l
 as_resized size c before (Refused r) = Refused r
 
+-- elements of words that are followed by an atom
+abbrev pub as_atom_in_words : List Element → Outcome Core → Outcome Words
+as_atom_in_words before (Read x l) = Read (with_formula before x.atom.element) l
+as_atom_in_words before (Refused r) = Refused r
+
 -- where the outcome of an operand leads
 abbrev pub OperandMade : Level → Outcome Operand → Type 0
 OperandMade (operand place c K) o = K o

@@ -1,5 +1,5 @@
 -- What the parser's steps preserve: what holds of each state, and what decreases.
-use Rattle.std.specs.Prelude.{IsFalse, ◌≡◌, ℕ, ◌+◌, ◌*◌, ◌<◌, ◌≤◌, Bool, true, false, IsTrue, IfSome, OnOk, List, [], ◌∷◌, ◌&&◌, ⊤, drop, length, option_map, reverse, Result, sum_by, take, Option, Some, None}
+use Rattle.std.specs.Prelude.{IsFalse, ◌⊎◌, ◌≡◌, ℕ, ◌+◌, ◌*◌, ◌<◌, ◌≤◌, Bool, true, false, IsTrue, IfSome, OnOk, List, [], ◌∷◌, ◌&&◌, ⊤, drop, length, option_map, reverse, Result, sum_by, take, Option, Some, None}
 use Rattle.std.specs.declared.alloc.AllocError.{AllocError}
 use Rattle.latex2mathml_elements.specs.Element.{Element}
 use Rattle.latex2mathml_builder.specs.Built.{elements_in}
@@ -28,7 +28,7 @@ use Rattle.latex2mathml_tex_units.specs.{Errors.refusal_of, Taking.piece_of, Tak
 use Rattle.latex2mathml_tex.specs.Innermost.{IsInnermost}
 use Rattle.latex2mathml_tex.specs.Frames.{RowMade, ScriptMade, Start, Whole, after_first, base_of, context_at, element_count, ending_count, ending_of, first_count, inside, primes_put, within}
 use Rattle.latex2mathml_tex_units.specs.Left.{unit_count, units_at}
-use Rattle.latex2mathml_tex.specs.Levels.{AtomMade, CoreMade, Leads, Level, OperandMade, PartMade, RestLeads, RuleLeads, ScriptsLead, Then, WordLeads, as_atom, as_resized, words}
+use Rattle.latex2mathml_tex.specs.Levels.{AtomMade, CoreMade, Leads, Level, OperandMade, PartMade, RestLeads, RuleLeads, ScriptsLead, Then, WordLeads, as_atom, as_atom_in_words, as_resized, words}
 use Rattle.latex2mathml_tex_commands.specs.Meanings.{alphabet_of, limit_place_of, style_of}
 use Rattle.latex2mathml_tex_atoms.specs.Models.{context_of, core_with, kind_of, operand_with, row_count, row_with, script_count, scripts_with, top, words_with}
 use Rattle.latex2mathml_tex.specs.Numbers.{after_point}
@@ -159,6 +159,7 @@ makes (frame.Row e place c row) = row_makes e
 makes (frame.Script base scripts on place c) = atom_made
 makes (frame.Words place c) = words_made
 makes (frame.Resized n size c) = words_made
+makes (frame.AtomInWords n place c) = words_made
 makes f = core_made
 
 -- whether each of these frames, the innermost first, makes what the next one waits for
@@ -226,7 +227,7 @@ abbrev pub AwaitsOperand : ℕ → Parser → Type 0
 AwaitsOperand place p = (f : Frame) × InnermostIs f p × (operand_place f ≡ Some place)
 
 abbrev pub AwaitsCore : ℕ → Parser → Type 0
-AwaitsCore place p = (c : Context) × InnermostIs (frame.Negation place c) p
+AwaitsCore place p = (c : Context) × (InnermostIs (frame.Negation place c) p ⊎ ((n : ℕ) × InnermostIs (frame.AtomInWords n place c) p))
 
 abbrev pub AwaitsAtom : Ending → ℕ → CodeRow → Parser → Type 0
 AwaitsAtom e place xs p = (c : Context) × InnermostIs (frame.Row e place c xs) p
@@ -309,6 +310,11 @@ pub record GoesOnInSize (ws : CodeWords) (place : ℕ) (size : TextSize) (c : De
 pub record GoesOnInBraces (ws : CodeWords) (place : ℕ) (c : DefinedContext) (s : Start) (p : Parser) : Type 0 where
   pub style : s.style ≡ style_of p.style
   pub leads : PartMade (words place c (PartMade (level ws.count s p))) (Read (words_with ws (elements_of p)) (left_of p))
+
+-- The words are followed by an atom, which the rule makes in this context.
+pub record ShowsAtomOf (ws : CodeWords) (r : Rule) (s : Start) (p : Parser) : Type 0 where
+  pub style : s.style ≡ style_of p.style
+  pub leads : RuleLeads r (λ o. PartMade (level ws.count s p) (as_atom_in_words (with_accent_ended (words_with ws (elements_of p))).elements o)) (left_of p)
 
 -- The words followed by this part lead on.
 pub record WordGiven (ws : CodeWords) (w : Word) (s : Start) (p : Parser) : Type 0 where
@@ -455,6 +461,7 @@ ending_weight e = 4
 abbrev pub frame_weight : Frame → ℕ
 frame_weight (frame.Row e place c row) = ending_weight e
 frame_weight (frame.First one place c) = 8
+frame_weight (frame.AtomInWords n place c) = 0
 frame_weight f = 4
 
 abbrev pub state_weight : State → ℕ

@@ -212,6 +212,7 @@ impl<'a> Parser<'a> {
             Frame::First(_, place, _) => self.next_operand(place, next),
             Frame::Script(_, _, _, place, _) => self.next_operand(place, next),
             Frame::Negation(place, _) => self.next_core(place, next),
+            Frame::AtomInWords(_, place, _) => self.next_core(place, next),
             Frame::Text | Frame::Words(_, _) | Frame::Resized(_, _, _) => unreachable!(),
         }
     }

@@ -3,20 +3,21 @@ use Rattle.std.proofs.Common.{◌≡◌, ℕ, ℤ, List, true, [], ◌∷◌, re
 use Rattle.latex2mathml_elements.specs.Columns.{Columns}
 use Rattle.latex2mathml_tex_grammar.specs.{Atoms.Atom, Atoms.Before, Delimiters.delimiter_of, Makes.Core, Makes.Scripts, Refusal.MissingDelimiter, Refusal.Refusal, Rows.Row, Rows.Operand, Words.Words}
 use Rattle.latex2mathml_tex_grammar.specs.Next.{digits_next, past_space}
-use Rattle.latex2mathml_tex_grammar.specs.Reading.{Outcome, Read, Refused, ReadsRule, rule_gives, rule_refuses, operand_read, operand_refused, core_read, core_refused, core_missing, core_stopped, atoms_read, atoms_refused, words_read, words_refused, units_taken, units_missing, unit_follows, no_unit_follows, digits_taken, delimiter_taken, delimiter_missing, ReadsOperand, group_operand, group_refused, digit_operand, other_operand, other_refused, no_operand, operand_at_end, operand_stopped, ReadsScripts, scripts_end, mark_taken, script_read, script_refused, mark_refused, ReadsAtom, divider_read, divider_refused, on_empty_row, base_read, base_refused, ReadsAtoms, text_ends, never_ended, atoms_stopped, atoms_end, atom_read, atom_refused, rest_read, change_refused, ReadsWord, word_stands, group_of_words, formula_read, formula_refused, words_in_alphabet, no_word, word_missing, word_at_end, word_stopped, ReadsWords, words_end, words_never_ended, words_stopped, word_read, word_refused, words_resized, words_resized_refused, found_taken, found_refused, passed_over, rows_read, rows_refused, ReadsRows, cell_read, cell_refused, ReadsBehindCell, next_cell, arrow_read, arrow_refused, no_arrow, next_row, table_ends, rows_to_end, text_ends_table}
+use Rattle.latex2mathml_tex_grammar.specs.Reading.{Outcome, Read, Refused, ReadsRule, rule_gives, rule_refuses, operand_read, operand_refused, core_read, core_refused, core_missing, core_stopped, atoms_read, atoms_refused, words_read, words_refused, units_taken, units_missing, unit_follows, no_unit_follows, digits_taken, delimiter_taken, delimiter_missing, ReadsOperand, group_operand, group_refused, digit_operand, other_operand, other_refused, no_operand, operand_at_end, operand_stopped, ReadsScripts, scripts_end, mark_taken, script_read, script_refused, mark_refused, ReadsAtom, divider_read, divider_refused, on_empty_row, base_read, base_refused, ReadsAtoms, text_ends, never_ended, atoms_stopped, atoms_end, atom_read, atom_refused, rest_read, change_refused, ReadsWord, word_stands, group_of_words, formula_read, formula_refused, words_in_alphabet, no_word, word_missing, word_at_end, word_stopped, ReadsWords, words_end, words_never_ended, words_stopped, atom_in_words, atom_refused_in_words, word_read, word_refused, words_resized, words_resized_refused, found_taken, found_refused, passed_over, rows_read, rows_refused, ReadsRows, cell_read, cell_refused, ReadsBehindCell, next_cell, arrow_read, arrow_refused, no_arrow, next_row, table_ends, rows_to_end, text_ends_table}
 use Rattle.latex2mathml_tex_grammar.specs.Diagrams.{arrow_of, sign_of_arrow}
-use Rattle.latex2mathml_tex_grammar.specs.Rules.{Context, Ending, begun, Rule, TableEnd, InCell}
+use Rattle.latex2mathml_tex_grammar.specs.Rules.{Context, Ending, begun, Rule, TableEnd, InCell, rule}
 use Rattle.latex2mathml_tex_grammar.specs.Spacing.{Standing, InWords, standing_behind, AreAlike, both_end, same_piece}
 use Rattle.latex2mathml_tex_grammar.specs.Starts.{is_close}
 use Rattle.latex2mathml_tex_grammar.specs.Units.{Piece, Space, Open, Close, Command, Character, Unit, unit, Units, End, Next}
 use Rattle.latex2mathml_tex_grammar.proofs.AlikeRules.{AlikeEndings, both_braces, both_dollars, same_begun, same_ends, same_start, unended_too, never_ended_too, inside, WordsStand, before_words, within_words, AlikeRules, gives_too, refuses_too, operand_too, core_too, atoms_too, words_too, if_too, follows_too, digits_taken_too, delimiter_too, rules_too, arrow_too, arrow_tests, delimiter_tests, both_cells, cell_ends, left_too, scanned_too, passed_too, rows_too}
+use Rattle.latex2mathml_tex_grammar.proofs.WordScans.{LengthRules, both_find, both_give, both_pass, both_refuse, found_in_words, length_rules, missing_in_words, past_in_words}
 use Rattle.latex2mathml_tex_grammar.proofs.AlikeRests.{rest_too, no_rest_too}
 use Rattle.latex2mathml_tex_grammar.proofs.Plain.{change_start_plain, divider_plain, digit_start_plain, group_start_plain, step_plain}
 use Rattle.latex2mathml_tex_grammar.proofs.Spaces.{Front, next_stays, both_next, both_ended, both_stopped, fronts, fronts_of_words, looks_too, next_too, end_too, stop_too, refused_too, same_step, IsCalm, in_dollars, behind_plain, taken_too, missing_too, digits_too, IsPlain}
 use Rattle.latex2mathml_elements.specs.{Element.Element, Lines.Line}
 use Rattle.latex2mathml_tex_grammar.specs.{RowLines.is_line_command, RowLines.line_at, RowLines.line_next, RowLines.line_of, RowLines.lined, Scanning.BeforeRow, Rows.row_element, Tables.Lines, Tables.a_row}
 use Rattle.latex2mathml_tex_grammar.proofs.{Scans.found_too, Scans.refused_too as found_refused_too, Scans.past_too, Scans.past_break_too, Scans.past_gap_too, Scans.gap_too}
-use Rattle.latex2mathml_tex_grammar.proofs.{WordPieces.size_changes, WordPieces.word_ends, WordPieces.formula_begins, WordPieces.words_begin, WordPieces.words_follow}
+use Rattle.latex2mathml_tex_grammar.proofs.{WordPieces.IsLengthCommand, WordPieces.length_command, WordPieces.length_ends, WordPieces.length_plain, WordPieces.size_changes, WordPieces.word_ends, WordPieces.formula_begins, WordPieces.words_begin, WordPieces.words_follow}
 
 -- the same is read, and the units after it are alike, or the refusal is for the same reason
 pub data Carried {A : Type 0} (at : Standing) (reads : Outcome A → Type 0) : Outcome A → Type 0 where
@@ -86,6 +87,25 @@ lined_too : {at : Standing} {end : TableEnd} {place : ℕ} {columns : Columns} {
 lined_too {at} {end} {place} {columns} {c} {k} {o} {b = b} {xs = xs} e f h =
     subst (λ rows. Carried at (ReadsRows end place columns c (lined b rows) [] k) o) f (subst (λ line. Carried at (ReadsRows end place columns c (lined line xs) [] k) o) e h)
 
+-- in words, a length is taken alike
+carry_length : {at : Standing} {r s : Rule} {l m : Units} {o : Outcome Core} → LengthRules r s → ReadsRule r l o → AreAlike (InWords at) l m → Carried (InWords at) (ReadsRule s m) o
+carry_length {m = m} both_give rule_gives h = also_read m h rule_gives
+carry_length (both_refuse e) rule_refuses h = also_refused _ e rule_refuses
+carry_length (both_find {q = q} i none same) (found_taken {spot = spot} {place = place} {text = text} p d) h =
+    let found = found_in_words place q spot i none h p in also (carry_length (same text) d found.alike) (λ p. found_taken found.is)
+carry_length (both_find {q = q} i none same) (found_refused {spot = spot} {place = place} p) h =
+    let (r, kind, e) = missing_in_words place q spot i none h p in also_refused r kind (found_refused e)
+carry_length (both_pass i none same) (passed_over {spot = spot} d) h = also (carry_length same d (past_in_words spot i none h)) (λ p. passed_over)
+
+-- where units after words are: in a formula, or in other words
+data IsSettled : Standing → Type 0 where
+  is_calm : {at : Standing} → IsCalm at → IsSettled at
+  in_words : {at : Standing} → IsSettled (InWords at)
+
+-- a command that takes a length leaves units of a formula where they are
+length_behind : (piece : Piece) → IsLengthCommand piece → (before at : Standing) → WordsStand before at → IsCalm at → {l m : Units} → AreAlike (standing_behind piece before) l m → AreAlike (standing_behind piece at) l m
+length_behind piece takes before at w calm h = stands (length_ends piece takes before at w ∙ sym (length_plain piece takes at calm)) h
+
 mutual
   -- Where units are in a formula, everything is carried over to rules that are alike.
   pub carry_rule : {at before : Standing} {r s : Rule} {l m : Units} {o : Outcome Core} → ReadsRule r l o → AlikeRules at before r s → IsCalm at → AreAlike before l m → Carried at (ReadsRule s m) o
@@ -108,8 +128,8 @@ mutual
       let (n, alike, a) = read_is (carry_atoms at d ending (subst IsCalm e calm) (stands e h)) in also (carry_rule ds (same row) calm alike) (λ p. atoms_read (from_begun ending a))
   carry_rule {at = at} (atoms_refused d) (atoms_too ending e same) calm h = (let (r, kind, a) = refused_is (carry_atoms at d ending (subst IsCalm e calm) (stands e h)) in also_refused r kind (atoms_refused (from_begun ending a)))
   carry_rule (words_read {ws = ws} d ds) (words_too {q = q} same) calm h =
-      let (n, alike, e) = read_is (carry_word q d before_words (fronts h)) in also (carry_rule ds (same ws) calm alike) (λ p. words_read e)
-  carry_rule (words_refused d) (words_too {q = q} same) calm h = (let (r, kind, e) = refused_is (carry_word q d before_words (fronts h)) in also_refused r kind (words_refused e))
+      let (n, alike, e) = read_is (carry_word q d before_words (is_calm calm) (fronts h)) in also (carry_rule ds (same ws) calm alike) (λ p. words_read e)
+  carry_rule (words_refused d) (words_too {q = q} same) calm h = (let (r, kind, e) = refused_is (carry_word q d before_words (is_calm calm) (fronts h)) in also_refused r kind (words_refused e))
   carry_rule (units_taken {tests = tests} {texts = texts} p d) (if_too plain same other) calm h =
       let taken = taken_too tests plain calm h p in also (carry_rule d (same texts) calm taken.alike) (λ p. units_taken taken.is)
   carry_rule (units_missing {tests = tests} p d) (if_too plain same other) calm h = also (carry_rule d other calm h) (λ q. units_missing (missing_too tests plain calm h p))
@@ -251,23 +271,39 @@ mutual
   carry_behind_cell {m = m} other ended (text_ends_table p) calm h = also_read m h (text_ends_table (end_too h p).1)
 
   -- one part of words, which is all of them where words are due
-  carry_word : {before at : Standing} {place : ℕ} {c : Context} {ws : Words} {l m : Units} {o : Outcome Words} (other : ℕ) → ReadsWord place c ws l o → WordsStand before at → Front before l m → Carried at (ReadsWord other c ws m) o
-  carry_word {before = before} {at = at} other (word_stands {c = c} {u = u} {w = x} s) w (both_next {m = m} place t h) =
+  carry_word : {before at : Standing} {place : ℕ} {c : Context} {ws : Words} {l m : Units} {o : Outcome Words} (other : ℕ) → ReadsWord place c ws l o → WordsStand before at → IsSettled at → Front before l m → Carried at (ReadsWord other c ws m) o
+  carry_word {before = before} {at = at} other (word_stands {c = c} {u = u} {w = x} s) w settled (both_next {m = m} place t h) =
       also_read m (stands (word_ends c.alphabet u.piece x s before at w t) h) (word_stands s)
-  carry_word {before = before} {at = at} other (group_of_words {c = c} {u = u} s d) w (both_next place t h) =
+  carry_word {before = before} {at = at} other (group_of_words {c = c} {u = u} s d) w settled (both_next place t h) =
       also (carry_words place d (fronts_of_words (stands (words_begin c.alphabet u.piece s before at w) h))) (λ p. group_of_words s)
-  carry_word {before = before} {at = at} other (formula_read {c = c} {u = u} s d) w (both_next place t h) =
+  carry_word {before = before} {at = at} other (formula_read {c = c} {u = u} s d) w settled (both_next place t h) =
       let (n, alike, e) = read_is (carry_atoms at d both_dollars in_dollars (stands (formula_begins c.alphabet u.piece s before at w) h)) in
       also_read n alike (formula_read s e)
-  carry_word {before = before} {at = at} other (formula_refused {c = c} {u = u} s d) w (both_next place t h) =
+  carry_word {before = before} {at = at} other (formula_refused {c = c} {u = u} s d) w settled (both_next place t h) =
       let (r, kind, e) = refused_is (carry_atoms at d both_dollars in_dollars (stands (formula_begins c.alphabet u.piece s before at w) h)) in
       also_refused r kind (formula_refused s e)
-  carry_word {before = before} {at = at} other (words_in_alphabet {c = c} {a = a} {u = u} s d) w (both_next place t h) =
-      also (carry_word place d before_words (fronts (stands (words_follow c.alphabet a u.piece s before at w) h))) (λ p. words_in_alphabet s)
-  carry_word other (no_word s) w (both_next place t h) = also_refused _ refl (no_word s)
-  carry_word other (word_missing s) w (both_next place t h) = also_refused _ refl (word_missing s)
-  carry_word other word_at_end w both_ended = also_refused _ refl word_at_end
-  carry_word other word_stopped w (both_stopped e) = also_refused _ e word_stopped
+  carry_word {before = before} {at = at} other (words_in_alphabet {c = c} {a = a} {u = u} s d) w settled (both_next place t h) =
+      also (carry_word place d before_words settled (fronts (stands (words_follow c.alphabet a u.piece s before at w) h))) (λ p. words_in_alphabet s)
+  carry_word {before = before} {at = at} other (atom_in_words {c = c} {u = u} s d) w (is_calm calm) (both_next place t h) =
+      let takes = length_command c.alphabet u.piece s in
+      let (n, alike, e) = read_is (carry_rule d (rules_too u.place place c u.piece calm) calm (length_behind u.piece takes before at w calm h)) in
+      also_read n alike (atom_in_words s e)
+  carry_word {before = before} {at = at} other (atom_in_words {c = c} {u = u} s d) w in_words (both_next place t h) =
+      let takes = length_command c.alphabet u.piece s in
+      let (n, alike, e) = read_is (carry_length (length_rules u.place place c u.piece takes) d (stands (length_ends u.piece takes before at w) h)) in
+      also_read n alike (atom_in_words s e)
+  carry_word {before = before} {at = at} other (atom_refused_in_words {c = c} {u = u} s d) w (is_calm calm) (both_next place t h) =
+      let takes = length_command c.alphabet u.piece s in
+      let (r, kind, e) = refused_is (carry_rule d (rules_too u.place place c u.piece calm) calm (length_behind u.piece takes before at w calm h)) in
+      also_refused r kind (atom_refused_in_words s e)
+  carry_word {before = before} {at = at} other (atom_refused_in_words {c = c} {u = u} s d) w in_words (both_next place t h) =
+      let takes = length_command c.alphabet u.piece s in
+      let (r, kind, e) = refused_is (carry_length (length_rules u.place place c u.piece takes) d (stands (length_ends u.piece takes before at w) h)) in
+      also_refused r kind (atom_refused_in_words s e)
+  carry_word other (no_word s) w settled (both_next place t h) = also_refused _ refl (no_word s)
+  carry_word other (word_missing s) w settled (both_next place t h) = also_refused _ refl (word_missing s)
+  carry_word other word_at_end w settled both_ended = also_refused _ refl word_at_end
+  carry_word other word_stopped w settled (both_stopped e) = also_refused _ e word_stopped
 
   -- words in braces end with their brace
   carry_words : {at : Standing} {place : ℕ} {c : Context} {ws : Words} {l m : Units} {o : Outcome Words} (other : ℕ) → ReadsWords place c ws l o → Front (InWords at) l m → Carried at (ReadsWords other c ws m) o
@@ -275,10 +311,10 @@ mutual
   carry_words other words_never_ended both_ended = also_refused _ refl words_never_ended
   carry_words other words_stopped (both_stopped e) = also_refused _ e words_stopped
   carry_words other (word_read s z d ds) (both_next place t h) =
-      let (n, alike, e) = read_is (carry_word other d within_words (both_next place t h)) in
+      let (n, alike, e) = read_is (carry_word other d within_words in_words (both_next place t h)) in
       also (carry_words other ds (fronts_of_words alike)) (λ p. word_read s z e)
   carry_words other (word_refused s z d) (both_next place t h) =
-      let (r, kind, e) = refused_is (carry_word other d within_words (both_next place t h)) in also_refused r kind (word_refused s z e)
+      let (r, kind, e) = refused_is (carry_word other d within_words in_words (both_next place t h)) in also_refused r kind (word_refused s z e)
   carry_words {at = at} other (words_resized {c = c} {u = u} s d) (both_next place t h) =
       let alike = stands (size_changes c.alphabet u.piece s (InWords at) (InWords at) within_words t) h in
       let (n, left, e) = read_is (carry_words other d (fronts_of_words alike)) in

@@ -35,3 +35,4 @@ pub mod Tables
 pub mod Total
 pub mod Unique
 pub mod WordPieces
+pub mod WordScans

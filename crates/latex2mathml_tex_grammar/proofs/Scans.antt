@@ -13,7 +13,7 @@ use Rattle.latex2mathml_tex_grammar.proofs.Spaces.{IsCalm, IsPlain, behind_plain
 
 -- Units that are taken are plain
 
-abbrev takes : Deed → Bool
+abbrev pub takes : Deed → Bool
 takes (Passes spot) = true
 takes (Adds c spot) = true
 takes Ends = true
@@ -22,7 +22,7 @@ takes Misses = false
 takes (Refuses kind) = false
 
 -- no dollar sign is taken
-no_dollar_taken : (spot : Spot) → takes (deed spot (Character (byte "$"))) ≡ false
+pub no_dollar_taken : (spot : Spot) → takes (deed spot (Character (byte "$"))) ≡ false
 no_dollar_taken (BeforeArgument a) = refl
 no_dollar_taken (InArgument Name) = refl
 no_dollar_taken (InArgument ColumnList) = refl
@@ -151,11 +151,11 @@ pub data FoundAlike (at : Standing) : Found → Found → Type 0 where
   both_given : {l m : Units} (text : List ℕ) → AreAlike at l m → FoundAlike at (Given text l) (Given text m)
   both_missing : {r q : Refusal} → r.kind ≡ q.kind → FoundAlike at (Missing r) (Missing q)
 
-longer : {at : Standing} {x y : Found} (c : ℕ) → FoundAlike at x y → FoundAlike at (with_character c x) (with_character c y)
+pub longer : {at : Standing} {x y : Found} (c : ℕ) → FoundAlike at x y → FoundAlike at (with_character c x) (with_character c y)
 longer c (both_given text h) = both_given (encode_utf8 c ++ text) h
 longer c (both_missing e) = both_missing e
 
-ended : {at : Standing} {l m : Units} (r q : Refusal) (b : Bool) → AreAlike at l m → r.kind ≡ q.kind → FoundAlike at (found_at_end b l r) (found_at_end b m q)
+pub ended : {at : Standing} {l m : Units} (r q : Refusal) (b : Bool) → AreAlike at l m → r.kind ≡ q.kind → FoundAlike at (found_at_end b l r) (found_at_end b m q)
 ended r q true h e = both_given [] h
 ended r q false h e = both_missing e
 
@@ -185,7 +185,7 @@ pub record FoundToo (at : Standing) (spot : Spot) (place : ℕ) (text : List ℕ
   pub is : scan place m spot ≡ Given text rest
   pub alike : AreAlike at l rest
 
-given_there : {at : Standing} {spot : Spot} {place : ℕ} {text : List ℕ} {k m : Units} {x y : Found} → FoundAlike at x y → x ≡ Given text k → y ≡ scan place m spot → FoundToo at spot place text k m
+pub given_there : {at : Standing} {spot : Spot} {place : ℕ} {text : List ℕ} {k m : Units} {x y : Found} → FoundAlike at x y → x ≡ Given text k → y ≡ scan place m spot → FoundToo at spot place text k m
 given_there {at = at} {spot = spot} {place = place} {text = text} {k = k} {m = m} (both_given {l = j} {m = n} other h) p q =
     let same : other ≡ text = cc in
     let rest : j ≡ k = cc in
@@ -198,14 +198,14 @@ found_too p q spot calm h e = given_there (scan_alike p q calm h spot) e refl
 same_refusal : {r q : Refusal} → Missing r ≡ Missing q → r.kind ≡ q.kind
 same_refusal {r} {q} e = (let same : r ≡ q = cc in ap (λ r. r.kind) same)
 
-missing_there : {at : Standing} {x y : Found} {r : Refusal} → FoundAlike at x y → x ≡ Missing r → (q : Refusal) × (r.kind ≡ q.kind) × (y ≡ Missing q)
+pub missing_there : {at : Standing} {x y : Found} {r : Refusal} → FoundAlike at x y → x ≡ Missing r → (q : Refusal) × (r.kind ≡ q.kind) × (y ≡ Missing q)
 missing_there (both_given text h) p = cc
 missing_there (both_missing {q = q} e) p = (q, sym (same_refusal p) ∙ e, refl)
 
 pub refused_too : {at : Standing} {l m : Units} {r : Refusal} (p q : ℕ) (spot : Spot) → IsCalm at → AreAlike at l m → scan p l spot ≡ Missing r → (t : Refusal) × (r.kind ≡ t.kind) × (scan q m spot ≡ Missing t)
 refused_too p q spot calm h e = missing_there (scan_alike p q calm h spot) e
 
-behind_alike : {at : Standing} {l m : Units} {x y : Found} → FoundAlike at x y → AreAlike at l m → AreAlike at (behind_found l x) (behind_found m y)
+pub behind_alike : {at : Standing} {l m : Units} {x y : Found} → FoundAlike at x y → AreAlike at l m → AreAlike at (behind_found l x) (behind_found m y)
 behind_alike (both_given text k) h = k
 behind_alike (both_missing e) h = h
 

@@ -3,7 +3,7 @@ use Rattle.std.proofs.Common.{◌≡◌, ℕ, IsTrue, Option, Some, refl, ap, Li
 use Rattle.latex2mathml_elements.specs.Element.{Element}
 use Rattle.latex2mathml_elements.specs.Columns.{Columns}
 use Rattle.latex2mathml_tex_grammar.specs.{Atoms.Atom, Atoms.Before, Makes.Core, Makes.Scripts, Rows.Row, Rows.Operand}
-use Rattle.latex2mathml_tex_grammar.specs.Reading.{Outcome, Read, Refused, ReadsRule, rule_gives, rule_refuses, operand_read, operand_refused, core_read, core_refused, core_missing, core_stopped, atoms_read, atoms_refused, words_read, words_refused, units_taken, units_missing, unit_follows, no_unit_follows, digits_taken, delimiter_taken, delimiter_missing, ReadsOperand, group_operand, group_refused, digit_operand, other_operand, other_refused, no_operand, operand_at_end, operand_stopped, ReadsScripts, scripts_end, mark_taken, script_read, script_refused, mark_refused, ReadsAtom, divider_read, divider_refused, on_empty_row, base_read, base_refused, ReadsAtoms, text_ends, never_ended, atoms_stopped, atoms_end, atom_read, atom_refused, rest_read, change_refused, ReadsWord, word_stands, group_of_words, formula_read, formula_refused, words_in_alphabet, no_word, word_missing, word_at_end, word_stopped, ReadsWords, words_end, words_never_ended, words_stopped, word_read, word_refused, words_resized, words_resized_refused, found_taken, found_refused, passed_over, rows_read, rows_to_end, rows_refused, ReadsRows, cell_read, cell_refused, ReadsBehindCell, next_cell, arrow_read, arrow_refused, no_arrow, next_row, table_ends, text_ends_table}
+use Rattle.latex2mathml_tex_grammar.specs.Reading.{Outcome, Read, Refused, ReadsRule, rule_gives, rule_refuses, operand_read, operand_refused, core_read, core_refused, core_missing, core_stopped, atoms_read, atoms_refused, words_read, words_refused, units_taken, units_missing, unit_follows, no_unit_follows, digits_taken, delimiter_taken, delimiter_missing, ReadsOperand, group_operand, group_refused, digit_operand, other_operand, other_refused, no_operand, operand_at_end, operand_stopped, ReadsScripts, scripts_end, mark_taken, script_read, script_refused, mark_refused, ReadsAtom, divider_read, divider_refused, on_empty_row, base_read, base_refused, ReadsAtoms, text_ends, never_ended, atoms_stopped, atoms_end, atom_read, atom_refused, rest_read, change_refused, ReadsWord, word_stands, group_of_words, formula_read, formula_refused, words_in_alphabet, no_word, word_missing, word_at_end, word_stopped, ReadsWords, words_end, words_never_ended, words_stopped, atom_in_words, atom_refused_in_words, word_read, word_refused, words_resized, words_resized_refused, found_taken, found_refused, passed_over, rows_read, rows_to_end, rows_refused, ReadsRows, cell_read, cell_refused, ReadsBehindCell, next_cell, arrow_read, arrow_refused, no_arrow, next_row, table_ends, text_ends_table}
 use Rattle.latex2mathml_tex_grammar.specs.Rules.{Context, Ending, Rule, TableEnd}
 use Rattle.latex2mathml_tex_grammar.specs.{Starts.step_of_mark, Starts.mark_of, Rests.with_resized, Starts.is_close, Symbols.Alphabet, Symbols.TextSize, Words.Words, Words.WordRule, Words.size_after, Words.with_accent_ended, Words.word_rule, Starts.cell_end, Rows.row_element, Tables.Lines, Tables.a_row}
 use Rattle.latex2mathml_tex_grammar.specs.Units.{Piece, Space, Open, Close, Command, Character, Unit, Units}
@@ -387,6 +387,38 @@ mutual
   one_word (word_missing s) (words_in_alphabet t e) = cc
   one_word (word_missing s) (no_word t) = cc
   one_word (word_missing s) (word_missing t) = cc
+  one_word (atom_in_words s d) (atom_in_words t e) = cc (one_rule d e)
+  one_word (atom_in_words s d) (atom_refused_in_words t e) = cc (one_rule d e)
+  one_word (atom_refused_in_words s d) (atom_in_words t e) = cc (one_rule d e)
+  one_word (atom_refused_in_words s d) (atom_refused_in_words t e) = cc (one_rule d e)
+  one_word (atom_in_words s d) (word_stands t) = cc
+  one_word (word_stands s) (atom_in_words t e) = cc
+  one_word (atom_in_words s d) (group_of_words t e) = cc
+  one_word (group_of_words s d) (atom_in_words t e) = cc
+  one_word (atom_in_words s d) (formula_read t e) = cc
+  one_word (formula_read s d) (atom_in_words t e) = cc
+  one_word (atom_in_words s d) (formula_refused t e) = cc
+  one_word (formula_refused s d) (atom_in_words t e) = cc
+  one_word (atom_in_words s d) (words_in_alphabet t e) = cc
+  one_word (words_in_alphabet s d) (atom_in_words t e) = cc
+  one_word (atom_in_words s d) (no_word t) = cc
+  one_word (no_word s) (atom_in_words t e) = cc
+  one_word (atom_in_words s d) (word_missing t) = cc
+  one_word (word_missing s) (atom_in_words t e) = cc
+  one_word (atom_refused_in_words s d) (word_stands t) = cc
+  one_word (word_stands s) (atom_refused_in_words t e) = cc
+  one_word (atom_refused_in_words s d) (group_of_words t e) = cc
+  one_word (group_of_words s d) (atom_refused_in_words t e) = cc
+  one_word (atom_refused_in_words s d) (formula_read t e) = cc
+  one_word (formula_read s d) (atom_refused_in_words t e) = cc
+  one_word (atom_refused_in_words s d) (formula_refused t e) = cc
+  one_word (formula_refused s d) (atom_refused_in_words t e) = cc
+  one_word (atom_refused_in_words s d) (words_in_alphabet t e) = cc
+  one_word (words_in_alphabet s d) (atom_refused_in_words t e) = cc
+  one_word (atom_refused_in_words s d) (no_word t) = cc
+  one_word (no_word s) (atom_refused_in_words t e) = cc
+  one_word (atom_refused_in_words s d) (word_missing t) = cc
+  one_word (word_missing s) (atom_refused_in_words t e) = cc
 
   -- a sequence of words has one outcome
   one_words : {place : ℕ} {c : Context} {ws : Words} {l : Units} {o p : Outcome Words} → ReadsWords place c ws l o → ReadsWords place c ws l p → o ≡ p

@@ -1,13 +1,13 @@
 -- What each piece is in words, and where the unit after it is.
-use Rattle.std.proofs.Common.{◌≡◌, ℕ, Bool, true, false, List, Option, Some, None, refl, ◌==◌, if◌then◌else◌, ◌||◌}
+use Rattle.std.proofs.Common.{◌≡◌, ℕ, Bool, true, false, List, Option, Some, None, ◌⊎◌, inl, inr, refl, subst, sym, ◌==◌, if◌then◌else◌, ◌||◌}
 use Rattle.std.specs.Str.{byte}
 use Rattle.latex2mathml_tex_grammar.specs.{Commands.meaning_of, Delimiters.entry_of_name, TextCommands.text_accents, TextCommands.text_commands}
 use Rattle.latex2mathml_tex_grammar.specs.Meaning.{Meaning, takes_words, Shows, FunctionName, Dots, Spacing, Styled, Words as TakesWordsIn, Fraction, Root, Accent, Brace, Stack, StackedRelation, OperatorName, Negation, Slash, Sized, Left, Middle, Right, Limits, NoLimits, Classed, Changes, ToAlphabet, ToStyle, ToSize, Divides, ToColor, BeginTable, EndTable, LineBreak, Substack, Skip, SkipInBraces, Boxed, Smash, ContinuedFraction, GeneralFraction, Choice, Raise, InColor, Highlight, Rectangle, Arrow}
 use Rattle.latex2mathml_tex_grammar.specs.{Next.is_space_piece, Refusal.Kind, Symbols.Alphabet, Symbols.TextSize}
 use Rattle.latex2mathml_tex_grammar.specs.Spacing.{Standing, BeforeWords, InWords, BetweenDollars, standing_behind, is_in_words}
 use Rattle.latex2mathml_tex_grammar.specs.Units.{Piece, Space, Open, Close, Command, Character}
-use Rattle.latex2mathml_tex_grammar.specs.Words.{Font, Word, Shown, Formula, Accented, Changed, Resized, font_in, size_after, WordRule, IsWord, BeginsGroup, EndsGroup, BeginsFormula, TakesWords, NoWord, word_rule, command_rule, accent_rule, meaning_rule}
-use Rattle.latex2mathml_tex_grammar.proofs.{AlikeRules.WordsStand, AlikeRules.before_words, AlikeRules.within_words, Plain.TakesNone, Plain.text_accent_plain, Plain.text_command_plain}
+use Rattle.latex2mathml_tex_grammar.specs.Words.{Font, Word, Shown, Formula, Accented, Changed, Resized, font_in, size_after, WordRule, IsWord, BeginsGroup, EndsGroup, BeginsFormula, TakesWords, ShowsAtom, NoWord, word_rule, command_rule, accent_rule, meaning_rule}
+use Rattle.latex2mathml_tex_grammar.proofs.{AlikeRules.WordsStand, AlikeRules.before_words, AlikeRules.within_words, Plain.TakesNone, Plain.takes_none, Spaces.IsPlain, Plain.text_accent_plain, Plain.text_command_plain}
 
 -- the piece is all of the words where words are due, or one part of words in braces
 abbrev pub EndsWord : Piece → Type 0
@@ -30,11 +30,16 @@ command_ends : (name : List ℕ) → TakesNone name → EndsWord (Command name)
 command_ends name h before at before_words s = rw h refl
 command_ends name h before at within_words s = rw h refl
 
+-- the command takes a length, and makes a space of it
+abbrev pub TakesLength : List ℕ → Type 0
+TakesLength name = (meaning_of name ≡ Some Skip) ⊎ (meaning_of name ≡ Some SkipInBraces)
+
 -- what a piece is in words
 data InAWord : Piece → WordRule → Type 0 where
   a_word : {piece : Piece} {w : Word} → EndsWord piece → InAWord piece (IsWord w)
   a_formula : {c : ℕ} → (c == byte "$") ≡ true → InAWord (Character c) BeginsFormula
   more_words : {name : List ℕ} {a : Option Alphabet} → takes_words (meaning_of name) ≡ true → InAWord (Command name) (TakesWords a)
+  an_atom : {name : List ℕ} → TakesNone name → TakesLength name → InAWord (Command name) ShowsAtom
   no_word_here : {piece : Piece} {kind : Kind} → InAWord piece (NoWord kind)
   opens : InAWord Open BeginsGroup
   closes : InAWord Close EndsGroup
@@ -72,8 +77,8 @@ by_meaning font name (Some BeginTable) e = no_word_here
 by_meaning font name (Some EndTable) e = no_word_here
 by_meaning font name (Some LineBreak) e = no_word_here
 by_meaning font name (Some Substack) e = no_word_here
-by_meaning font name (Some Skip) e = no_word_here
-by_meaning font name (Some SkipInBraces) e = no_word_here
+by_meaning font name (Some Skip) e = an_atom (rw e refl) (inl e)
+by_meaning font name (Some SkipInBraces) e = an_atom (rw e refl) (inr e)
 by_meaning font name (Some (Boxed box)) e = no_word_here
 by_meaning font name (Some Smash) e = no_word_here
 by_meaning font name (Some ContinuedFraction) e = no_word_here
@@ -112,6 +117,7 @@ word_is : {piece : Piece} {r : WordRule} {w : Word} → InAWord piece r → r �
 word_is (a_word ends) e = ends
 word_is (a_formula ends) e = cc
 word_is (more_words h) e = cc
+word_is (an_atom h k) e = cc
 word_is no_word_here e = cc
 word_is opens e = cc
 word_is closes e = cc
@@ -120,6 +126,7 @@ formula_is : {piece : Piece} {r : WordRule} → InAWord piece r → r ≡ Begins
 formula_is (a_word ends) e before at w = cc
 formula_is (a_formula {c = c} h) e before at w = dollar_begins c h before at w
 formula_is (more_words h) e before at w = cc
+formula_is (an_atom h k) e before at w = cc
 formula_is no_word_here e before at w = cc
 formula_is opens e before at w = cc
 formula_is closes e before at w = cc
@@ -132,6 +139,7 @@ group_is : {piece : Piece} {r : WordRule} → InAWord piece r → r ≡ BeginsGr
 group_is (a_word ends) e before at w = cc
 group_is (a_formula h) e before at w = cc
 group_is (more_words h) e before at w = cc
+group_is (an_atom h k) e before at w = cc
 group_is no_word_here e before at w = cc
 group_is opens e before at w = group_begins before at w
 group_is closes e before at w = cc
@@ -144,6 +152,7 @@ words_are : {piece : Piece} {r : WordRule} {b : Option Alphabet} → InAWord pie
 words_are (a_word ends) e before at w = cc
 words_are (a_formula h) e before at w = cc
 words_are (more_words {name = name} h) e before at w = more_begin name h before at w
+words_are (an_atom h k) e before at w = cc
 words_are no_word_here e before at w = cc
 words_are opens e before at w = cc
 words_are closes e before at w = cc
@@ -173,7 +182,33 @@ size_is BeginsGroup e = cc
 size_is EndsGroup e = cc
 size_is BeginsFormula e = cc
 size_is (TakesWords a) e = cc
+size_is ShowsAtom e = cc
 size_is (NoWord kind) e = cc
 
 pub size_changes : (a : Option Alphabet) (piece : Piece) {size : TextSize} → size_after (word_rule a piece) ≡ Some size → EndsWord piece
 size_changes a piece {size} e = word_ends a piece (Resized size) (size_is (word_rule a piece) e)
+
+-- a command that takes a length in words
+pub record IsLengthCommand (piece : Piece) : Type 0 where
+  pub name : List ℕ
+  pub is : piece ≡ Command name
+  pub none : TakesNone name
+  pub takes : TakesLength name
+
+atom_is : {piece : Piece} {r : WordRule} → InAWord piece r → r ≡ ShowsAtom → IsLengthCommand piece
+atom_is (a_word ends) e = cc
+atom_is (a_formula h) e = cc
+atom_is (more_words h) e = cc
+atom_is (an_atom {name = name} h k) e = record { name = name; is = refl; none = h; takes = k }
+atom_is no_word_here e = cc
+atom_is opens e = cc
+atom_is closes e = cc
+
+pub length_command : (a : Option Alphabet) (piece : Piece) → word_rule a piece ≡ ShowsAtom → IsLengthCommand piece
+length_command a piece e = atom_is (in_a_word a piece) e
+
+pub length_ends : (piece : Piece) → IsLengthCommand piece → (before at : Standing) → WordsStand before at → standing_behind piece before ≡ at
+length_ends piece h before at w = rw h.is (command_ends h.name h.none before at w (λ e. refl))
+
+pub length_plain : (piece : Piece) → IsLengthCommand piece → IsPlain piece
+length_plain piece h = subst IsPlain (sym h.is) (takes_none h.name h.none)

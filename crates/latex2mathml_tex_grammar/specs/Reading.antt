@@ -15,7 +15,7 @@ use Rattle.latex2mathml_tex_grammar.specs.Scanning.{Spot, BeforeRow, Given, Miss
 use Rattle.latex2mathml_tex_grammar.specs.Symbols.{InScript, Alphabet, TextSize}
 use Rattle.latex2mathml_tex_grammar.specs.{Tables.Lines, Tables.begun_cell, Tables.cell_of, Tables.a_row, Tables.with_last}
 use Rattle.latex2mathml_tex_grammar.specs.Units.{Piece, Unit, Units, Next, End, Stop}
-use Rattle.latex2mathml_tex_grammar.specs.Words.{Word, Formula, Words, no_words, with_accent_ended, with_word, IsWord, BeginsGroup, EndsGroup, BeginsFormula, TakesWords, NoWord, alphabet_behind, size_after, word_rule}
+use Rattle.latex2mathml_tex_grammar.specs.Words.{Word, Formula, Words, no_words, with_accent_ended, with_word, IsWord, BeginsGroup, EndsGroup, BeginsFormula, TakesWords, ShowsAtom, NoWord, alphabet_behind, size_after, word_rule}
 
 -- what was read, with the units that are left, or the refusal
 pub data Outcome (A : Type 0) : Type 0 where
@@ -341,6 +341,15 @@ mutual
         → word_rule c.alphabet u.piece ≡ TakesWords a
         → ReadsWord u.place (in_words c a) ws (past_space l) o
         → ReadsWord place c ws (Next u l) o
+    -- an atom that takes a length, as in a formula
+    atom_in_words : {place : ℕ} {c : Context} {ws : Words} {l m : Units} {u : Unit} {x : Core}
+        → word_rule c.alphabet u.piece ≡ ShowsAtom
+        → ReadsRule (rule u.place c u.piece) l (Read x m)
+        → ReadsWord place c ws (Next u l) (Read (with_word ws (Formula x.atom.element)) m)
+    atom_refused_in_words : {place : ℕ} {c : Context} {ws : Words} {l : Units} {u : Unit} {r : Refusal}
+        → word_rule c.alphabet u.piece ≡ ShowsAtom
+        → ReadsRule (rule u.place c u.piece) l (Refused r)
+        → ReadsWord place c ws (Next u l) (Refused r)
     no_word : {place : ℕ} {c : Context} {ws : Words} {l : Units} {u : Unit} {kind : Kind}
         → word_rule c.alphabet u.piece ≡ NoWord kind
         → ReadsWord place c ws (Next u l) (Refused (refusal_at kind u.place))

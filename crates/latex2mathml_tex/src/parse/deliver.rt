@@ -15,7 +15,7 @@ use crate::parse::{Parser, State};
 use latex2mathml_attributes::attributes::{Attributes, Side};
 use latex2mathml_attributes::tag::{Container, Pair};
 use latex2mathml_tex_atoms::arrows::{put_over_and_under_arrow, put_over_arrow};
-use latex2mathml_tex_atoms::atoms::{Context, Core, Kind, Operand, Row, Scripts};
+use latex2mathml_tex_atoms::atoms::{Context, Core, Kind, Operand, Row, Scripts, Words};
 use latex2mathml_tex_atoms::boxes::put_in_box;
 use latex2mathml_tex_atoms::fractions::put_fraction;
 use latex2mathml_tex_atoms::outlines::put_outlined;
@@ -39,6 +39,13 @@ impl<'a> Parser<'a> {
             Frame::Negation(place, _) => {
                 let _ = self.frames.take(self.style);
                 self.negate(place, core, next)
+            }
+            Frame::AtomInWords(count, _, _) => {
+                let _ = self.frames.take(self.style);
+                // all elements of words are among those of the builder, so their number fits in a `usize`
+                let _ = self.builder.len();
+                *next = State::Words(Words::of(count + 1));
+                Ok(())
             }
             Frame::Text | Frame::Words(_, _) | Frame::Resized(_, _, _) => unreachable!(),
             frame => {

@@ -90,6 +90,8 @@ pub(crate) enum Frame {
     Text,
     /// Words up to a brace, in this context.
     Words(usize, Context),
+    /// An atom in words, which follows this many elements of them, in this context. The place is that of its command.
+    AtomInWords(usize, usize, Context),
     /// Words after a change to this size, which follow this many elements of words in this context.
     Resized(usize, TextSize, Context),
 }
@@ -104,6 +106,7 @@ impl Frame {
             | Frame::Last(_, _, context)
             | Frame::First(_, _, context)
             | Frame::Negation(_, context)
+            | Frame::AtomInWords(_, _, context)
             | Frame::Script(_, _, _, _, context) => context,
             Frame::Text | Frame::Words(_, _) | Frame::Resized(_, _, _) => Context::new(
                 Style::InText,

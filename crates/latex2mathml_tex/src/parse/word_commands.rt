@@ -1,5 +1,6 @@
 //! What a command is in words.
 ghost use Rattle.std.specs.Prelude.{◌≡◌, ℕ, List, Option, Some};
+ghost use Rattle.latex2mathml_tex_grammar.specs.Commands;
 ghost use Rattle.latex2mathml_tex_grammar.specs.Symbols;
 ghost use Rattle.latex2mathml_tex_grammar.specs.Units.{Command};
 ghost use Rattle.latex2mathml_tex_grammar.specs.Words.{Font as TextFont, font_in, meaning_rule, word_rule};
@@ -26,6 +27,8 @@ pub(crate) enum WordCommand {
     Words(Option<Alphabet>),
     /// A change up to the end of the group.
     Change(WordChange),
+    /// An atom as in a formula, which a command of this meaning makes.
+    Atom(Meaning),
     /// A command that cannot appear in words.
     Forbidden,
     /// No command.
@@ -42,8 +45,10 @@ pub(crate) enum WordChange {
 impl WordCommand {
     /// Returns what the command with this name is.
     pub(crate) fn of(name: &str) -> WordCommand
-        ensures { (a : Option Symbols.Alphabet)
+        ensures rule { (a : Option Symbols.Alphabet)
             → word_rule a (Command name.now) ≡ rule_of (font_in a) name.now result }
+        ensures atom { (meaning : Meaning) → result ≡ WordCommand.Atom meaning
+            → Commands.meaning_of name.now ≡ Some (meaning_of meaning) }
     {
         if let Some(c) = text_character(name) {
             return WordCommand::Character(c);
@@ -59,8 +64,9 @@ impl WordCommand {
 
     /// Returns what a command of this meaning is, if it is neither a character nor an accent.
     fn of_meaning(meaning: Meaning) -> WordCommand
-        ensures { (font : TextFont) (name : List ℕ)
+        ensures rule { (font : TextFont) (name : List ℕ)
             → meaning_rule font name (Some (meaning_of meaning)) ≡ rule_of font name result }
+        ensures atom { (same : Meaning) → result ≡ WordCommand.Atom same → same ≡ meaning }
     {
         match meaning {
             Meaning::Spacing(_) => WordCommand::Space,
@@ -71,6 +77,7 @@ impl WordCommand {
                 WordChange::ToAlphabet(alphabet),
             ),
             Meaning::Changes(Change::ToSize(size)) => WordCommand::Change(WordChange::ToSize(size)),
+            Meaning::Skip | Meaning::SkipInBraces => WordCommand::Atom(meaning),
             _ => WordCommand::Forbidden,
         }
     }

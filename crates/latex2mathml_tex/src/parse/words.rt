@@ -7,12 +7,12 @@ ghost use Rattle.latex2mathml_tex_grammar.specs.Words.{Formula, Shown, alphabet_
 ghost use Rattle.latex2mathml_tex_grammar.specs.Symbols;
 ghost use Rattle.latex2mathml_tex_grammar.specs.Words as words;
 ghost use Rattle.latex2mathml_tex_grammar.specs.Refusal.{CommandInWords, refusal_at};
-ghost use Rattle.latex2mathml_tex_grammar.specs.{Rows.single, Rules.formula_in_words, Rules.gives, Symbols.InText, Units.Character, Units.Close, Units.Command};
+ghost use Rattle.latex2mathml_tex_grammar.specs.{Rows.single, Rules.formula_in_words, Rules.gives, Rules.meaning_rule, Symbols.InText, Units.Character, Units.Close, Units.Command};
 ghost use Rattle.latex2mathml_tex_units.specs.{Errors.refusal_of, Taking.piece_of};
-ghost use Rattle.latex2mathml_tex_commands.specs.Meanings.{alphabet_of, symbol_of, text_size_of};
+ghost use Rattle.latex2mathml_tex_commands.specs.Meanings.{alphabet_of, meaning_of, symbol_of, text_size_of};
 ghost use Rattle.latex2mathml_tex_atoms.specs.Models.{context_of};
 ghost use Rattle.latex2mathml_tex.specs.WordCommands.{word_of};
-ghost use Rattle.latex2mathml_tex.specs.Steps.{Begins, BeginsWordOf, CanMake, ChangesWords, EndsGroupOf, GoesOnInBraces, GoesOnInSize, HoldsIn, IsChange, Advances, LeadsOn, Ready, WordGiven, core_made, elements_of, words_made};
+ghost use Rattle.latex2mathml_tex.specs.Steps.{Begins, BeginsWordOf, CanMake, ChangesWords, EndsGroupOf, GoesOnInBraces, GoesOnInSize, HoldsIn, IsChange, Advances, LeadsOn, Ready, ShowsAtomOf, WordGiven, core_made, elements_of, words_made};
 
 use crate::parse::endings::Ending;
 use crate::parse::frames::Frame;
@@ -27,7 +27,7 @@ use latex2mathml_tex_atoms::rests::put_resized;
 use latex2mathml_tex_atoms::shapes::{put_row, with_atom};
 use latex2mathml_tex_atoms::words::{end_accent, put_character};
 use latex2mathml_tex_commands::alphabets::in_alphabet;
-use latex2mathml_tex_commands::meaning::{Alphabet, Class, Style, Symbol, TextSize};
+use latex2mathml_tex_commands::meaning::{Alphabet, Class, Meaning, Style, Symbol, TextSize};
 use latex2mathml_tex_units::error::TexErrorKind;
 use latex2mathml_tex_units::unit::{Next, Piece, Unit};
 use std::alloc::AllocError;
@@ -195,6 +195,7 @@ impl<'a> Parser<'a> {
                 *next = State::Words(words);
                 Ok(())
             }
+            WordCommand::Atom(meaning) => self.atom_in_words(words, meaning, place, context, next),
             WordCommand::Forbidden => self.refuse_command(name, place, next),
             WordCommand::Unknown => {
                 let name = String::from_str(self.alloc, name)?;
@@ -202,6 +203,27 @@ impl<'a> Parser<'a> {
                 Ok(())
             }
         }
+    }
+
+    /// Begins an atom after these words, which a command of this meaning makes in this context.
+    fn atom_in_words(
+        &mut self,
+        words: Words,
+        meaning: Meaning,
+        place: usize,
+        context: Context,
+        next: &mut State,
+    ) -> Result<(), AllocError>
+        requires { CanMake words_made words.count self.old }
+        ensures holds { LeadsOn
+            (ShowsAtomOf words (meaning_rule place (context_of context) (meaning_of meaning)))
+            self.old self.new next.new result }
+        ensures step { Advances 13 self.old self.new next.new result }
+    {
+        let words = end_accent(&mut self.builder, words)?;
+        self.frames
+            .push(Frame::AtomInWords(words.count, place, context))?;
+        self.meaning(meaning, place, context, next)
     }
 
     /// Refuses a command that cannot appear in words.
