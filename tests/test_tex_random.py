@@ -53,7 +53,7 @@ NAMES = joined(command("sin log max lim det Pr"), "x")
 CELLS = joined(ROWS, "&", ROWS)
 WORDS = st.deferred(lambda: st.lists(WORD, max_size=4).map("".join))
 WORD = st.one_of(one_of("if a b,"), st.just(" "), joined("$", ROWS, "$"), joined("{", WORDS, "}"), joined(r"\textbf{", WORDS, "}"),
-                 command(r"small tiny Large normalsize bf rm"), one_of(r"\hspace{1em} \kern1em"))
+                 command(r"small tiny Large normalsize bf rm"), one_of(r"\hspace{1em} \kern1em"), one_of("- -- --- ` `` ' ''"))
 
 CONSTRUCTS = [
     joined(one_of(r"\frac \dfrac \tfrac \cfrac \binom \overset \underset \stackrel"), GROUPS, GROUPS),

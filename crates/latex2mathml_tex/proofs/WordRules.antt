@@ -1,5 +1,5 @@
 -- What characters and commands are in words, and what holds of the parser after them.
-use Rattle.std.proofs.Common.{None, ◌≡◌, ◌==◌, ◌+◌, ◌||◌, ◌++◌, ◌∷◌, [], Bool, ℕ, ℤ, true, false, drop, Err, List, Ok, Option, Result, Some, refl, subst, sym, take, ap, arith}
+use Rattle.std.proofs.Common.{◌≡◌, ◌==◌, ◌+◌, ◌||◌, ◌++◌, ◌∷◌, [], Bool, ℕ, true, false, drop, Err, List, Ok, Option, Result, Some, refl, subst, sym, take, ap, arith}
 use Rattle.std.proofs.lemmas.Bool.Decides.{nat_tests}
 use Rattle.std.specs.Prelude.{OnOk, ⊤}
 use Rattle.std.specs.Str.{byte}
@@ -11,20 +11,15 @@ use Rattle.latex2mathml_tex_grammar.specs.Units.{Character, Command, Open, Piece
 use Rattle.latex2mathml_builder.specs.Built.{Built, elements_in}
 use Rattle.latex2mathml_tex_atoms.specs.Wording.{Replaced}
 use Rattle.latex2mathml_tex_grammar.specs.Words as words
-use Rattle.latex2mathml_tex_grammar.specs.Words.{with_accent_ended, BeginsFormula, IsWord, NoWord, Shown, alphabet_after, font_in, meaning_rule, size_after, word_character, word_rule, word_space}
+use Rattle.latex2mathml_tex_grammar.specs.Words.{with_accent_ended, BeginsFormula, IsWord, NoWord, Shown, font_in, word_character, word_rule, word_space}
 use Rattle.latex2mathml_tex_units.specs.Errors.{refusal_of}
 use Rattle.latex2mathml_tex_grammar.specs.Rules.{Context, formula_in_words}
-use Rattle.latex2mathml_tex.specs.{Frames.Start, Levels.Leads, Levels.PartMade, WordCommands.rule_of}
-use Rattle.latex2mathml_tex.specs.declared.parse.word_commands.{WordChange.WordChange, WordCommand.WordCommand}
-use Rattle.latex2mathml_tex.specs.declared.parse.word_commands.WordCommand.TheVariants as word_command
+use Rattle.latex2mathml_tex.specs.{Frames.Start, Levels.Leads, Levels.PartMade}
 use Rattle.latex2mathml_tex_atoms.specs.Models.{begun, context_of, words_with}
 use Rattle.latex2mathml_tex_commands.specs.Meanings
 use Rattle.latex2mathml_tex.specs.Steps.{BeginsWordOf, GoesOnInBraces, HasElements, Holds, Advances, elements_of, left_of, level, level_within}
 use Rattle.latex2mathml_tex_atoms.specs.declared.{atoms.Context.Context as CodeContext, atoms.Row.Row as CodeRow, atoms.Words.Words as CodeWords}
 use Rattle.latex2mathml_tex.specs.declared.{parse.Parser.Parser, parse.State.State, parse.frames.Frames.Frames}
-use Rattle.latex2mathml_tex_commands.specs.declared.meaning.{Alphabet.Alphabet as CodeAlphabet, Meaning.Meaning as CodeMeaning, Symbol.Symbol as CodeSymbol, TextSize.TextSize}
-use Rattle.latex2mathml_tex_commands.specs.declared.meaning.Change.TheVariants as code_change
-use Rattle.latex2mathml_tex_commands.specs.declared.meaning.Meaning.TheVariants as code_meaning
 use Rattle.latex2mathml_tex.specs.declared.parse.State.TheVariants as state
 use Rattle.latex2mathml_tex.specs.declared.parse.endings.Ending.TheVariants as ending
 use Rattle.latex2mathml_tex.specs.declared.parse.frames.Frame.TheVariants as frame
@@ -32,39 +27,6 @@ use Rattle.latex2mathml_tex.proofs.Leading.{formula_due, group_of_words_due}
 use Rattle.latex2mathml_tex.proofs.{Opening.pushed, Rows.refused_step, Wording.no_part}
 
 -- Commands
-
--- most meanings cannot appear in words
-
--- the meaning cannot appear in words
-pub record IsNoWord (m : CodeMeaning) : Type 0 where
-  pub no_sign : (symbol : CodeSymbol) → m ≡ code_meaning.Shows symbol → ⊥
-  pub no_dots : m ≡ code_meaning.Dots → ⊥
-  pub no_space : (width : ℤ) → m ≡ code_meaning.Spacing width → ⊥
-  pub no_words : (b : Option CodeAlphabet) → m ≡ code_meaning.Words b → ⊥
-  pub no_alphabet : (b : CodeAlphabet) → m ≡ code_meaning.Changes (code_change.ToAlphabet b) → ⊥
-  pub no_skip : m ≡ code_meaning.Skip → ⊥
-  pub no_skip_in_braces : m ≡ code_meaning.SkipInBraces → ⊥
-  pub no_size : (size : TextSize) → m ≡ code_meaning.Changes (code_change.ToSize size) → ⊥
-
-pub no_word_meant : (font : words.Font) (name : List ℕ) (m : CodeMeaning) → IsNoWord m → meaning_rule font name (Some (Meanings.meaning_of m)) ≡ NoWord (CommandInWords name)
-no_word_meant font name (code_meaning.Shows symbol) none = absurd (none.no_sign symbol refl)
-no_word_meant font name code_meaning.Dots none = absurd (none.no_dots refl)
-no_word_meant font name (code_meaning.Spacing width) none = absurd (none.no_space width refl)
-no_word_meant font name (code_meaning.Words b) none = absurd (none.no_words b refl)
-no_word_meant font name (code_meaning.Changes (code_change.ToAlphabet b)) none = absurd (none.no_alphabet b refl)
-no_word_meant font name (code_meaning.Changes (code_change.ToSize size)) none = absurd (none.no_size size refl)
-no_word_meant font name code_meaning.Skip none = absurd (none.no_skip refl)
-no_word_meant font name code_meaning.SkipInBraces none = absurd (none.no_skip_in_braces refl)
-no_word_meant font name m none = refl
-
--- most commands change neither the alphabet nor the size
-pub kept_by : (a : Option Alphabet) (font : words.Font) (name : List ℕ) (w : WordCommand) → ((change : WordChange) → w ≡ word_command.Change change → ⊥) → alphabet_after a (rule_of font name w) ≡ a
-kept_by a font name (word_command.Change change) none = absurd (none change refl)
-kept_by a font name w none = refl
-
-pub no_size_by : (font : words.Font) (name : List ℕ) (w : WordCommand) → ((change : WordChange) → w ≡ word_command.Change change → ⊥) → size_after (rule_of font name w) ≡ None
-no_size_by font name (word_command.Change change) none = absurd (none change refl)
-no_size_by font name w none = refl
 
 -- a command that cannot appear in words is refused, if there is memory for its name
 module _ (p q : Parser) (same : q ≡ record p { refusal = q.refusal }) where

@@ -1,5 +1,5 @@
 -- Words: what is put after them, and where what is in them leads.
-use Rattle.std.proofs.Common.{◌≡◌, ℕ, ◌+◌, ◌<◌, ◌≤◌, None, zero, suc, IsTrue, IsFalse, List, [], ◌∷◌, ◌++◌, Option, Some, length, take, drop, reverse, refl, sym, ap, ◌∙◌, arith}
+use Rattle.std.proofs.Common.{◌≡◌, ℕ, ◌+◌, ◌<◌, ◌≤◌, None, zero, suc, IsTrue, IsFalse, List, [], ◌∷◌, ◌++◌, Option, Some, length, take, drop, reverse, refl, sym, ap, ◌∙◌, arith, subst}
 use Rattle.latex2mathml_elements.specs.{Element.Element}
 use Rattle.latex2mathml_builder.specs.Built.{Built, elements_in}
 use Rattle.latex2mathml_tex_grammar.specs.{Makes.Core, Rows.empty_row, Rows.row_element, Rows.single, Rows.with_atom, Symbols.Alphabet, Symbols.InText, Symbols.TextSize}
@@ -9,13 +9,14 @@ use Rattle.latex2mathml_tex_grammar.specs.Rules.{Context, Rule, gives, in_size, 
 use Rattle.latex2mathml_tex_grammar.specs.Next.{past_space}
 use Rattle.latex2mathml_tex_grammar.specs.Units as grammar
 use Rattle.latex2mathml_tex_grammar.specs.Units.{Piece}
-use Rattle.latex2mathml_tex_grammar.specs.Words.{Accented, Resized, ShowsAtom, Word, Words, size_after, Changed, Formula, IsWord, NoWord, TakesWords, alphabet_behind, with_accent_ended, word_rule, words_element}
+use Rattle.latex2mathml_tex_grammar.specs.Ligatures.{joined, ligature_start}
+use Rattle.latex2mathml_tex_grammar.specs.Words.{Accented, Resized, ShowsAtom, Word, Words, size_after, Changed, Formula, IsWord, NoWord, TakesWords, alphabet_behind, shown_character, with_accent_ended, with_word, word_rule, words_element}
 use Rattle.latex2mathml_tex_units.specs.{Errors.refusal_of, Left.units_at}
 use Rattle.latex2mathml_tex.specs.Frames.{Start, Whole, inside}
 use Rattle.latex2mathml_tex.specs.Levels.{Level, PartMade, WordLeads, words}
 use Rattle.latex2mathml_tex_commands.specs.Meanings.{style_of, text_size_of}
 use Rattle.latex2mathml_tex_atoms.specs.{Models.context_of, Models.core_with, Models.row_with, Models.top, Models.words_with, Shapes.IsPut}
-use Rattle.latex2mathml_tex.specs.Steps.{Begins, BeginsIn, ShowsAtomOf, BeginsWordOf, CanMake, ChangesWords, EndsGroupOf, Follows, GoesOnInBraces, GoesOnInSize, IsChange, Holds, WordGiven, core_made, elements_of, left_of, level, to_do, words_made}
+use Rattle.latex2mathml_tex.specs.Steps.{Begins, BeginsIn, ShowsAtomOf, BeginsWordOf, CanMake, ChangesWords, EndsGroupOf, Follows, GoesOnInBraces, GoesOnInSize, IsChange, Holds, JoinsWords, WordGiven, core_made, elements_of, left_of, level, to_do, words_made}
 use Rattle.latex2mathml_tex_units.specs.declared.input.Input.{Input}
 use Rattle.latex2mathml_tex_commands.specs.declared.meaning.TextSize.{TextSize as CodeSize}
 use Rattle.latex2mathml_tex_atoms.specs.declared.{atoms.Context.Context as CodeContext, atoms.Core.Core as CodeCore, atoms.Row.Row as CodeRow, atoms.Words.Words as CodeWords}
@@ -31,7 +32,7 @@ use Rattle.latex2mathml_tex.specs.Innermost.{IsInnermost, none_begun, on_top}
 use Rattle.latex2mathml_tex_commands.specs.declared.meaning.Style.{Style as CodeStyle}
 use Rattle.latex2mathml_tex.specs.declared.parse.frames.Frames.{Frames}
 use Rattle.latex2mathml_tex_grammar.specs.Starts.{is_close}
-use Rattle.latex2mathml_tex.proofs.Leading.{changed_due, given, word_given, word_refused_at, words_ended, words_halted, words_in_alphabet_due, words_unended, word_due, resized_due, atom_in_words_due}
+use Rattle.latex2mathml_tex.proofs.Leading.{changed_due, given, joined_due, word_given, word_refused_at, words_ended, words_halted, words_in_alphabet_due, words_unended, word_due, resized_due, atom_in_words_due}
 use Rattle.latex2mathml_tex_atoms.specs.Wording.{Replaced}
 use Rattle.latex2mathml_tex_atoms.proofs.Wording.{drop_more, take_more}
 use Rattle.latex2mathml_tex.proofs.Marks as marks
@@ -178,10 +179,16 @@ module _ (s : Start) (p : Parser) (ws : CodeWords) (place : ℕ) (c : CodeContex
   pub change_taken : (i : Input) (fr : Frames) (u : grammar.Unit) (w : Word) → fr.stack.items ≡ others → left_of p ≡ grammar.Next u (units_at i) → IsFalse (is_close u.piece) → IsChange (context_of c).alphabet u.piece w → ChangesWords ws place (context_of c) w s (record p { input = i; frames = fr })
   change_taken i fr u w same e other change = record { style = h.style; taken = u; other = other; change = change; leads = rw same (rw e at within_braces) }
 
-  pub word_behind : (u : grammar.Unit) (l : grammar.Units) → left_of p ≡ grammar.Next u l → IsFalse (is_close u.piece) → size_after (word_rule (context_of c).alphabet u.piece) ≡ None → alphabet_behind (context_of c).alphabet u.piece ≡ (context_of c).alphabet → Holds s p (state.Word ws place c)
-  word_behind u l e other no_size kept = record {
+  pub word_behind : (u : grammar.Unit) (l : grammar.Units) → left_of p ≡ grammar.Next u l → IsFalse (is_close u.piece) → size_after (word_rule (context_of c).alphabet u.piece) ≡ None → ligature_start (context_of c).alphabet u.piece ≡ None → alphabet_behind (context_of c).alphabet u.piece ≡ (context_of c).alphabet → Holds s p (state.Word ws place c)
+  word_behind u l e other no_size none kept = record {
     style = h.style;
-    claims = out_of_frame (λ m. WordLeads m place (context_of c) (words_with ws (elements_of p)) (left_of p)) s p.style h.style p.frames.stack.items others (frame.Words place c) (drop ws.count (elements_of p)) inner (rw e (word_due {K = PartMade around} other no_size kept (rw e at within_braces)));
+    claims = out_of_frame (λ m. WordLeads m place (context_of c) (words_with ws (elements_of p)) (left_of p)) s p.style h.style p.frames.stack.items others (frame.Words place c) (drop ws.count (elements_of p)) inner (rw e (word_due {K = PartMade around} other no_size none kept (rw e at within_braces)));
+  }
+
+  pub joined_behind : (i : Input) (u : grammar.Unit) (first : ℕ) → left_of p ≡ grammar.Next u (units_at i) → ligature_start (context_of c).alphabet u.piece ≡ Some first → JoinsWords ws first (context_of c).alphabet s (record p { input = i })
+  joined_behind i u first e start = record {
+    style = h.style;
+    leads = out_of_frame (λ m. PartMade m (Read (with_word (words_with ws (elements_of p)) (shown_character (context_of c).alphabet (joined first (units_at i)).0)) (joined first (units_at i)).1)) s p.style h.style p.frames.stack.items others (frame.Words place c) (drop ws.count (elements_of p)) inner (joined_due {K = PartMade around} start (rw e at within_braces));
   }
 
   pub word_stops : (r : Refusal) → left_of p ≡ grammar.Stop r → Holds s p (state.Word ws place c)
@@ -189,6 +196,14 @@ module _ (s : Start) (p : Parser) (ws : CodeWords) (place : ℕ) (c : CodeContex
     style = h.style;
     claims = out_of_frame (λ m. WordLeads m place (context_of c) (words_with ws (elements_of p)) (left_of p)) s p.style h.style p.frames.stack.items others (frame.Words place c) (drop ws.count (elements_of p)) inner (rw e (halted {K = PartMade around} (rw e at within_braces)));
   }
+
+-- Characters of words that are set as one
+
+pub joined_given : (s : Start) (p : Parser) (i : Input) (ws : CodeWords) (first whole : ℕ) (a : Option Alphabet) → joined first (left_of p) ≡ (whole, units_at i) → JoinsWords ws first a s p → WordGiven ws (shown_character a whole) s (record p { input = i })
+joined_given s p i ws first whole a same g = record {
+  style = g.style;
+  leads = subst (λ (found : ℕ × grammar.Units). PartMade (level ws.count s p) (Read (with_word (words_with ws (elements_of p)) (shown_character a found.0)) found.1)) same g.leads;
+}
 
 -- Changes of words in braces
 

@@ -9,7 +9,7 @@ use Rattle.latex2mathml_tex_grammar.specs.Makes.{Scripts, core, divider}
 use Rattle.latex2mathml_tex_grammar.specs.Meaning.{Change}
 use Rattle.latex2mathml_tex_grammar.specs.Next.{past_space}
 use Rattle.latex2mathml_tex_grammar.specs.Reading.{Read, Refused, Outcome, ReadsRows}
-use Rattle.latex2mathml_tex_grammar.specs.{Refusal.Refusal, Rests.finished, Rows.Row, Rows.lone, Starts.unended}
+use Rattle.latex2mathml_tex_grammar.specs.{Ligatures.joined, Refusal.Refusal, Rests.finished, Rows.Row, Rows.lone, Starts.unended}
 use Rattle.latex2mathml_attributes.specs.Columns.{columns_of}
 use Rattle.latex2mathml_tex_units.specs.Environments.{delimiter_texts}
 use Rattle.latex2mathml_tex.specs.Tables.{RowsLead, after_rows, behind_rows, cell_context, cells_of, columns_in, ended_by, rows_of, style_in, table_end}
@@ -19,7 +19,7 @@ use Rattle.latex2mathml_tex_grammar.specs.Scanning.{Spot, BeforeRow, Given, Miss
 use Rattle.latex2mathml_attributes.specs.declared.columns.Columns.{Columns}
 use Rattle.latex2mathml_tex_commands.specs.declared.meaning.Style.{Style}
 use Rattle.latex2mathml_tex_grammar.specs.Rules.{Context as DefinedContext, Rule, a_number, gives, in_size, rule, styled, takes_delimiter}
-use Rattle.latex2mathml_tex_grammar.specs.{Symbols.Alphabet, Symbols.Class, Symbols.TextSize, Words.IsWord, Words.Word, Words.alphabet_after, Words.alphabet_behind, Words.no_words, Words.with_accent_ended, Words.with_word, Words.word_rule}
+use Rattle.latex2mathml_tex_grammar.specs.{Symbols.Alphabet, Symbols.Class, Symbols.TextSize, Words.IsWord, Words.Word, Words.alphabet_after, Words.alphabet_behind, Words.shown_character, Words.no_words, Words.with_accent_ended, Words.with_word, Words.word_rule}
 use Rattle.latex2mathml_tex_grammar.specs.Starts as starts
 use Rattle.latex2mathml_tex_grammar.specs.Units as grammar
 use Rattle.latex2mathml_tex_grammar.specs.{Formulas.shown}
@@ -320,6 +320,11 @@ pub record ShowsAtomOf (ws : CodeWords) (r : Rule) (s : Start) (p : Parser) : Ty
 pub record WordGiven (ws : CodeWords) (w : Word) (s : Start) (p : Parser) : Type 0 where
   pub style : s.style ≡ style_of p.style
   pub leads : PartMade (level ws.count s p) (Read (with_word (words_with ws (elements_of p)) w) (left_of p))
+
+-- This character was taken in words in braces: what it and those that join it are set as leads on, after these words.
+pub record JoinsWords (ws : CodeWords) (first : ℕ) (a : Option Alphabet) (s : Start) (p : Parser) : Type 0 where
+  pub style : s.style ≡ style_of p.style
+  pub leads : PartMade (level ws.count s p) (Read (with_word (words_with ws (elements_of p)) (shown_character a (joined first (left_of p)).0)) (joined first (left_of p)).1)
 
 -- The brace of these words was taken.
 pub record EndsGroupOf (ws : CodeWords) (s : Start) (p : Parser) : Type 0 where

@@ -20,6 +20,7 @@ mod environments;
 mod fractions;
 pub(crate) mod frames;
 mod leaves;
+mod ligatures;
 mod operands;
 mod outlines;
 mod plain;

@@ -13,9 +13,9 @@ use Rattle.latex2mathml_tex_grammar.specs.Atoms.{Before, Kind}
 use Rattle.latex2mathml_tex_grammar.specs.Makes
 use Rattle.latex2mathml_tex_grammar.specs.Meaning
 use Rattle.latex2mathml_tex_grammar.specs.Rows
-use Rattle.latex2mathml_tex_grammar.specs.Symbols.{Class, Ordinary, Style}
+use Rattle.latex2mathml_tex_grammar.specs.Symbols.{Class, Style}
 use Rattle.latex2mathml_tex_commands.specs.Meanings.{class_of}
-use Rattle.latex2mathml_tex_atoms.specs.Models.{is_relation, is_upright, kind_of, top}
+use Rattle.latex2mathml_tex_atoms.specs.Models.{kind_of, top}
 use Rattle.latex2mathml_tex_atoms.specs.Shapes.{changed_at, mapped_first}
 use Rattle.latex2mathml_tex_atoms.specs.declared.atoms.Kind.{Kind as CodeKind}
 use Rattle.latex2mathml_tex_atoms.specs.declared.atoms.Kind.TheVariants as code_kind
@@ -79,10 +79,6 @@ pub no_lone_sign : (last : Kind) (xs : List Element) → (length xs ≡ 1 → Ro
 no_lone_sign last [] other = refl
 no_lone_sign last (x ∷ []) other = rw (other refl) refl
 no_lone_sign last (x ∷ y ∷ xs) other = refl
-
-pub first_changed_below : (f : Element → Element) (xs : List Element) → drop 1 (changed_at f 0 xs) ≡ drop 1 xs
-first_changed_below f [] = refl
-first_changed_below f (x ∷ xs) = refl
 
 -- What stays as it is: an element that holds no text
 
@@ -178,17 +174,6 @@ pub gap_there : (style : Style) (before : Before) (kind : CodeKind) → (kind �
 gap_there style before code_kind.Blank h = absurd (h refl)
 gap_there style before kind h = refl
 
--- an atom that is no upright letter, no relation behind another, and nothing ordinary behind an upright letter
-pub apart_there : (last kind : CodeKind) → (kind ≡ code_kind.UprightLetters → ⊥) → (kind ≡ code_kind.UprightIdentifier → ⊥) → (kind ≡ code_kind.SignOf code_class.Relation → is_relation last ≡ true → ⊥) → (kind ≡ code_kind.Plain code_class.Ordinary → is_upright last ≡ true → ⊥) → Rows.joining (kind_of last) (kind_of kind) ≡ Rows.Apart
-apart_there last code_kind.UprightLetters word letter two near = absurd (word refl)
-apart_there last code_kind.UprightIdentifier word letter two near = absurd (letter refl)
-apart_there (code_kind.SignOf code_class.Relation) (code_kind.SignOf code_class.Relation) word letter two near = absurd (two refl refl)
-apart_there code_kind.UprightLetters (code_kind.Plain code_class.Ordinary) word letter two near = absurd (near refl refl)
-apart_there code_kind.UprightIdentifier (code_kind.Plain code_class.Ordinary) word letter two near = absurd (near refl refl)
-apart_there (code_kind.Plain code_class.Ordinary) kind word letter two near = refl
-apart_there (code_kind.SignOf code_class.Relation) kind word letter two near = refl
-apart_there last kind word letter two near = refl
-
 -- The first elements changed, one after the other
 
 pub mapped_none : (f : Element → Element) (xs : List Element) → xs ≡ mapped_first f 0 xs
@@ -223,19 +208,6 @@ word_joined zero xs some both = absurd (omega arith)
 word_joined (suc n) (token t a letter ∷ token u b word ∷ xs) some both = refl
 word_joined n xs some both = cc
 
--- the text that is joined keeps its attributes
-pub signs_joined : (n : ℕ) (xs : List Element) (t : Token) (a : Attributes) → 0 < n → are_tokens xs ≡ true → token_at 1 xs ≡ Some (t, a) → take n (given 0 a (joined xs)) ≡ Rows.join (λ b. b) (top xs) (take n (drop 1 xs))
-signs_joined zero xs t a some both found = absurd (omega arith)
-signs_joined (suc n) (token u b sign ∷ token v c signs ∷ xs) t a some both found =
-    let same : ◌≡◌ {A = Token × Attributes} (v, c) (t, a) = cc in
-    ap (λ p. token v p.1 (signs ++ sign) ∷ take n xs) (sym same)
-signs_joined n xs t a some both found = cc
-
--- an element that no text precedes
-pub no_token_before : (xs : List Element) → token_at 1 xs ≡ None → are_tokens xs ≡ false
-no_token_before (token t a text ∷ token u b before ∷ xs) none = cc
-no_token_before xs none = refl
-
 pub not_joined : (xs : List Element) → are_tokens xs ≡ false → joined xs ≡ xs
 not_joined (token t a letter ∷ token u b word ∷ xs) apart = cc
 not_joined xs apart = refl
@@ -260,11 +232,6 @@ begins_row zero (x ∷ xs) enough = refl
 begins_row (suc n) (x ∷ []) enough = absurd (omega arith)
 begins_row (suc n) (x ∷ y ∷ xs) enough = sym (eqb-suc-zero n)
 
--- an atom that an empty space separates from the row
-pub put_separated : (n : ℕ) (xs : List Element) → suc n ≤ length xs → take (suc (suc n)) (take 1 xs ++ (space (pos 0) ∷ drop 1 xs)) ≡ top xs ∷ space (pos 0) ∷ take n (drop 1 xs)
-put_separated n [] enough = absurd (omega arith)
-put_separated n (x ∷ xs) enough = refl
-
 -- an atom that no space separates from the row
 pub put_adapted : (n : ℕ) (style : Style) (before : Before) (kind : Kind) (xs : List Element) → suc n ≤ length xs → Atoms.gap style before kind ≡ pos 0 → take (suc n) (changed_at (Atoms.element_there style (n == 0) before kind) 0 xs) ≡ Rows.put Rows.Apart style before (Atoms.atom kind false (top xs)) (take n (drop 1 xs))
 put_adapted n style before kind [] enough none = absurd (omega arith)
@@ -286,12 +253,6 @@ put_parted n style before kind width (x ∷ xs) ys enough some gap is =
 pub put_as_it_is : (joining : Rows.Joining) (n : ℕ) (style : Style) (before : Before) (kind : Kind) (xs : List Element) → suc n ≤ length xs → joining ≡ Rows.Apart → Atoms.gap style before kind ≡ pos 0 → ((x : Element) → Atoms.element_there style (n == 0) before kind x ≡ x) → take (suc n) xs ≡ Rows.put joining style before (Atoms.atom kind false (top xs)) (take n (drop 1 xs))
 put_as_it_is joining n style before kind [] enough apart none stays = absurd (omega arith)
 put_as_it_is joining n style before kind (x ∷ xs) enough apart none stays = rw (apart, begins_row n (x ∷ xs) enough, none) (ap (λ y. y ∷ take n xs) (sym (stays x)))
-
-pub class_behind : (n : ℕ) (xs : List Element) (kind : Kind) → 0 < n → suc n ≤ length xs → Ordinary ≡ Rows.class_after (take n (drop 1 xs)) kind
-class_behind zero xs kind some enough = absurd (omega arith)
-class_behind (suc n) [] kind some enough = absurd (omega arith)
-class_behind (suc n) (x ∷ []) kind some enough = absurd (omega arith)
-class_behind (suc n) (x ∷ y ∷ xs) kind some enough = refl
 
 pub same_row : (xs ys : List Element) (b c : Before) (v w : Kind) (h i : Bool) (k l : Class) (e f : Option Rows.Restyled) (r u : Option Rows.Upper) → xs ≡ ys → b ≡ c → v ≡ w → h ≡ i → k ≡ l → e ≡ f → r ≡ u → ◌≡◌ {A = Rows.Row} (record { elements = xs; before = b; last = v; high = h; class = k; restyled = e; under = r }) (record { elements = ys; before = c; last = w; high = i; class = l; restyled = f; under = u })
 same_row xs ys b c v w h i k l e f r u p q s t m n o = cc

@@ -10,7 +10,7 @@ use Rattle.latex2mathml_tex_grammar.specs.Scanning.{Spot, Argument, Name, Column
 use Rattle.latex2mathml_tex_grammar.specs.Tables.{Lines}
 use Rattle.latex2mathml_tex_grammar.specs.{Commands.meaning_of, Commands.symbol_of, Delimiters.delimiter_of, Makes.Core, Makes.Outline, Refusal.Refusal, Rows.Row, Rows.Operand, Symbols.Style, Symbols.Symbol, Words.Words}
 use Rattle.latex2mathml_tex_grammar.specs.Meaning.{Meaning, takes_words, Shows, FunctionName, Dots, Spacing, Styled, Words as TakesWordsIn, Fraction, Root, Accent, Brace, Stack, StackedRelation, OperatorName, Negation, Slash, Sized, Left, Middle, Right, Limits, NoLimits, Classed, Changes, BeginTable, EndTable, LineBreak, Substack, Skip, SkipInBraces, Boxed, Smash, ContinuedFraction, GeneralFraction, Choice, Raise, InColor, Highlight, Rectangle, Arrow}
-use Rattle.latex2mathml_tex_grammar.specs.Rules.{Context, Ending, WholeText, InBraces, InBrackets, InDollars, InDelimiters, InLabel, begun, Rule, a_character, a_label, arrow_rule, gives, refuses, reads_operand, reads_core, reads_atoms, reads_words, takes_if, if_follows, takes_digits, takes_delimiter, of_one, of_two, decimal, after_digits, a_number, a_symbol, begins_none, character_rule, struck_atom, command_rule, rule, TableEnd, ByName, OfDiagram, ByBrace, InCell, takes_found, passes_over, reads_rows, ended_table, rows_rule, listed_rule, argument_rule, alignment_rule, bracket_rule, environment_rule, most_columns, ByText, in_brackets, with_value, a_length, a_bar, a_color, a_left_brace, a_right_brace, empty_braces, an_outer_delimiter, has_width, a_line, numbered_style, a_style, an_outlined_fraction}
+use Rattle.latex2mathml_tex_grammar.specs.Rules.{Context, Ending, WholeText, InBraces, InBrackets, InDollars, InDelimiters, InLabel, begun, Rule, a_character, a_label, arrow_rule, gives, refuses, reads_operand, reads_core, reads_atoms, reads_words, takes_if, if_follows, takes_digits, takes_delimiter, of_one, of_two, decimal, a_number, a_symbol, begins_none, character_rule, struck_atom, command_rule, rule, TableEnd, ByName, OfDiagram, ByBrace, InCell, takes_found, passes_over, reads_rows, ended_table, rows_rule, listed_rule, argument_rule, alignment_rule, bracket_rule, environment_rule, most_columns, ByText, in_brackets, with_value, a_length, a_bar, a_color, a_left_brace, a_right_brace, empty_braces, an_outer_delimiter, has_width, a_line, numbered_style, a_style, an_outlined_fraction}
 use Rattle.latex2mathml_tex_grammar.specs.{Colors.color_of, Lengths.width_of}
 use Rattle.latex2mathml_elements.specs.Colors.{Color}
 use Rattle.latex2mathml_tex_grammar.specs.Spacing.{Standing, BeforeWords, InWords, BetweenDollars, standing_behind, behind_unit, AreAlike, same_piece}
@@ -251,9 +251,6 @@ symbol_too c character None = gives_too
 
 decimal_too : {at : Standing} (c : Context) (whole : List ℕ) → AlikeRules at at (decimal c whole) (decimal c whole)
 decimal_too c whole = digits_taken_too (λ more. gives_too)
-
-after_too : {at : Standing} (c : Context) (whole : List ℕ) → AlikeRules at at (after_digits c whole) (after_digits c whole)
-after_too c whole = if_too (a_character_plain (byte ".") refl, (digit_plain, tt)) (λ point. decimal_too c (whole ++ point)) gives_too
 
 number_too : {at : Standing} (c : Context) (digit : ℕ) → AlikeRules at at (a_number c digit) (a_number c digit)
 number_too c digit = digits_taken_too (λ more. if_too (a_character_plain (byte ".") refl, (digit_plain, tt)) (λ point. decimal_too c (digit ∷ (more ++ point))) gives_too)

@@ -16,7 +16,7 @@ use Rattle.latex2mathml_tex_grammar.specs.Rules.{Context, Rule, gives, refuses, 
 use Rattle.latex2mathml_tex_grammar.specs.Starts.{OperandStart, NoStart, GroupStart, DigitStart, operand_start, start_of_digit, Mark, Prime, Below, Above as AboveMark, LimitsAt, step_of, step_of_mark}
 use Rattle.latex2mathml_tex_grammar.specs.Symbols.{InDisplay, InText, InScript, Ordinary, Relation, Alphabet, BoldItalic, Monospace, Style, Symbol}
 use Rattle.latex2mathml_tex_grammar.specs.Units.{Piece, Space, Open, Close, Command, Character}
-use Rattle.latex2mathml_tex_grammar.specs.Words.{Font, Word, font_attributes, font_in, is_in, last_font, letter_in, Shown, Formula, Accented, Changed, Resized, WordRule, IsWord, BeginsFormula, NoWord, Words, word_space, word_character, with_text, accented, with_character, end_accent, with_accent_ended, with_word, words_element, word_rule, character_rule as word_of_character, meaning_rule as word_of_meaning, accent_rule as word_of_accent, command_rule as word_of_command}
+use Rattle.latex2mathml_tex_grammar.specs.Words.{Font, Word, font_attributes, font_in, is_in, last_font, letter_in, Shown, Formula, Accented, Changed, Resized, WordRule, IsWord, BeginsFormula, NoWord, Words, word_space, word_character, with_text, accented, with_character, end_accent, with_accent_ended, with_word, words_element, word_rule, character_rule as word_of_character, meaning_rule as word_of_meaning, accent_rule as word_of_accent, command_rule as word_of_command, shown_character}
 use Rattle.latex2mathml_tex_grammar.proofs.Allowed.{IsAllowedPiece, AreAllowedElements, IsAllowedAccent, IsAllowedElement, IsAllowedCore, IsAllowedOperand, AreAllowedScripts, AreAllowedWords, IsAllowedWord, IsAllowedWordRule, IsAllowedStep, IsAllowedRule, AreGiven}
 use Rattle.latex2mathml_tex_grammar.proofs.AllowedMakes.{letter_allowed, upright_letter_allowed, symbol_allowed, number_allowed, lone_allowed, row_element_allowed, single_allowed, struck_allowed, as_base_allowed, classed_allowed, accent_allowed, brace_allowed, stack_allowed, fraction_allowed, fenced_allowed, in_style_allowed, unfenced_allowed, between_allowed, behind_primes_allowed}
 use Rattle.latex2mathml_elements.specs.Columns.{Alike, Centered, Dense}
@@ -375,12 +375,15 @@ word_character_allowed : (alphabet : Option Alphabet) (c : ℕ) → is_forbidden
 word_character_allowed alphabet c h =
     of_either (λ k. is_forbidden k ≡ false) (c == byte "`") {x = 0x2018} refl (of_either (λ k. is_forbidden k ≡ false) (c == byte "'") {x = 0x2019} {y = letter_in alphabet c} refl (letter_in_allowed alphabet c h))
 
-of_word_character : (P : WordRule → Type 0) (alphabet : Option Alphabet) (c : ℕ) → P BeginsFormula → P (IsWord (word_space (font_in alphabet))) → P (NoWord (CharacterInWords c)) → P (IsWord (Shown (font_in alphabet) (text (word_character alphabet c)))) → P (word_of_character alphabet c)
+pub shown_character_allowed : (alphabet : Option Alphabet) (c : ℕ) → is_forbidden c ≡ false → IsAllowedWord (shown_character alphabet c)
+shown_character_allowed alphabet c h = allowed_char (word_character alphabet c) (word_character_allowed alphabet c h)
+
+pub of_word_character : (P : WordRule → Type 0) (alphabet : Option Alphabet) (c : ℕ) → P BeginsFormula → P (IsWord (word_space (font_in alphabet))) → P (NoWord (CharacterInWords c)) → P (IsWord (Shown (font_in alphabet) (text (word_character alphabet c)))) → P (word_of_character alphabet c)
 of_word_character P alphabet c formula a_space no_word other = of_either P _ formula (of_either P _ a_space (of_either P _ no_word other))
 
 word_of_character_allowed : (alphabet : Option Alphabet) (c : ℕ) → is_forbidden c ≡ false → IsAllowedWordRule (word_of_character alphabet c)
 word_of_character_allowed alphabet c h =
-    of_word_character IsAllowedWordRule alphabet c tt word_space_allowed tt (allowed_char (word_character alphabet c) (word_character_allowed alphabet c h))
+    of_word_character IsAllowedWordRule alphabet c tt word_space_allowed tt (shown_character_allowed alphabet c h)
 
 word_of_meaning_allowed : (font : Font) (name : List ℕ) (meaning : Option Meaning) → Passes is_allowed_meaning meaning → IsAllowedWordRule (word_of_meaning font name meaning)
 word_of_meaning_allowed font name None h = tt

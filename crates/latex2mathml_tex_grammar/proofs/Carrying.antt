@@ -3,9 +3,9 @@ use Rattle.std.proofs.Common.{◌≡◌, ℕ, ℤ, List, true, [], ◌∷◌, re
 use Rattle.latex2mathml_elements.specs.Columns.{Columns}
 use Rattle.latex2mathml_tex_grammar.specs.{Atoms.Atom, Atoms.Before, Delimiters.delimiter_of, Makes.Core, Makes.Scripts, Refusal.MissingDelimiter, Refusal.Refusal, Rows.Row, Rows.Operand, Words.Words}
 use Rattle.latex2mathml_tex_grammar.specs.Next.{digits_next, past_space}
-use Rattle.latex2mathml_tex_grammar.specs.Reading.{Outcome, Read, Refused, ReadsRule, rule_gives, rule_refuses, operand_read, operand_refused, core_read, core_refused, core_missing, core_stopped, atoms_read, atoms_refused, words_read, words_refused, units_taken, units_missing, unit_follows, no_unit_follows, digits_taken, delimiter_taken, delimiter_missing, ReadsOperand, group_operand, group_refused, digit_operand, other_operand, other_refused, no_operand, operand_at_end, operand_stopped, ReadsScripts, scripts_end, mark_taken, script_read, script_refused, mark_refused, ReadsAtom, divider_read, divider_refused, on_empty_row, base_read, base_refused, ReadsAtoms, text_ends, never_ended, atoms_stopped, atoms_end, atom_read, atom_refused, rest_read, change_refused, ReadsWord, word_stands, group_of_words, formula_read, formula_refused, words_in_alphabet, no_word, word_missing, word_at_end, word_stopped, ReadsWords, words_end, words_never_ended, words_stopped, atom_in_words, atom_refused_in_words, word_read, word_refused, words_resized, words_resized_refused, found_taken, found_refused, passed_over, rows_read, rows_refused, ReadsRows, cell_read, cell_refused, ReadsBehindCell, next_cell, arrow_read, arrow_refused, no_arrow, next_row, table_ends, rows_to_end, text_ends_table}
+use Rattle.latex2mathml_tex_grammar.specs.Reading.{Outcome, Read, Refused, ReadsRule, rule_gives, rule_refuses, operand_read, operand_refused, core_read, core_refused, core_missing, core_stopped, atoms_read, atoms_refused, words_read, words_refused, units_taken, units_missing, unit_follows, no_unit_follows, digits_taken, delimiter_taken, delimiter_missing, ReadsOperand, group_operand, group_refused, digit_operand, other_operand, other_refused, no_operand, operand_at_end, operand_stopped, ReadsScripts, scripts_end, mark_taken, script_read, script_refused, mark_refused, ReadsAtom, divider_read, divider_refused, on_empty_row, base_read, base_refused, ReadsAtoms, text_ends, never_ended, atoms_stopped, atoms_end, atom_read, atom_refused, rest_read, change_refused, ReadsWord, word_stands, group_of_words, formula_read, formula_refused, words_in_alphabet, no_word, word_missing, word_at_end, word_stopped, ReadsWords, words_end, words_never_ended, words_stopped, atom_in_words, atom_refused_in_words, word_read, word_refused, ligature_read, words_resized, words_resized_refused, found_taken, found_refused, passed_over, rows_read, rows_refused, ReadsRows, cell_read, cell_refused, ReadsBehindCell, next_cell, arrow_read, arrow_refused, no_arrow, next_row, table_ends, rows_to_end, text_ends_table}
 use Rattle.latex2mathml_tex_grammar.specs.Diagrams.{arrow_of, sign_of_arrow}
-use Rattle.latex2mathml_tex_grammar.specs.Rules.{Context, Ending, begun, Rule, TableEnd, InCell, rule}
+use Rattle.latex2mathml_tex_grammar.specs.Rules.{Context, Ending, begun, Rule, TableEnd, InCell}
 use Rattle.latex2mathml_tex_grammar.specs.Spacing.{Standing, InWords, standing_behind, AreAlike, both_end, same_piece}
 use Rattle.latex2mathml_tex_grammar.specs.Starts.{is_close}
 use Rattle.latex2mathml_tex_grammar.specs.Units.{Piece, Space, Open, Close, Command, Character, Unit, unit, Units, End, Next}
@@ -18,6 +18,9 @@ use Rattle.latex2mathml_elements.specs.{Element.Element, Lines.Line}
 use Rattle.latex2mathml_tex_grammar.specs.{RowLines.is_line_command, RowLines.line_at, RowLines.line_next, RowLines.line_of, RowLines.lined, Scanning.BeforeRow, Rows.row_element, Tables.Lines, Tables.a_row}
 use Rattle.latex2mathml_tex_grammar.proofs.{Scans.found_too, Scans.refused_too as found_refused_too, Scans.past_too, Scans.past_break_too, Scans.past_gap_too, Scans.gap_too}
 use Rattle.latex2mathml_tex_grammar.proofs.{WordPieces.IsLengthCommand, WordPieces.length_command, WordPieces.length_ends, WordPieces.length_plain, WordPieces.size_changes, WordPieces.word_ends, WordPieces.formula_begins, WordPieces.words_begin, WordPieces.words_follow}
+use Rattle.latex2mathml_tex_grammar.specs.Ligatures.{joined}
+use Rattle.latex2mathml_tex_grammar.proofs.Ligatures.{joined_alike, start_stays}
+use Rattle.latex2mathml_tex_grammar.specs.Words.{shown_character, with_word}
 
 -- the same is read, and the units after it are alike, or the refusal is for the same reason
 pub data Carried {A : Type 0} (at : Standing) (reads : Outcome A → Type 0) : Outcome A → Type 0 where
@@ -310,11 +313,14 @@ mutual
   carry_words {at = at} other (words_end {u = u} s) (both_next {m = m} place t h) = also_read m (closed (InWords at) u.piece s h) (words_end s)
   carry_words other words_never_ended both_ended = also_refused _ refl words_never_ended
   carry_words other words_stopped (both_stopped e) = also_refused _ e words_stopped
-  carry_words other (word_read s z d ds) (both_next place t h) =
+  carry_words other (word_read s z j d ds) (both_next place t h) =
       let (n, alike, e) = read_is (carry_word other d within_words in_words (both_next place t h)) in
-      also (carry_words other ds (fronts_of_words alike)) (λ p. word_read s z e)
-  carry_words other (word_refused s z d) (both_next place t h) =
-      let (r, kind, e) = refused_is (carry_word other d within_words in_words (both_next place t h)) in also_refused r kind (word_refused s z e)
+      also (carry_words other ds (fronts_of_words alike)) (λ p. word_read s z j e)
+  carry_words other (word_refused s z j d) (both_next place t h) =
+      let (r, kind, e) = refused_is (carry_word other d within_words in_words (both_next place t h)) in also_refused r kind (word_refused s z j e)
+  carry_words {at = at} other (ligature_read {c = c} {ws = ws} {u = u} {first = first} j d) (both_next {m = m} place t h) =
+      let both = joined_alike first (stands (start_stays at c.alphabet u.piece j) h) in
+      also (carry_words other d (fronts_of_words both.1)) (λ p e. ligature_read j (subst (λ k. ReadsWords other c (with_word ws (shown_character c.alphabet k)) (joined first m).1 p) both.0 e))
   carry_words {at = at} other (words_resized {c = c} {u = u} s d) (both_next place t h) =
       let alike = stands (size_changes c.alphabet u.piece s (InWords at) (InWords at) within_words t) h in
       let (n, left, e) = read_is (carry_words other d (fronts_of_words alike)) in

@@ -9,6 +9,8 @@ use Rattle.latex2mathml_tex_grammar.specs.Diagrams.{arrow_of, before_arrow, fill
 use Rattle.latex2mathml_tex_grammar.specs.Rules.{Context, Ending, InBraces, Rule, rule, arrow_rule, in_size, in_words, TableEnd}
 use Rattle.latex2mathml_tex_grammar.specs.{Meaning.Change, Starts.atom_start, Starts.ChangeStart, Starts.step_next, Starts.step_of_mark, Starts.mark_of, Starts.Step, Starts.GoesOn, Starts.TakesOperand, Starts.Forbidden, Refusal.Kind, Refusal.Refusal, Refusal.refusal_at, Symbols.Alphabet, Symbols.TextSize, Words.Words, Words.WordRule, Words.TakesWords, Words.size_after, Scanning.Found, Scanning.Given, Starts.CellEnd, Next.next_are, Next.past_space, RowGaps.gap_at, RowLines.line_next, RowLines.lined, Scanning.past_break, Scanning.past_gap, Tables.Lines, Tables.cell_of}
 use Rattle.latex2mathml_tex_grammar.specs.Units.{Unit, Units, Next, End}
+use Rattle.latex2mathml_tex_grammar.specs.Ligatures.{joined}
+use Rattle.latex2mathml_tex_grammar.specs.Words.{shown_character, with_word}
 
 -- what holds of the unit that comes next, and of the units after it, holds whichever way it was found
 pub next_is : (P : Unit → Units → Type 0) {w m n : Units} {u v : Unit} → w ≡ Next u m → w ≡ Next v n → P v n → P u m
@@ -186,6 +188,13 @@ pub words_resized_to : {place : ℕ} (c : Context) (r : WordRule) {a b : TextSiz
 words_resized_to {place} c r {a = a} {b = b} {ws = ws} {l = l} {o = o} s t d =
     let same : b ≡ a = cc in
     subst (λ size. ReadsWords place (in_size c size) ws l o) same d
+
+-- and so is what begins a ligature
+pub ligature_moved : {place : ℕ} (c : Context) (ws : Words) (l : Units) {found : Option ℕ} {first other : ℕ} {o : Outcome Words} → found ≡ Some first → found ≡ Some other
+    → ReadsWords place c (with_word ws (shown_character c.alphabet (joined other l).0)) (joined other l).1 o → ReadsWords place c (with_word ws (shown_character c.alphabet (joined first l).0)) (joined first l).1 o
+ligature_moved {place} c ws l {first = first} {other = other} {o = o} j k d =
+    let same : other ≡ first = cc in
+    subst (λ k. ReadsWords place c (with_word ws (shown_character c.alphabet (joined k l).0)) (joined k l).1 o) same d
 
 pub scripts_go_on : (step : Unit → Option Step) {c : Context} {before : Before} {base : Atom} {w m n : Units} {u v : Unit} {a b : Scripts} {o : Outcome Atom} → w ≡ Next u m → w ≡ Next v n → step u ≡ Some (GoesOn a) → step v ≡ Some (GoesOn b) → ReadsScripts c before base b n o → ReadsScripts c before base a m o
 scripts_go_on step {c} {before} {base} {o = o} p q s t e = goes_on step (λ x n. ReadsScripts c before base x n o) p q s t e

@@ -19,6 +19,7 @@ pub mod DefinitionsOnce
 pub mod Expanded
 pub mod Expanding
 pub mod Following
+pub mod Ligatures
 pub mod MacrosUsed
 pub mod OneList
 pub mod Plain

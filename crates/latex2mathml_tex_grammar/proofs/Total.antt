@@ -6,7 +6,7 @@ use Rattle.std.proofs.lemmas.Bool.{cases_Bool}
 use Rattle.std.specs.Bool.{⊤}
 use Rattle.latex2mathml_tex_grammar.specs.{Atoms.Atom, Atoms.Before, Rows.Row, Rows.Operand, Rows.empty_row, Rows.lone, Rows.row_element, Rows.with_atom, Rows.operand_of, Rows.single, Delimiters.delimiter_of, Laws.HasOneOutcome, Makes.Core, Makes.core, Makes.divider, Makes.Scripts, Makes.no_scripts, Meaning.Beside, Meaning.Change, RowGaps.gap_at, RowLines.line_next, RowLines.lined, Tables.Lines, Tables.begun_cell, Tables.cell_of, Tables.a_row, Tables.with_last}
 use Rattle.latex2mathml_tex_grammar.specs.Next.{follows, is_space_piece, past_space, next_are, digits_next, digits_here}
-use Rattle.latex2mathml_tex_grammar.specs.Reading.{Outcome, Read, Refused, ReadsRule, rule_gives, rule_refuses, operand_read, operand_refused, core_read, core_refused, core_missing, core_stopped, atoms_read, atoms_refused, words_read, words_refused, units_taken, units_missing, unit_follows, no_unit_follows, digits_taken, delimiter_taken, delimiter_missing, ReadsOperand, group_operand, group_refused, digit_operand, other_operand, other_refused, no_operand, operand_at_end, operand_stopped, ReadsScripts, scripts_end, mark_taken, script_read, script_refused, mark_refused, ReadsAtom, divider_read, divider_refused, on_empty_row, base_read, base_refused, ReadsAtoms, text_ends, never_ended, atoms_stopped, atoms_end, atom_read, atom_refused, rest_read, change_refused, ReadsWord, word_stands, group_of_words, formula_read, formula_refused, words_in_alphabet, no_word, word_missing, word_at_end, word_stopped, ReadsWords, words_end, words_never_ended, words_stopped, atom_in_words, atom_refused_in_words, word_read, word_refused, words_resized, words_resized_refused, found_taken, found_refused, passed_over, rows_read, rows_refused, ReadsRows, cell_read, cell_refused, ReadsBehindCell, next_cell, arrow_read, arrow_refused, no_arrow, next_row, table_ends, rows_to_end, text_ends_table}
+use Rattle.latex2mathml_tex_grammar.specs.Reading.{Outcome, Read, Refused, ReadsRule, rule_gives, rule_refuses, operand_read, operand_refused, core_read, core_refused, core_missing, core_stopped, atoms_read, atoms_refused, words_read, words_refused, units_taken, units_missing, unit_follows, no_unit_follows, digits_taken, delimiter_taken, delimiter_missing, ReadsOperand, group_operand, group_refused, digit_operand, other_operand, other_refused, no_operand, operand_at_end, operand_stopped, ReadsScripts, scripts_end, mark_taken, script_read, script_refused, mark_refused, ReadsAtom, divider_read, divider_refused, on_empty_row, base_read, base_refused, ReadsAtoms, text_ends, never_ended, atoms_stopped, atoms_end, atom_read, atom_refused, rest_read, change_refused, ReadsWord, word_stands, group_of_words, formula_read, formula_refused, words_in_alphabet, no_word, word_missing, word_at_end, word_stopped, ReadsWords, words_end, words_never_ended, words_stopped, atom_in_words, atom_refused_in_words, word_read, word_refused, ligature_read, words_resized, words_resized_refused, found_taken, found_refused, passed_over, rows_read, rows_refused, ReadsRows, cell_read, cell_refused, ReadsBehindCell, next_cell, arrow_read, arrow_refused, no_arrow, next_row, table_ends, rows_to_end, text_ends_table}
 use Rattle.latex2mathml_tex_grammar.specs.Diagrams.{arrow_of, before_arrow, fills_cell, sign_of_arrow}
 use Rattle.latex2mathml_tex_grammar.specs.Refusal.{Refusal}
 use Rattle.latex2mathml_tex_grammar.specs.Rests.{Rest, GoesOnIn, NoRest, finished, rest_behind_name, rest_below, rest_in, rest_of, with_resized}
@@ -19,14 +19,11 @@ use Rattle.latex2mathml_elements.specs.Columns.{Columns}
 use Rattle.latex2mathml_tex_grammar.specs.Scanning.{Spot, BeforeStar, BeforeLength, BeforeRow, Deed, Passes, Adds, Ends, Leaves, Misses, Refuses, deed, done, may_end, found_at_end, with_character, Found, Given, Missing, scan, behind_found, past, past_break, past_gap}
 use Rattle.latex2mathml_tex_grammar.specs.Symbols.{InScript, TextSize}
 use Rattle.latex2mathml_tex_grammar.specs.Units.{Piece, Space, Open, Close, Command, Character, Unit, Units, Next, End, Stop}
-use Rattle.latex2mathml_tex_grammar.specs.Words.{size_after, Words, no_words, Formula, with_accent_ended, with_word, WordRule, IsWord, BeginsGroup, EndsGroup, BeginsFormula, TakesWords, ShowsAtom, NoWord, alphabet_behind, word_rule}
+use Rattle.latex2mathml_tex_grammar.specs.Words.{size_after, Words, no_words, Formula, with_accent_ended, with_word, WordRule, IsWord, BeginsGroup, EndsGroup, BeginsFormula, TakesWords, ShowsAtom, NoWord, alphabet_behind, word_rule, shown_character}
 use Rattle.latex2mathml_tex_grammar.proofs.{Spaces.next_stays, Unique.one_atoms}
-
--- how many units there are
-abbrev size : Units → ℕ
-size (Next u us) = suc (size us)
-size (End place) = 0
-size (Stop refusal) = 0
+use Rattle.latex2mathml_tex_grammar.specs.Ligatures.{joined, ligature_start}
+use Rattle.latex2mathml_tex_grammar.proofs.Ligatures.{joined_shortens}
+use Rattle.latex2mathml_tex_grammar.specs.Macros.{count as size}
 
 -- there is an outcome, which leaves at most k units
 data Comes (A : Type 0) (reads : Outcome A → Type 0) (k : ℕ) : Type 0 where
@@ -382,13 +379,20 @@ word_total k has place c ws (End at) h = is_refused _ word_at_end
 word_total k has place c ws (Stop r) h = is_refused r word_stopped
 
 -- a part of words that has an outcome, and then the words after it
-word_after : (k : ℕ) → HasOutcomes k → (place : ℕ) (c : Context) (ws : Words) (u : Unit) (l : Units) → size l < k → is_close u.piece ≡ false → size_after (word_rule c.alphabet u.piece) ≡ None → Comes Words (ReadsWord place c ws (Next u l)) (size l) → Comes Words (ReadsWords place c ws (Next u l)) (size (Next u l))
-word_after k has place c ws u l h s z (is_refused r d) = is_refused r (word_refused s z d)
-word_after k has place c ws u l h s z (comes_to vs m fits d) = with_outcome (has.of_words place (in_words c (alphabet_behind c.alphabet u.piece)) vs m (omega arith)) (omega arith) (λ o. word_read s z d)
+word_after : (k : ℕ) → HasOutcomes k → (place : ℕ) (c : Context) (ws : Words) (u : Unit) (l : Units) → size l < k → is_close u.piece ≡ false → size_after (word_rule c.alphabet u.piece) ≡ None → ligature_start c.alphabet u.piece ≡ None → Comes Words (ReadsWord place c ws (Next u l)) (size l) → Comes Words (ReadsWords place c ws (Next u l)) (size (Next u l))
+word_after k has place c ws u l h s z j (is_refused r d) = is_refused r (word_refused s z j d)
+word_after k has place c ws u l h s z j (comes_to vs m fits d) = with_outcome (has.of_words place (in_words c (alphabet_behind c.alphabet u.piece)) vs m (omega arith)) (omega arith) (λ o. word_read s z j d)
+
+-- words after a ligature, if one begins
+after_start : (k : ℕ) → HasOutcomes k → (place : ℕ) (c : Context) (ws : Words) (u : Unit) (l : Units) → size l < k → is_close u.piece ≡ false → size_after (word_rule c.alphabet u.piece) ≡ None → (start : Option ℕ) → ligature_start c.alphabet u.piece ≡ start → Comes Words (ReadsWords place c ws (Next u l)) (size (Next u l))
+after_start k has place c ws u l h s z None j = word_after k has place c ws u l h s z j (begun_word k has place c ws u l h (word_rule c.alphabet u.piece) refl)
+after_start k has place c ws u l h s z (Some first) j =
+    let fewer = joined_shortens first l in
+    with_outcome (has.of_words place c (with_word ws (shown_character c.alphabet (joined first l).0)) (joined first l).1 (omega (arith, fewer, h))) (omega (arith, fewer)) (λ o. ligature_read j)
 
 -- words after a change of size, if there is one
 after_size : (k : ℕ) → HasOutcomes k → (place : ℕ) (c : Context) (ws : Words) (u : Unit) (l : Units) → size l < k → is_close u.piece ≡ false → (changed : Option TextSize) → size_after (word_rule c.alphabet u.piece) ≡ changed → Comes Words (ReadsWords place c ws (Next u l)) (size (Next u l))
-after_size k has place c ws u l h s None z = word_after k has place c ws u l h s z (begun_word k has place c ws u l h (word_rule c.alphabet u.piece) refl)
+after_size k has place c ws u l h s None z = after_start k has place c ws u l h s z (ligature_start c.alphabet u.piece) refl
 after_size k has place c ws u l h s (Some size) z = elim (has.of_words place (in_size c size) no_words l h) [
   | comes_to vs m fits d ↦ comes_to (with_resized size c (with_accent_ended ws).elements vs.elements) m (omega arith) (words_resized z d)
   | is_refused r d ↦ is_refused r (words_resized_refused z d)

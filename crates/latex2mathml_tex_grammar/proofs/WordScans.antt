@@ -1,5 +1,5 @@
 -- What is taken of a length in words is the same among units that are alike. White space counts there, and a brace begins words.
-use Rattle.std.proofs.Common.{◌≡◌, ◌==◌, ◌||◌, ◌&&◌, ℕ, ℤ, Bool, Option, Some, None, true, false, inl, inr, nat_lt, List, [], refl, sym, ap, subst, ◌∙◌, if◌then◌else◌}
+use Rattle.std.proofs.Common.{◌≡◌, ◌==◌, ℕ, ℤ, Bool, Option, Some, None, true, false, inl, inr, nat_lt, List, [], refl, sym, ap, subst, ◌∙◌}
 use Rattle.std.proofs.lemmas.Bool.{cases_Bool}
 use Rattle.std.specs.{Bool.⊤, Char.is_ascii_digit, Str.byte}
 use Rattle.latex2mathml_tex_grammar.specs.Scanning.{Spot, LengthEnd, AtBracket, AtBrace, AtUnit, BeforeStar, BehindStar, BeforeLengthInBraces, InLength, BehindSign, InNumber, InDecimals, BehindLetter, BehindLength, Deed, Given, Missing, Passes, Adds, Ends, Leaves, Misses, Refuses, adds_if, begins_unit_of_length, deed, done, ends_if, is_unit_of_length, may_end, most_decimals, number_deed, past, scan, unit_deed}

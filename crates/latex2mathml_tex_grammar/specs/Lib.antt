@@ -23,6 +23,7 @@ pub mod Fences
 pub mod Formulas
 pub mod Laws
 pub mod Lengths
+pub mod Ligatures
 pub mod Macros
 pub mod Makes
 pub mod Meaning

@@ -5,6 +5,7 @@ use Rattle.latex2mathml_elements.specs.{Columns.Columns, Element.Element}
 use Rattle.latex2mathml_tex_grammar.specs.{Atoms.Atom, Atoms.Before, Delimiters.delimiter_of, Rows.Row, Rows.empty_row, Rows.lone, Rows.row_element, Rows.with_atom, Rows.Operand, Rows.operand_of, Rows.single}
 use Rattle.latex2mathml_tex_grammar.specs.Makes.{Core, core, number, divider, Scripts, no_scripts, scripted}
 use Rattle.latex2mathml_tex_grammar.specs.{Meaning.Beside, Meaning.Change, Next.past_space, Next.next_are, Next.follows, Next.digits_next, Next.refusal_here}
+use Rattle.latex2mathml_tex_grammar.specs.Ligatures.{joined, ligature_start}
 use Rattle.latex2mathml_tex_grammar.specs.Diagrams.{arrow_of, before_arrow, fills_cell, sign_of_arrow}
 use Rattle.latex2mathml_tex_grammar.specs.{RowGaps.gap_at, RowLines.line_next, RowLines.lined}
 use Rattle.latex2mathml_tex_grammar.specs.Refusal.{Kind, MissingArgument, UnclosedBrace, MissingDelimiter, IncompleteArrow, Refusal, refusal_at}
@@ -15,7 +16,7 @@ use Rattle.latex2mathml_tex_grammar.specs.Scanning.{Spot, BeforeRow, Given, Miss
 use Rattle.latex2mathml_tex_grammar.specs.Symbols.{InScript, Alphabet, TextSize}
 use Rattle.latex2mathml_tex_grammar.specs.{Tables.Lines, Tables.begun_cell, Tables.cell_of, Tables.a_row, Tables.with_last}
 use Rattle.latex2mathml_tex_grammar.specs.Units.{Piece, Unit, Units, Next, End, Stop}
-use Rattle.latex2mathml_tex_grammar.specs.Words.{Word, Formula, Words, no_words, with_accent_ended, with_word, IsWord, BeginsGroup, EndsGroup, BeginsFormula, TakesWords, ShowsAtom, NoWord, alphabet_behind, size_after, word_rule}
+use Rattle.latex2mathml_tex_grammar.specs.Words.{Word, Formula, Words, no_words, with_accent_ended, with_word, IsWord, BeginsGroup, EndsGroup, BeginsFormula, TakesWords, ShowsAtom, NoWord, alphabet_behind, shown_character, size_after, word_rule}
 
 -- what was read, with the units that are left, or the refusal
 pub data Outcome (A : Type 0) : Type 0 where
@@ -374,14 +375,21 @@ mutual
     word_read : {place : ℕ} {c : Context} {ws vs : Words} {l m : Units} {u : Unit} {o : Outcome Words}
         → IsFalse (is_close u.piece)
         → size_after (word_rule c.alphabet u.piece) ≡ None
+        → ligature_start c.alphabet u.piece ≡ None
         → ReadsWord place c ws (Next u l) (Read vs m)
         → ReadsWords place (in_words c (alphabet_behind c.alphabet u.piece)) vs m o
         → ReadsWords place c ws (Next u l) o
     word_refused : {place : ℕ} {c : Context} {ws : Words} {l : Units} {u : Unit} {r : Refusal}
         → IsFalse (is_close u.piece)
         → size_after (word_rule c.alphabet u.piece) ≡ None
+        → ligature_start c.alphabet u.piece ≡ None
         → ReadsWord place c ws (Next u l) (Refused r)
         → ReadsWords place c ws (Next u l) (Refused r)
+    -- a character with those that join it, and the words after them
+    ligature_read : {place : ℕ} {c : Context} {ws : Words} {l : Units} {u : Unit} {first : ℕ} {o : Outcome Words}
+        → ligature_start c.alphabet u.piece ≡ Some first
+        → ReadsWords place c (with_word ws (shown_character c.alphabet (joined first l).0)) (joined first l).1 o
+        → ReadsWords place c ws (Next u l) o
     -- a change of size, and the words after it
     words_resized : {place : ℕ} {c : Context} {ws vs : Words} {l m : Units} {u : Unit} {size : TextSize}
         → size_after (word_rule c.alphabet u.piece) ≡ Some size

@@ -64,13 +64,17 @@ formula_alphabet alphabet = None
 abbrev pub word_character : Option Alphabet → ℕ → ℕ
 word_character alphabet c = if c == byte "`" then 0x2018 else if c == byte "'" then 0x2019 else letter_in alphabet c
 
+-- such a character as a part of words
+abbrev pub shown_character : Option Alphabet → ℕ → Word
+shown_character alphabet c = Shown (font_in alphabet) (text (word_character alphabet c))
+
 -- what a character is in words
 abbrev pub character_rule : Option Alphabet → ℕ → WordRule
 character_rule alphabet c =
     if c == byte "$" then BeginsFormula
     else if c == byte "~" then IsWord (word_space (font_in alphabet))
     else if c == byte "^" || c == byte "&" || c == byte "#" then NoWord (CharacterInWords c)
-    else IsWord (Shown (font_in alphabet) (text (word_character alphabet c)))
+    else IsWord (shown_character alphabet c)
 
 -- what a command is in words in this font, by its meaning
 abbrev pub meaning_rule : Font → List ℕ → Option Meaning → WordRule

@@ -1,5 +1,5 @@
 -- Arguments that end before a sign, and those in brackets, one unit after another.
-use Rattle.std.proofs.Common.{◌≡◌, ◌==◌, ℕ, zero, suc, ◌+◌, ◌-◌, ◌<◌, ◌≤◌, Bool, true, false, Some, None, List, [], ◌∷◌, ◌++◌, map, drop, take, get_or, length, refl, sym, ap, ◌∙◌, arith}
+use Rattle.std.proofs.Common.{◌≡◌, ◌==◌, ℕ, zero, suc, ◌+◌, ◌-◌, ◌<◌, ◌≤◌, Bool, true, false, List, [], ◌∷◌, ◌++◌, map, drop, take, get_or, length, refl, sym, ap, ◌∙◌, arith}
 use Rattle.std.proofs.lemmas.Bool.Decides.{nat_tests}
 use Rattle.std.proofs.lemmas.List.{drop_more, length-map, map-append}
 use Rattle.std.specs.Prelude.{if◌then◌else◌}
@@ -7,7 +7,7 @@ use Rattle.latex2mathml_tex_grammar.specs.Arguments.{NoBrace, brace_of, closes_l
 use Rattle.latex2mathml_tex_grammar.specs.{Next.begins_with, Reading.Read, Refusal.Refusal}
 use Rattle.latex2mathml_tex_grammar.specs.Units as units
 use Rattle.latex2mathml_tex_grammar.specs.Units.{Units, Next}
-use Rattle.latex2mathml_tex_units.specs.{Pending.next_piece, Taking.piece_of, Taking.unit_of, declared.unit.Unit.Unit}
+use Rattle.latex2mathml_tex_units.specs.{Taking.piece_of, Taking.unit_of, declared.unit.Unit.Unit}
 use Rattle.latex2mathml_tex_units.specs.declared.unit.Piece.TheVariants as piece
 use Rattle.latex2mathml_tex_units.proofs.Grouping.{no_brace, with_all, with_all-push}
 
@@ -35,17 +35,6 @@ sign_no_brace units.Close p h = cc
 end_no_brace : (sign : units.Piece) (depth : ℕ) (p : units.Piece) → is_end sign depth p ≡ true → brace_of p ≡ NoBrace
 end_no_brace sign zero p h = sign_no_brace sign p h
 end_no_brace sign (suc depth) p h = cc
-
--- the next piece passes a test
-pub next_passes : (test : units.Piece → Bool) (l : Units) (p : units.Piece) → Some p ≡ next_piece l → begins_with test l ≡ test p
-next_passes test (Next u l) p e = (let same : p ≡ u.piece = cc in ap test (sym same))
-next_passes test (units.End place) p e = cc
-next_passes test (units.Stop r) p e = cc
-
-pub none_passes : (test : units.Piece → Bool) (l : Units) → None ≡ next_piece l → begins_with test l ≡ false
-none_passes test (Next u l) e = cc
-none_passes test (units.End place) e = refl
-none_passes test (units.Stop r) e = refl
 
 module _ (sign : units.Piece) (r : Refusal) where
   -- the sign comes next

@@ -1,5 +1,5 @@
 -- The text of the parameters of a definition, one unit after another.
-use Rattle.std.proofs.Common.{◌≡◌, ◌∙◌, ℕ, suc, ◌+◌, ◌<◌, arith, Bool, true, false, List, [], ◌∷◌, ◌++◌, Some, None, map, refl, subst, sym, ap}
+use Rattle.std.proofs.Common.{◌≡◌, ◌∙◌, ℕ, suc, ◌+◌, ◌<◌, arith, Bool, true, false, List, [], ◌∷◌, ◌++◌, Some, None, map, refl, sym, ap}
 use Rattle.std.proofs.lemmas.{Bool.and_parts, List.map-append}
 use Rattle.std.proofs.lemmas.Bool.Decides.{nat_tests}
 use Rattle.std.specs.Prelude.{nat_lt}
@@ -7,7 +7,7 @@ use Rattle.std.specs.Str.{byte}
 use Rattle.latex2mathml_tex_grammar.specs.Arguments.{is_character, with_first}
 use Rattle.latex2mathml_tex_grammar.specs.Definitions.{is_brace, is_number, number_due, parameters_behind}
 use Rattle.latex2mathml_tex_grammar.specs.Macros as macros
-use Rattle.latex2mathml_tex_grammar.specs.{Reading.Outcome, Reading.Read}
+use Rattle.latex2mathml_tex_grammar.specs.{Reading.Outcome}
 use Rattle.latex2mathml_tex_grammar.specs.Units.{Piece, Space, Open, Close, Command, Character, Units, Unit, Next, End, Stop}
 use Rattle.latex2mathml_tex_units.specs.{Bodies.taken_of, Pending.next_piece, Taking.Takes, Taking.piece_of, Taking.unit_of, declared.macros.part.Taken.Taken}
 use Rattle.latex2mathml_tex_units.specs.declared.unit.Next.{Next as CodeNext}
@@ -63,14 +63,6 @@ pub few : (n : ℕ) (p : Piece) → is_number n p ≡ true → n < 9
 few n p e = (let parts = and_parts (nat_lt n 9) (is_character (byte "1" + n) p) e in let less = parts.0 in grind (arith, nat_tests))
 
 -- the text ends with a brace, or with the units
-
-pub at_brace : (place n : ℕ) (l : Units) (p : Piece) → Some p ≡ next_piece l → is_brace p ≡ true → parameters_behind place l false n ≡ Read [] l
-at_brace place n (Next u m) p e h = (let same : p ≡ u.piece = cc in brace_first u m (subst (λ q. is_brace q ≡ true) same h))
-  where
-    brace_first : (u : Unit) (m : Units) → is_brace u.piece ≡ true → parameters_behind place (Next u m) false n ≡ Read [] (Next u m)
-    brace_first u m h = rw (number_apart u.piece h, h) refl
-at_brace place n (End at) p e h = cc
-at_brace place n (Stop r) p e h = cc
 
 pub at_end : (place n : ℕ) (behind : Bool) (l : Units) → None ≡ next_piece l → parameters_behind place l behind n ≡ number_due behind place l
 at_end place n behind (Next u l) e = cc

@@ -2,20 +2,15 @@
 use Rattle.std.proofs.Common.{◌≡◌, ◌∙◌, ℕ, Bool, List, [], ◌∷◌, ◌++◌, None, append-nil, append_assoc, map, refl, sym, ap}
 use Rattle.std.specs.Prelude.{IsTrue}
 use Rattle.std.proofs.lemmas.List.{map-append}
-use Rattle.latex2mathml_tex_grammar.specs.Definitions.{word_named}
 use Rattle.latex2mathml_tex_grammar.specs.Expanding.{expansion}
-use Rattle.latex2mathml_tex_grammar.specs.Expansion.{Stands, found_role, role_of, turn_of, word_role}
-use Rattle.latex2mathml_tex_grammar.specs.{Macros.SameMacros, Macros.Table, Macros.before, UsualMacros.usual_macros}
+use Rattle.latex2mathml_tex_grammar.specs.Expansion.{Stands, role_of, turn_of}
+use Rattle.latex2mathml_tex_grammar.specs.{Macros.Table, Macros.before}
 use Rattle.latex2mathml_tex_grammar.specs.Units as units
 use Rattle.latex2mathml_tex_grammar.specs.Units.{Units}
 use Rattle.latex2mathml_tex_grammar.proofs.Expanding.{expansion_end, expansion_stays}
 use Rattle.latex2mathml_tex_units.specs.{MacroTables.defined_in, MacroTables.or_usual, MacroTables.table_of, Taking.piece_of, Taking.unit_of, declared.macros.scope.Scope.Scope, declared.unit.Unit.Unit}
 use Rattle.latex2mathml_tex_units.specs.Standing.{AreStanding, IsUsual, Moves}
 use Rattle.latex2mathml_tex_units.proofs.Whole.{before-last, moved_all}
-
-pub name_stands : (table : Table) (name : List ℕ) → SameMacros table usual_macros → usual_macros name ≡ None → word_named name ≡ None → role_of table (units.Command name) ≡ Stands (units.Command name)
-name_stands table name same usual word =
-    ap (λ found. found_role found (units.Command name)) (same name ∙ usual) ∙ ap (λ found. word_role found (units.Command name)) word
 
 pub none_moved : (usual : Bool) (old : List Unit) (l : Units) → Moves old old (λ taken. AreStanding usual taken l l)
 none_moved usual old l = ([], sym (append-nil old), λ table uses room holds. refl)

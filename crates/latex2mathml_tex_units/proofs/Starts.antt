@@ -2,8 +2,8 @@
 use Rattle.std.proofs.Common.{◌≡◌, ℕ, ◌+◌, ◌==◌, true, false, List, [], ◌∷◌, ◌++◌, codes, refl, sym, ap, subst, ◌∙◌, arith, append_assoc, length, Some, None}
 use Rattle.std.proofs.lemmas.{Bool.Decides.nat_tests, Str.encode_ascii}
 use Rattle.std.specs.{Char.is_ascii_alphabetic, Str.byte, Str.encode_utf8_all}
-use Rattle.latex2mathml_tex_grammar.specs.Refusal.{LoneBackslash, ForbiddenCharacter, refusal_at}
-use Rattle.latex2mathml_tex_grammar.specs.Units.{Space, Command, IsRun, is_space, is_in_line, is_forbidden, symbol_name, head, Stops, Spells, white_space, comment, last_comment, symbol_command, letter_command, IsRefusedAt, lone_backslash, forbidden, forbidden_name}
+use Rattle.latex2mathml_tex_grammar.specs.Refusal.{ForbiddenCharacter, refusal_at}
+use Rattle.latex2mathml_tex_grammar.specs.Units.{Space, Command, IsRun, is_space, is_in_line, is_forbidden, symbol_name, head, Stops, Spells, white_space, comment, last_comment, symbol_command, letter_command, IsRefusedAt, forbidden, forbidden_name}
 use Rattle.latex2mathml_tex_units.specs.{Runs.IsName, Taking.IsCommentEnd}
 use Rattle.latex2mathml_tex_units.proofs.Letters.{is_one_byte}
 
@@ -12,9 +12,6 @@ place_plus_zero place = omega arith
 
 pub forbidden_here : (c : ℕ) (after : List ℕ) → is_forbidden c ≡ true → (place : ℕ) → IsRefusedAt place (c ∷ after) (refusal_at (ForbiddenCharacter c) (place + 0))
 forbidden_here c after h place = forbidden c after h refl (ap (refusal_at (ForbiddenCharacter c)) (sym (place_plus_zero place)))
-
-pub lone_here : (place : ℕ) (text : List ℕ) → text ≡ [] → IsRefusedAt place (byte "\\" ∷ text) (refusal_at LoneBackslash (place + 0))
-lone_here place text e = lone_backslash (ap (λ k. byte "\\" ∷ k) e) (ap (refusal_at LoneBackslash) (sym (place_plus_zero place)))
 
 pub forbidden_named : (c : ℕ) (text after : List ℕ) → text ≡ c ∷ after → is_forbidden c ≡ true → (place : ℕ) → IsRefusedAt place (byte "\\" ∷ text) (refusal_at (ForbiddenCharacter c) (place + 1))
 forbidden_named c text after e h place = forbidden_name c after h (ap (λ k. byte "\\" ∷ k) e) refl

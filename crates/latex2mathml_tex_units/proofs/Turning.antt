@@ -1,7 +1,7 @@
 -- The turns of an expansion, in the code and in the grammar.
 use Rattle.std.proofs.Common.{◌≡◌, ℕ, suc, ◌+◌, ◌<◌, ◌≤◌, List, Option, Some, None, refl, sym, ap, subst, ◌∙◌, arith}
 use Rattle.std.specs.Prelude.{option_map, Err, ⊤}
-use Rattle.latex2mathml_tex_grammar.specs.Definitions.{behind_definition, definition_of, word_named}
+use Rattle.latex2mathml_tex_grammar.specs.Definitions.{behind_definition, definition_of}
 use Rattle.latex2mathml_tex_grammar.specs.Definitions as definitions
 use Rattle.latex2mathml_tex_grammar.specs.Expanding.{expansion}
 use Rattle.latex2mathml_tex_grammar.specs.Expansion.{Stands, Stays, Turn, Turns, Uses, defined, found_role, macro_role, own_role, role_of, turn, turn_of, used, word_role}
@@ -54,11 +54,6 @@ pub turn_used : (m : Scope) (name : List ℕ) (place uses room : ℕ) (l : Units
     → turn (table_of m) uses room (named name place) l ≡ used (table_of m) uses room (named name place) found l
 turn_used m name place uses room l found e none = ap (λ role. turn_of role (table_of m) uses room (named name place) l) (role_used (table_of m) name found e none)
 
--- or of the piece that has its name
-pub turn_named : (m : Scope) (name : List ℕ) (place uses room : ℕ) (l : Units) (found : Macro) (p : units.Piece) → table_of m name ≡ Some found → found.alias ≡ Some p
-    → turn (table_of m) uses room (named name place) l ≡ turn_of (own_role p) (table_of m) uses room (named name place) l
-turn_named m name place uses room l found p e some = ap (λ role. turn_of role (table_of m) uses room (named name place) l) (role_named (table_of m) name found p e some)
-
 -- or its own
 pub turn_alone : (m : Scope) (name : List ℕ) (place uses room : ℕ) (l : Units) → None ≡ defined_in m name → usual_macros name ≡ None
     → turn (table_of m) uses room (named name place) l ≡ turn_of (own_role (units.Command name)) (table_of m) uses room (named name place) l
@@ -88,15 +83,6 @@ word_turn m n piece written place uses room l k word d is read same = (
       ∙ ap (λ x. defined (table_of m) uses room word x) read,
   λ other. sym (same other),
 )
-
--- a name that neither was defined nor is that of a usual macro or of a word
-pub name_left : (m : Scope) (name : List ℕ) (place uses room : ℕ) (l : Units)
-    → None ≡ defined_in m name
-    → usual_macros name ≡ None
-    → word_named name ≡ None
-    → turn (table_of m) uses room (named name place) l ≡ Stays (units.Command name)
-name_left m name place uses room l none usual word =
-    turn_alone m name place uses room l none usual ∙ ap (λ w. turn_of (word_role w (units.Command name)) (table_of m) uses room (named name place) l) word
 
 -- Taking the next unit
 

@@ -12,6 +12,7 @@ pub mod environments;
 pub mod error;
 pub mod input;
 pub mod lexer;
+pub mod ligatures;
 pub mod macros;
 pub mod passing;
 pub mod position;

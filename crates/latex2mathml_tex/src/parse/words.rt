@@ -16,6 +16,7 @@ ghost use Rattle.latex2mathml_tex.specs.Steps.{Begins, BeginsWordOf, CanMake, Ch
 
 use crate::parse::endings::Ending;
 use crate::parse::frames::Frame;
+use crate::parse::ligatures::ligature_start;
 use crate::parse::symbols::put_symbol;
 use crate::parse::word_commands::{WordChange, WordCommand};
 use crate::parse::{Parser, State};
@@ -275,7 +276,13 @@ impl<'a> Parser<'a> {
                             let _ = self.frames.take(self.style);
                             self.change_words(words, place, context, change, next)
                         }
-                        None => self.word(words, place, context, next),
+                        None => match ligature_start(context.alphabet, piece) {
+                            Some(first) => {
+                                self.input.advance();
+                                self.join(words, first, context.alphabet, next)
+                            }
+                            None => self.word(words, place, context, next),
+                        },
                     },
                 },
                 Next::End(_) => {
@@ -340,7 +347,7 @@ impl<'a> Parser<'a> {
     }
 
     /// Appends a character to words, in the font of this alphabet.
-    fn show(
+    pub(crate) fn show(
         &mut self,
         words: Words,
         alphabet: Option<Alphabet>,
@@ -435,7 +442,7 @@ fn is_no_word(c: char) -> bool
 }
 
 /// Returns a character of words in an alphabet, if there is one. Quotation marks are as in print.
-fn word_character(alphabet: Option<Alphabet>, c: char) -> char
+pub(crate) fn word_character(alphabet: Option<Alphabet>, c: char) -> char
     ensures { result ≡ words.word_character (option_map alphabet_of alphabet) c }
 {
     match c {

@@ -1,4 +1,4 @@
-use Rattle.std.proofs.Common.{◌≡◌, ◌∙◌, ◌+◌, Some, ap, arith, refl, suc}
+use Rattle.std.proofs.Common.{◌≡◌, ◌∙◌, ◌+◌, Some, ap, arith, refl, suc, sym}
 use Rattle.latex2mathml_tex_grammar.specs.Refusal.{UnclosedBrace, refusal_at}
 use Rattle.latex2mathml_tex_grammar.specs.Starts.{is_close}
 use Rattle.latex2mathml_tex_grammar.specs.Units.{End, Next, Stop}
@@ -11,7 +11,7 @@ use Rattle.latex2mathml_tex.specs.declared.parse.frames.Frame.TheVariants as fra
 use Rattle.latex2mathml_tex.proofs.Rows.{step_within, weighed}
 use Rattle.latex2mathml_tex.proofs.WordStarts.{other_piece, taken_innermost}
 use Rattle.latex2mathml_tex.proofs.Taken.{resized_taken, taken_can, taken_step, text_taken}
-use Rattle.latex2mathml_tex.proofs.Wording.{braces_closed, braces_unended, change_taken, word_behind, word_stops}
+use Rattle.latex2mathml_tex.proofs.Wording.{braces_closed, braces_unended, change_taken, joined_behind, word_behind, word_stops}
 use Rattle.latex2mathml_tex.proofs.parse.Parser.deliver_words.Goals as goal
 
 pub end_accent-requires : goal.end_accent-requires
@@ -116,16 +116,30 @@ returns-in_ok-words-in-Resized c =
       };
     }
 
-pub returns-in-None : goal.returns-in-None
-returns-in-None c =
+pub returns-in-Some-ligature_start : goal.returns-in-Some-ligature_start
+returns-in-Some-ligature_start c =
+    let p = c.args.self.now in
+    let i = c.advance-in-Some-ligature_start.new.self in
+    let u = c.in-Unit.unit in
+    let first = c.in-Some-ligature_start.first in
+    let stands : left_of p ≡ Next (unit_of u) (units_at i) = passed c.peek.result p.input i c.peek.ensures c.advance-in-Some-ligature_start.ensures.left ∙ ap (λ n. put_back n (units_at i)) c.in-Unit.is in
+    let left : unit_count (left_of p) ≡ suc (unit_count (units_at i)) = ap unit_count stands in
+    record {
+      holds = λ s h. c.join.ensures.holds s (joined_behind s p c.args.words c.in-Words.place c.in-Words.context c.in-Words.ensures.0 c.in-Words.ensures.1 h i (unit_of u) first stands (sym c.ligature_start.ensures ∙ c.in-Some-ligature_start.is));
+      step = step_within p (record p { input = i }) c.join.new.self c.join.new.next c.join.result 13 2 (omega (arith, left)) c.join.ensures.step;
+    }
+
+pub returns-in-None-ligature_start : goal.returns-in-None-ligature_start
+returns-in-None-ligature_start c =
     let p = c.args.self.now in
     let u = c.in-Unit.unit in
     let others = units_behind p.input in
     let stands : left_of p ≡ Next (unit_of u) others = c.peek.ensures ∙ ap (λ n. put_back n others) c.in-Unit.is in
     let other = other_piece u.piece c.in_default-piece.not-Close in
     let a = (context_of c.in-Words.context).alphabet in
+    let none = sym c.ligature_start.ensures ∙ c.in-None-ligature_start.is in
     record {
-      holds = λ s h. c.word.ensures.holds s (word_behind s p c.args.words c.in-Words.place c.in-Words.context c.in-Words.ensures.0 c.in-Words.ensures.1 h (unit_of u) others stands other (c.in-None.ensures.size refl a) (c.in-None.ensures.alphabet refl a));
+      holds = λ s h. c.word.ensures.holds s (word_behind s p c.args.words c.in-Words.place c.in-Words.context c.in-Words.ensures.0 c.in-Words.ensures.1 h (unit_of u) others stands other (c.in-None.ensures.size refl a) none (c.in-None.ensures.alphabet refl a));
       step = step_within p p c.word.new.self c.word.new.next c.word.result 1 2 (omega arith) c.word.ensures.step;
     }
 
