@@ -29,7 +29,7 @@ def asked_for(text):
     """What each table, length, color and definition may request: the names of a table, the text of a length, the name of a
     color, which grows once if it has a model, the macro and the parts of a definition, and the units and the parts of a
     default. Delimiters are parts of two bodies. Parameters of `\\def` are a list."""
-    values = text.count("\\\\[") + text.count("{1em}") + text.count("{red}") + 2 * text.count("[rgb]")
+    values = text.count("\\\\[") + text.count("{1em}") + text.count("\\kern") + text.count("{red}") + 2 * text.count("[rgb]")
     definitions = 4 * (text.count("\\def") + text.count("\\newcommand")) + 12 * text.count("\\DeclarePairedDelimiter")
     definitions += 2 * text.count("\\let") + text.count("\\def\\a#")
     return 2 * text.count("\\begin") + values + definitions + 2 * text.count("][")
