@@ -54,6 +54,8 @@ space_of space.Thick = attributes.Thick
 space_of space.NoSpaceBefore = attributes.NoSpaceBefore
 space_of space.ThinAfter = attributes.ThinAfter
 space_of space.ThickAfter = attributes.ThickAfter
+space_of space.NoSpaceAfter = attributes.NoSpaceAfter
+space_of space.ThickBefore = attributes.ThickBefore
 
 abbrev pub stretch_of : Stretch → attributes.Stretch
 stretch_of stretch.Stretching = attributes.Stretching

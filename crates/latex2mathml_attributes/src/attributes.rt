@@ -45,6 +45,10 @@ pub enum Space {
     ThinAfter,
     /// No space before it, and a thick space after it.
     ThickAfter,
+    /// No space after it. The browser decides what precedes it.
+    NoSpaceAfter,
+    /// A thick space before it, and no space after it.
+    ThickBefore,
 }
 
 /// The height of a delimiter.
@@ -361,6 +365,8 @@ fn space_text(space: Option<Space>) -> &'static str
         Some(Space::NoSpaceBefore) => " lspace=\"0\"",
         Some(Space::ThinAfter) => " lspace=\"0\" rspace=\"0.167em\"",
         Some(Space::ThickAfter) => " lspace=\"0\" rspace=\"0.278em\"",
+        Some(Space::NoSpaceAfter) => " rspace=\"0\"",
+        Some(Space::ThickBefore) => " lspace=\"0.278em\" rspace=\"0\"",
     }
 }
 

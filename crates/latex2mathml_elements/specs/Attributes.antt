@@ -33,6 +33,10 @@ pub data Space : Type 0 where
   ThinAfter : Space
   -- no space before it, and a thick space after it
   ThickAfter : Space
+  -- no space after it; the browser decides what precedes it
+  NoSpaceAfter : Space
+  -- a thick space before it, and no space after it
+  ThickBefore : Space
 
 -- the height of a delimiter
 pub data Size : Type 0 where

@@ -75,10 +75,18 @@ pub lone_sign : (last : Kind) (xs : List Element) → Rows.is_spaced last ≡ tr
 lone_sign last [] spaced = refl
 lone_sign last (x ∷ xs) spaced = rw spaced refl
 
-pub no_lone_sign : (last : Kind) (xs : List Element) → (length xs ≡ 1 → Rows.is_spaced last ≡ false) → xs ≡ Rows.lone last xs
-no_lone_sign last [] other = refl
-no_lone_sign last (x ∷ []) other = rw (other refl) refl
-no_lone_sign last (x ∷ y ∷ xs) other = refl
+pub no_lone_sign : (last : Kind) (xs : List Element) → (length xs ≡ 1 → Rows.is_spaced last ≡ false) → (1 < length xs → Rows.leaves_space last ≡ false) → xs ≡ Rows.lone last xs
+no_lone_sign last [] other still = refl
+no_lone_sign last (x ∷ []) other still = rw (other refl) refl
+no_lone_sign last (x ∷ y ∷ xs) other still = rw (still (omega arith)) refl
+
+-- a sign that ends a row of several elements
+pub last_sign : (last : Kind) (n : ℕ) (xs : List Element) → Rows.leaves_space last ≡ true → 1 < n → n ≤ length xs → take n (changed_at Atoms.without_space_after 0 xs) ≡ Rows.lone last (take n xs)
+last_sign last zero xs leaves several enough = absurd (omega (arith, several))
+last_sign last (suc zero) xs leaves several enough = absurd (omega (arith, several))
+last_sign last (suc (suc n)) [] leaves several enough = absurd (omega (arith, enough))
+last_sign last (suc (suc n)) (x ∷ []) leaves several enough = absurd (omega (arith, enough))
+last_sign last (suc (suc n)) (x ∷ y ∷ xs) leaves several enough = rw leaves refl
 
 -- What stays as it is: an element that holds no text
 
@@ -90,6 +98,10 @@ pub no_infix : (first : Bool) (x : Element) → token_of_element x ≡ None → 
 no_infix true (token t a text) h = cc
 no_infix true x h = refl
 no_infix false x h = refl
+
+pub no_space_after : (x : Element) → token_of_element x ≡ None → Atoms.without_space_after x ≡ x
+no_space_after (token t a text) h = cc
+no_space_after x h = refl
 
 pub no_space : (x : Element) → token_of_element x ≡ None → Atoms.without_space x ≡ x
 no_space (token t a text) h = cc

@@ -147,6 +147,13 @@ impl Kind {
         )
     }
 
+    /// Whether browsers leave space after the element of the atom where nothing follows it: whether it is a relation or a comma.
+    pub(crate) fn leaves_space(self) -> bool
+        ensures { result ≡ Rows.leaves_space (kind_of self) }
+    {
+        matches!(self, Kind::SignOf(Class::Relation | Class::Punctuation))
+    }
+
     /// Whether the place of the atom's limits can be specified: whether the atom is an operator.
     pub fn takes_limits(self) -> bool
         ensures { result ≡ Makes.takes_limits (kind_of self) }

@@ -14,7 +14,7 @@ ghost use Rattle.latex2mathml_tex_atoms.specs.Shapes.{ChangesAt, ReplacesTop, ma
 
 use crate::atoms::{Before, Core, Joining, Kind, Row, class_after};
 use crate::operands::before_atom;
-use crate::signs::{adapt, remove_space};
+use crate::signs::{adapt, remove_space, remove_space_after};
 use latex2mathml_attributes::attributes::{Attributes, BoxStyle, Form, Side, Space, Stretch};
 use latex2mathml_attributes::tag::{Container, Pair, Token};
 use latex2mathml_builder::builder::Builder;
@@ -34,7 +34,8 @@ pub fn put_row(builder: &mut Builder, count: usize) -> Result<(), AllocError>
     builder.container(Container::Mrow, Attributes::plain(), count)
 }
 
-/// Removes the space around a sign that is all of a row in braces, a cell or a formula. The last atom of the row is of this kind.
+/// Removes the space around a sign that is all of a row in braces, a cell or a formula, and the space after a relation or a comma at
+/// its end. The last atom of the row is of this kind.
 pub fn isolate(builder: &mut Builder, count: usize, last: Kind)
     requires { count ≤ length (elements_in builder.old) }
     ensures row { take count (elements_in builder.new)
@@ -44,6 +45,8 @@ pub fn isolate(builder: &mut Builder, count: usize, last: Kind)
 {
     if count == 1 && last.is_spaced() {
         remove_space(builder, 0);
+    } else if count > 1 && last.leaves_space() {
+        remove_space_after(builder, 0);
     }
 }
 

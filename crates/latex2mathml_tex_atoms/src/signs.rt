@@ -185,6 +185,33 @@ fn only_after(space: Option<Space>) -> Option<Space>
     }
 }
 
+/// Removes the space after a sign.
+pub(crate) fn remove_space_after(builder: &mut Builder, depth: usize)
+    ensures { ChangesAt Atoms.without_space_after depth builder.old builder.new }
+{
+    if let Some((_, attributes)) = builder.token_at(depth) {
+        builder.give(
+            depth,
+            Attributes {
+                space: only_before(attributes.space),
+                ..attributes
+            },
+        );
+    }
+}
+
+/// Returns the space of a sign that has none after it.
+fn only_before(space: Option<Space>) -> Option<Space>
+    ensures { option_map space_of result ≡ Atoms.only_before (option_map space_of space) }
+{
+    match space {
+        None => Some(Space::NoSpaceAfter),
+        Some(Space::Thick) => Some(Space::ThickBefore),
+        Some(Space::NoSpaceBefore | Space::ThinAfter | Space::ThickAfter) => Some(Space::NoSpace),
+        space => space,
+    }
+}
+
 fn make_prefix(builder: &mut Builder, depth: usize)
     ensures { ChangesAt Atoms.as_prefix depth builder.old builder.new }
 {

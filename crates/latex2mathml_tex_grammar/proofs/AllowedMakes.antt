@@ -7,11 +7,11 @@ use Rattle.latex2mathml_elements.specs.Characters.{is_forbidden, IsAllowed, HasA
 use Rattle.latex2mathml_elements.specs.Element.{Mi, Mn, Mo, Mtext, Element, token, space, rectangle, container, pair, triple, table, children}
 use Rattle.latex2mathml_elements.proofs.{Characters.allowed_both, Characters.allowed_char, Characters.allowed_plain, Characters.plain_is_allowed, Plain.IsPlain, Plain.is_plain}
 use Rattle.latex2mathml_tex_grammar.specs.Alphabets.{in_alphabet}
-use Rattle.latex2mathml_tex_grammar.specs.Atoms.{Atom, Kind, SignOf, PlusOrMinus, Plain, UprightLetters, UprightIdentifier, Unspaced, Blank, Divider, Before, begins_operand, is_ordinary, as_prefix, as_infix, without_space, without_space_before, led, leads_operator, leads_relation, tight, element_there, gap, lone_sign, element_as}
+use Rattle.latex2mathml_tex_grammar.specs.Atoms.{without_space_after, Atom, Kind, SignOf, PlusOrMinus, Plain, UprightLetters, UprightIdentifier, Unspaced, Blank, Divider, Before, begins_operand, is_ordinary, as_prefix, as_infix, without_space, without_space_before, led, leads_operator, leads_relation, tight, element_there, gap, lone_sign, element_as}
 use Rattle.latex2mathml_tex_grammar.specs.Fences.{Height, fenced, height_if}
 use Rattle.latex2mathml_tex_grammar.specs.Makes.{text, letter, upright_letter, number, symbol, struck, classed, on_side, accent, brace, stack, in_style, unfenced, quotient, fraction_element, fraction, lowered_divider, lowered, between_delimiters, spaced_as, Scripts, primes_text, prime_mark, behind_primes, superscript, are_stacked, fixed_base, with_scripts, before_base, base_there, scripted_atom, scripted}
 use Rattle.latex2mathml_tex_grammar.specs.Meaning.{FractionRule, Bar, NoBar, Braced, Bracketed, Bare, LimitPlace, Beside, ByStyle, Movable, Stacked}
-use Rattle.latex2mathml_tex_grammar.specs.Rows.{Row, Operand, without_last_space, row_before, Joining, ToWord, ToRelations, Separated, Apart, as_base, is_spaced, isolated, lone, is_empty, join, parted, put, row_element, single, with_atom, empty_row}
+use Rattle.latex2mathml_tex_grammar.specs.Rows.{Row, Operand, ended, leaves_space, without_last_space, row_before, Joining, ToWord, ToRelations, Separated, Apart, as_base, is_spaced, isolated, lone, is_empty, join, parted, put, row_element, single, with_atom, empty_row}
 use Rattle.latex2mathml_tex_grammar.specs.Symbols.{Class, Ordinary, Operator, Binary, Relation, Opening, Closing, Punctuation, Inner, Style, InDisplay, InText, InScript, Alphabet, Upright, Italic, Bold, BoldItalic, DoubleStruck, Fraktur, Calligraphic, SansSerif, Monospace, Symbol, Letter, UprightLetter, Sign, BigOperator, Integral}
 use Rattle.latex2mathml_tex_grammar.proofs.Allowed.{AreAllowedElements, IsAllowedElement, IsAllowedCore, IsAllowedAtom, IsAllowedOperand, IsAllowedRow, AreAllowedScripts}
 use Rattle.latex2mathml_tex_grammar.proofs.AllowedTables.{in_alphabet_allowed, is_allowed_symbol, not_forbidden}
@@ -104,6 +104,15 @@ without_space_allowed (pair p a x y) h = h
 without_space_allowed (triple t a x y z) h = h
 without_space_allowed (table a rows) h = h
 
+without_space_after_allowed : (x : Element) → HasAllowedTexts x → HasAllowedTexts (without_space_after x)
+without_space_after_allowed (token t a text) h = h
+without_space_after_allowed (space width) h = h
+without_space_after_allowed (rectangle e) h = h
+without_space_after_allowed (container c a xs) h = h
+without_space_after_allowed (pair p a x y) h = h
+without_space_after_allowed (triple t a x y z) h = h
+without_space_after_allowed (table a rows) h = h
+
 tight_allowed : (style : Style) (x : Element) → HasAllowedTexts x → HasAllowedTexts (tight style x)
 tight_allowed InDisplay x h = h
 tight_allowed InText x h = h
@@ -189,10 +198,14 @@ isolated_allowed : (spaced : Bool) (x : Element) → HasAllowedTexts x → HasAl
 isolated_allowed true x h = without_space_allowed x h
 isolated_allowed false x h = h
 
+ended_allowed : (is_last : Bool) (x : Element) → HasAllowedTexts x → HasAllowedTexts (ended is_last x)
+ended_allowed true x h = without_space_after_allowed x h
+ended_allowed false x h = h
+
 pub lone_allowed : (last : Kind) (xs : List Element) → AreAllowedElements xs → AreAllowedElements (lone last xs)
 lone_allowed last [] h = tt
 lone_allowed last (x ∷ []) h = (isolated_allowed (is_spaced last) x h.0, tt)
-lone_allowed last (x ∷ y ∷ xs) h = h
+lone_allowed last (x ∷ y ∷ xs) h = (ended_allowed (leaves_space last) x h.0, h.1)
 
 -- Strokes, classes, marks
 

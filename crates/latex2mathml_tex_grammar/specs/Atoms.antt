@@ -1,6 +1,6 @@
 -- Atoms, and what each is to those next to it: the space between them, prefix signs, words of upright letters.
 use Rattle.std.specs.Prelude.{ℕ, ℤ, pos, ◌+◌, ◌-ℤ◌, Bool, true, false, Option, Some, None, if◌then◌else◌}
-use Rattle.latex2mathml_elements.specs.{Attributes.Form, Attributes.Prefix, Attributes.Infix, Attributes.Space, Attributes.NoSpace, Attributes.Thick, Attributes.NoSpaceBefore, Attributes.ThickAfter, Element.Element, Element.Mo, Element.token}
+use Rattle.latex2mathml_elements.specs.{Attributes.Form, Attributes.Prefix, Attributes.Infix, Attributes.Space, Attributes.NoSpace, Attributes.Thick, Attributes.NoSpaceBefore, Attributes.ThinAfter, Attributes.ThickAfter, Attributes.NoSpaceAfter, Attributes.ThickBefore, Element.Element, Element.Mo, Element.token}
 use Rattle.latex2mathml_tex_grammar.specs.SpaceTable.{space_between}
 use Rattle.latex2mathml_tex_grammar.specs.Symbols.{Class, Ordinary, Operator, Binary, Relation, Opening, Closing, Punctuation, Inner, Style, InScript}
 
@@ -193,6 +193,20 @@ only_after (Some space) = Some space
 abbrev pub without_space_before : Element → Element
 without_space_before (token t a text) = token t (record a { space = only_after a.space }) text
 without_space_before x = x
+
+-- the space of a sign that has none after it
+abbrev pub only_before : Option Space → Option Space
+only_before None = Some NoSpaceAfter
+only_before (Some Thick) = Some ThickBefore
+only_before (Some NoSpaceBefore) = Some NoSpace
+only_before (Some ThinAfter) = Some NoSpace
+only_before (Some ThickAfter) = Some NoSpace
+only_before (Some space) = Some space
+
+-- a sign without the space after it
+abbrev pub without_space_after : Element → Element
+without_space_after (token t a text) = token t (record a { space = only_before a.space }) text
+without_space_after x = x
 
 -- a sign without the space before it, if so
 abbrev pub led : Bool → Element → Element

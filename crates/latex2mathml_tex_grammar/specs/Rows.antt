@@ -1,7 +1,7 @@
 -- Rows: the elements of atoms that are next to each other. Here the last element comes first.
 use Rattle.std.specs.Prelude.{ℕ, zero, ℤ, pos, Bool, true, false, ◌||◌, ◌&&◌, List, [], ◌∷◌, ◌++◌, reverse, Option, None}
 use Rattle.latex2mathml_elements.specs.{Attributes.Attributes, Attributes.plain, Colors.Color, Element.Element, Element.Mrow, Element.token, Element.space, Element.container, Element.children}
-use Rattle.latex2mathml_tex_grammar.specs.Atoms.{Atom, Kind, SignOf, PlusOrMinus, Plain, UprightLetters, UprightIdentifier, Blank, Before, Nothing, After, kind_ends_operand, awaits_second, gap, past, element_there, element_as, without_space}
+use Rattle.latex2mathml_tex_grammar.specs.Atoms.{Atom, Kind, SignOf, PlusOrMinus, Plain, UprightLetters, UprightIdentifier, Blank, Before, Nothing, After, kind_ends_operand, awaits_second, gap, past, element_there, element_as, without_space, without_space_after}
 use Rattle.latex2mathml_tex_grammar.specs.{Meaning.FractionRule}
 use Rattle.latex2mathml_tex_grammar.specs.Symbols.{Class, Ordinary, Operator, Binary, Relation, Punctuation, Style, TextSize}
 
@@ -169,10 +169,22 @@ abbrev pub isolated : Bool → Element → Element
 isolated true x = without_space x
 isolated false x = x
 
--- the elements of a row in braces, of a cell, or of a formula, whose last atom is of this kind
+-- whether browsers leave space after an element of this kind where nothing follows it: a relation or a comma
+abbrev pub leaves_space : Kind → Bool
+leaves_space (SignOf Relation) = true
+leaves_space (SignOf Punctuation) = true
+leaves_space kind = false
+
+-- an element with nothing after it: TeX leaves no space there
+abbrev pub ended : Bool → Element → Element
+ended true x = without_space_after x
+ended false x = x
+
+-- the elements of a row in braces, of a cell, or of a formula, whose last atom is of this kind: nothing is next to them
 abbrev pub lone : Kind → List Element → List Element
+lone last [] = []
 lone last (x ∷ []) = isolated (is_spaced last) x ∷ []
-lone last xs = xs
+lone last (x ∷ y ∷ xs) = ended (leaves_space last) x ∷ y ∷ xs
 
 -- What a command takes: one element, with its class as the base of a mark, and whether it is higher than a letter.
 pub record Operand : Type 0 where
