@@ -238,17 +238,17 @@ module _ {place : ℕ} {c : Context} {K : Outcome Words → Type 0} {ws : Words}
   words_halted k = k _ words_stopped
 
   -- another part of words is due, in the same alphabet as those after it
-  pub word_due : {u : Unit} {l : Units} → IsFalse (is_close u.piece) → size_after (word_rule c.alphabet u.piece) ≡ None → ligature_start c.alphabet u.piece ≡ None → alphabet_behind c.alphabet u.piece ≡ c.alphabet → PartMade (words place c K) (Read ws (Next u l)) → WordLeads (words place c K) place c ws (Next u l)
+  pub word_due : {u : Unit} {l : Units} → IsFalse (is_close u.piece) → size_after (word_rule c.alphabet u.piece) ≡ None → ligature_start ws.accent c.alphabet u.piece ≡ None → alphabet_behind c.alphabet u.piece ≡ c.alphabet → PartMade (words place c K) (Read ws (Next u l)) → WordLeads (words place c K) place c ws (Next u l)
   word_due e no_size none same k (Read vs m) d = λ o ds. k o (word_read e no_size none d (subst (λ a. ReadsWords place (in_words c a) vs m o) (sym same) ds))
   word_due e no_size none same k (Refused r) d = k _ (word_refused e no_size none d)
 
   -- what a character and those that join it are set as, and the words after it
-  pub joined_due : {u : Unit} {l : Units} {first : ℕ} → ligature_start c.alphabet u.piece ≡ Some first → PartMade (words place c K) (Read ws (Next u l)) → PartMade (words place c K) (Read (with_word ws (shown_character c.alphabet (joined first l).0)) (joined first l).1)
+  pub joined_due : {u : Unit} {l : Units} {first : ℕ} → ligature_start ws.accent c.alphabet u.piece ≡ Some first → PartMade (words place c K) (Read ws (Next u l)) → PartMade (words place c K) (Read (with_word ws (shown_character c.alphabet (joined first l).0)) (joined first l).1)
   joined_due e k = λ o ds. k o (ligature_read e ds)
 
   -- the words after a change are in its alphabet
   pub changed_due : {u : Unit} {l : Units} {a : Alphabet} → IsFalse (is_close u.piece) → word_rule c.alphabet u.piece ≡ IsWord (Changed a) → alphabet_behind c.alphabet u.piece ≡ Some a → PartMade (words place c K) (Read ws (Next u l)) → PartMade (words place (in_words c (Some a)) K) (Read ws l)
-  changed_due {u = u} {l = l} e rule behind k = λ o ds. k o (word_read e (ap size_after rule) (change_no_start c.alphabet u.piece rule) (word_stands rule) (subst (λ a. ReadsWords place (in_words c a) ws l o) (sym behind) ds))
+  changed_due {u = u} {l = l} e rule behind k = λ o ds. k o (word_read e (ap size_after rule) (change_no_start ws.accent c.alphabet u.piece rule) (word_stands rule) (subst (λ a. ReadsWords place (in_words c a) ws l o) (sym behind) ds))
 
   -- the words after a change of size are in that size
   pub resized_due : {u : Unit} {l : Units} {size : TextSize} → word_rule c.alphabet u.piece ≡ IsWord (Resized size) → PartMade (words place c K) (Read ws (Next u l)) → PartMade (words place (in_size c size) (λ o. K (as_resized size c (with_accent_ended ws).elements o))) (Read no_words l)

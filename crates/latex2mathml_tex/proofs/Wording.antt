@@ -179,13 +179,13 @@ module _ (s : Start) (p : Parser) (ws : CodeWords) (place : ℕ) (c : CodeContex
   pub change_taken : (i : Input) (fr : Frames) (u : grammar.Unit) (w : Word) → fr.stack.items ≡ others → left_of p ≡ grammar.Next u (units_at i) → IsFalse (is_close u.piece) → IsChange (context_of c).alphabet u.piece w → ChangesWords ws place (context_of c) w s (record p { input = i; frames = fr })
   change_taken i fr u w same e other change = record { style = h.style; taken = u; other = other; change = change; leads = rw same (rw e at within_braces) }
 
-  pub word_behind : (u : grammar.Unit) (l : grammar.Units) → left_of p ≡ grammar.Next u l → IsFalse (is_close u.piece) → size_after (word_rule (context_of c).alphabet u.piece) ≡ None → ligature_start (context_of c).alphabet u.piece ≡ None → alphabet_behind (context_of c).alphabet u.piece ≡ (context_of c).alphabet → Holds s p (state.Word ws place c)
+  pub word_behind : (u : grammar.Unit) (l : grammar.Units) → left_of p ≡ grammar.Next u l → IsFalse (is_close u.piece) → size_after (word_rule (context_of c).alphabet u.piece) ≡ None → ligature_start ws.accent (context_of c).alphabet u.piece ≡ None → alphabet_behind (context_of c).alphabet u.piece ≡ (context_of c).alphabet → Holds s p (state.Word ws place c)
   word_behind u l e other no_size none kept = record {
     style = h.style;
     claims = out_of_frame (λ m. WordLeads m place (context_of c) (words_with ws (elements_of p)) (left_of p)) s p.style h.style p.frames.stack.items others (frame.Words place c) (drop ws.count (elements_of p)) inner (rw e (word_due {K = PartMade around} other no_size none kept (rw e at within_braces)));
   }
 
-  pub joined_behind : (i : Input) (u : grammar.Unit) (first : ℕ) → left_of p ≡ grammar.Next u (units_at i) → ligature_start (context_of c).alphabet u.piece ≡ Some first → JoinsWords ws first (context_of c).alphabet s (record p { input = i })
+  pub joined_behind : (i : Input) (u : grammar.Unit) (first : ℕ) → left_of p ≡ grammar.Next u (units_at i) → ligature_start ws.accent (context_of c).alphabet u.piece ≡ Some first → JoinsWords ws first (context_of c).alphabet s (record p { input = i })
   joined_behind i u first e start = record {
     style = h.style;
     leads = out_of_frame (λ m. PartMade m (Read (with_word (words_with ws (elements_of p)) (shown_character (context_of c).alphabet (joined first (units_at i)).0)) (joined first (units_at i)).1)) s p.style h.style p.frames.stack.items others (frame.Words place c) (drop ws.count (elements_of p)) inner (joined_due {K = PartMade around} start (rw e at within_braces));

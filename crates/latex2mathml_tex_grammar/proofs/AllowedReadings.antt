@@ -161,7 +161,7 @@ mutual
   word_lists (word_read s z j d ds) h k = (let read = words d h k in word_lists ds read.0 read.1)
   word_lists (word_refused s z j d) h k = tt
   word_lists (ligature_read {c = c} {ws = ws} {l = l} {u = u} {first = first} j d) h k =
-      let found = joined_allowed first l (start_allowed c.alphabet u.piece j k.0) k.1 in
+      let found = joined_allowed first l (start_allowed ws.accent c.alphabet u.piece j k.0) k.1 in
       word_lists d (with_word_allowed ws (shown_character c.alphabet (joined first l).0) h (shown_character_allowed c.alphabet (joined first l).0 found.0)) found.1
   word_lists (words_resized {c = c} {ws = ws} {vs = vs} {size = size} s d) h k = (let read = word_lists d (tt, tt) k.1 in (resized_allowed size c (with_accent_ended ws).elements vs.elements (accent_ended_allowed ws h).0 read.0.0, read.1))
   word_lists (words_resized_refused s d) h k = tt

@@ -319,7 +319,7 @@ mutual
   carry_words other (word_refused s z j d) (both_next place t h) =
       let (r, kind, e) = refused_is (carry_word other d within_words in_words (both_next place t h)) in also_refused r kind (word_refused s z j e)
   carry_words {at = at} other (ligature_read {c = c} {ws = ws} {u = u} {first = first} j d) (both_next {m = m} place t h) =
-      let both = joined_alike first (stands (start_stays at c.alphabet u.piece j) h) in
+      let both = joined_alike first (stands (start_stays ws.accent at c.alphabet u.piece j) h) in
       also (carry_words other d (fronts_of_words both.1)) (λ p e. ligature_read j (subst (λ k. ReadsWords other c (with_word ws (shown_character c.alphabet k)) (joined first m).1 p) both.0 e))
   carry_words {at = at} other (words_resized {c = c} {u = u} s d) (both_next place t h) =
       let alike = stands (size_changes c.alphabet u.piece s (InWords at) (InWords at) within_words t) h in

@@ -11,41 +11,42 @@ use Rattle.latex2mathml_tex_grammar.proofs.{Allowed.AreAllowedUnits, Allowed.IsA
 
 -- What begins a ligature neither ends words nor changes their size
 
-pub begins_none : (a : Option Alphabet) (piece : Piece) {first : ℕ} → IsTrue (is_close piece) → ligature_start a piece ≡ Some first → ⊥
-begins_none a Close s e = cc
-begins_none a Space s e = cc
-begins_none a Open s e = cc
-begins_none a (Command name) s e = cc
-begins_none a (Character c) s e = cc
+pub begins_none : (accent : Option ℕ) (a : Option Alphabet) (piece : Piece) {first : ℕ} → IsTrue (is_close piece) → ligature_start accent a piece ≡ Some first → ⊥
+begins_none accent a Close s e = cc
+begins_none accent a Space s e = cc
+begins_none accent a Open s e = cc
+begins_none accent a (Command name) s e = cc
+begins_none accent a (Character c) s e = cc
 
 character_no_size : (a : Option Alphabet) (c : ℕ) → size_after (word_rule a (Character c)) ≡ None
 character_no_size a c = of_word_character (λ r. size_after r ≡ None) a c refl refl refl refl
 
-pub start_no_size : (a : Option Alphabet) (piece : Piece) {first : ℕ} {size : TextSize} → ligature_start a piece ≡ Some first → size_after (word_rule a piece) ≡ Some size → ⊥
-start_no_size a (Character c) e t = (let none = character_no_size a c in cc)
-start_no_size a Space e t = cc
-start_no_size a Open e t = cc
-start_no_size a Close e t = cc
-start_no_size a (Command name) e t = cc
+pub start_no_size : (accent : Option ℕ) (a : Option Alphabet) (piece : Piece) {first : ℕ} {size : TextSize} → ligature_start accent a piece ≡ Some first → size_after (word_rule a piece) ≡ Some size → ⊥
+start_no_size accent a (Character c) e t = (let none = character_no_size a c in cc)
+start_no_size accent a Space e t = cc
+start_no_size accent a Open e t = cc
+start_no_size accent a Close e t = cc
+start_no_size accent a (Command name) e t = cc
 
 character_no_change : {other : Alphabet} (a : Option Alphabet) (c : ℕ) → word_rule a (Character c) ≡ IsWord (Changed other) → ⊥
 character_no_change {other} a c = of_word_character (λ r. r ≡ IsWord (Changed other) → ⊥) a c (λ e. cc) (λ e. cc) (λ e. cc) (λ e. cc)
 
 -- nor does a change of the alphabet
-pub change_no_start : (a : Option Alphabet) (piece : Piece) {other : Alphabet} → word_rule a piece ≡ IsWord (Changed other) → ligature_start a piece ≡ None
-change_no_start a (Character c) e = absurd (character_no_change a c e)
-change_no_start a Space e = refl
-change_no_start a Open e = refl
-change_no_start a Close e = refl
-change_no_start a (Command name) e = refl
+pub change_no_start : (accent : Option ℕ) (a : Option Alphabet) (piece : Piece) {other : Alphabet} → word_rule a piece ≡ IsWord (Changed other) → ligature_start accent a piece ≡ None
+change_no_start accent a (Character c) e = absurd (character_no_change a c e)
+change_no_start accent a Space e = refl
+change_no_start accent a Open e = refl
+change_no_start accent a Close e = refl
+change_no_start accent a (Command name) e = refl
 
 chosen : (b : Bool) (c : ℕ) {first : ℕ} → (if b then Some c else None) ≡ Some first → (b ≡ true) × (c ≡ first)
 chosen true c e = (refl, cc)
 chosen false c e = cc
 
-begins : (f : Font) (c : ℕ) {first : ℕ} → first_in f c ≡ Some first → (begins_ligature c ≡ true) × (c ≡ first)
-begins Typewriter c e = cc
-begins Usual c e = chosen (begins_ligature c) c e
+begins : (accent : Option ℕ) (f : Font) (c : ℕ) {first : ℕ} → first_in accent f c ≡ Some first → (begins_ligature c ≡ true) × (c ≡ first)
+begins (Some accent) f c e = cc
+begins None Typewriter c e = cc
+begins None Usual c e = chosen (begins_ligature c) c e
 
 -- the test does not hold of a dollar sign
 no_dollar : (test : ℕ → Bool) (c : ℕ) → test c ≡ true → test (byte "$") ≡ false → (c == byte "$") ≡ false
@@ -57,19 +58,19 @@ no_dollar test c h none = elim (cases_Bool (c == byte "$")) [
 character_stays : (at : Standing) (c : ℕ) → (c == byte "$") ≡ false → standing_behind (Character c) (InWords at) ≡ InWords at
 character_stays at c h = rw h refl
 
-pub start_stays : (at : Standing) (a : Option Alphabet) (piece : Piece) {first : ℕ} → ligature_start a piece ≡ Some first → standing_behind piece (InWords at) ≡ InWords at
-start_stays at a (Character c) e = character_stays at c (no_dollar begins_ligature c (begins (font_in a) c e).0 refl)
-start_stays at a Space e = cc
-start_stays at a Open e = cc
-start_stays at a Close e = cc
-start_stays at a (Command name) e = cc
+pub start_stays : (accent : Option ℕ) (at : Standing) (a : Option Alphabet) (piece : Piece) {first : ℕ} → ligature_start accent a piece ≡ Some first → standing_behind piece (InWords at) ≡ InWords at
+start_stays accent at a (Character c) e = character_stays at c (no_dollar begins_ligature c (begins accent (font_in a) c e).0 refl)
+start_stays accent at a Space e = cc
+start_stays accent at a Open e = cc
+start_stays accent at a Close e = cc
+start_stays accent at a (Command name) e = cc
 
-pub start_allowed : (a : Option Alphabet) (piece : Piece) {first : ℕ} → ligature_start a piece ≡ Some first → IsAllowedPiece piece → is_forbidden first ≡ false
-start_allowed a (Character c) e h = subst (λ k. is_forbidden k ≡ false) (begins (font_in a) c e).1 h
-start_allowed a Space e h = cc
-start_allowed a Open e h = cc
-start_allowed a Close e h = cc
-start_allowed a (Command name) e h = cc
+pub start_allowed : (accent : Option ℕ) (a : Option Alphabet) (piece : Piece) {first : ℕ} → ligature_start accent a piece ≡ Some first → IsAllowedPiece piece → is_forbidden first ≡ false
+start_allowed accent a (Character c) e h = subst (λ k. is_forbidden k ≡ false) (begins accent (font_in a) c e).1 h
+start_allowed accent a Space e h = cc
+start_allowed accent a Open e h = cc
+start_allowed accent a Close e h = cc
+start_allowed accent a (Command name) e h = cc
 
 -- What joins it
 

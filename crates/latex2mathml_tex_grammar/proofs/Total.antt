@@ -379,12 +379,12 @@ word_total k has place c ws (End at) h = is_refused _ word_at_end
 word_total k has place c ws (Stop r) h = is_refused r word_stopped
 
 -- a part of words that has an outcome, and then the words after it
-word_after : (k : ℕ) → HasOutcomes k → (place : ℕ) (c : Context) (ws : Words) (u : Unit) (l : Units) → size l < k → is_close u.piece ≡ false → size_after (word_rule c.alphabet u.piece) ≡ None → ligature_start c.alphabet u.piece ≡ None → Comes Words (ReadsWord place c ws (Next u l)) (size l) → Comes Words (ReadsWords place c ws (Next u l)) (size (Next u l))
+word_after : (k : ℕ) → HasOutcomes k → (place : ℕ) (c : Context) (ws : Words) (u : Unit) (l : Units) → size l < k → is_close u.piece ≡ false → size_after (word_rule c.alphabet u.piece) ≡ None → ligature_start ws.accent c.alphabet u.piece ≡ None → Comes Words (ReadsWord place c ws (Next u l)) (size l) → Comes Words (ReadsWords place c ws (Next u l)) (size (Next u l))
 word_after k has place c ws u l h s z j (is_refused r d) = is_refused r (word_refused s z j d)
 word_after k has place c ws u l h s z j (comes_to vs m fits d) = with_outcome (has.of_words place (in_words c (alphabet_behind c.alphabet u.piece)) vs m (omega arith)) (omega arith) (λ o. word_read s z j d)
 
 -- words after a ligature, if one begins
-after_start : (k : ℕ) → HasOutcomes k → (place : ℕ) (c : Context) (ws : Words) (u : Unit) (l : Units) → size l < k → is_close u.piece ≡ false → size_after (word_rule c.alphabet u.piece) ≡ None → (start : Option ℕ) → ligature_start c.alphabet u.piece ≡ start → Comes Words (ReadsWords place c ws (Next u l)) (size (Next u l))
+after_start : (k : ℕ) → HasOutcomes k → (place : ℕ) (c : Context) (ws : Words) (u : Unit) (l : Units) → size l < k → is_close u.piece ≡ false → size_after (word_rule c.alphabet u.piece) ≡ None → (start : Option ℕ) → ligature_start ws.accent c.alphabet u.piece ≡ start → Comes Words (ReadsWords place c ws (Next u l)) (size (Next u l))
 after_start k has place c ws u l h s z None j = word_after k has place c ws u l h s z j (begun_word k has place c ws u l h (word_rule c.alphabet u.piece) refl)
 after_start k has place c ws u l h s z (Some first) j =
     let fewer = joined_shortens first l in
@@ -392,7 +392,7 @@ after_start k has place c ws u l h s z (Some first) j =
 
 -- words after a change of size, if there is one
 after_size : (k : ℕ) → HasOutcomes k → (place : ℕ) (c : Context) (ws : Words) (u : Unit) (l : Units) → size l < k → is_close u.piece ≡ false → (changed : Option TextSize) → size_after (word_rule c.alphabet u.piece) ≡ changed → Comes Words (ReadsWords place c ws (Next u l)) (size (Next u l))
-after_size k has place c ws u l h s None z = after_start k has place c ws u l h s z (ligature_start c.alphabet u.piece) refl
+after_size k has place c ws u l h s None z = after_start k has place c ws u l h s z (ligature_start ws.accent c.alphabet u.piece) refl
 after_size k has place c ws u l h s (Some size) z = elim (has.of_words place (in_size c size) no_words l h) [
   | comes_to vs m fits d ↦ comes_to (with_resized size c (with_accent_ended ws).elements vs.elements) m (omega arith) (words_resized z d)
   | is_refused r d ↦ is_refused r (words_resized_refused z d)

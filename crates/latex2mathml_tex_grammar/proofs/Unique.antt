@@ -451,13 +451,13 @@ mutual
   one_words (words_resized_refused {c = c} {u = u} s d) (words_end t) = absurd (closes_no_size c.alphabet u.piece t s)
   one_words (words_resized_refused s d) (word_read t z k e es) = cc
   one_words (words_resized_refused s d) (word_refused t z k e) = cc
-  one_words (words_end {c = c} {u = u} s) (ligature_read k e) = absurd (begins_none c.alphabet u.piece s k)
-  one_words (ligature_read {c = c} {u = u} j d) (words_end t) = absurd (begins_none c.alphabet u.piece t j)
+  one_words (words_end {c = c} {ws = ws} {u = u} s) (ligature_read k e) = absurd (begins_none ws.accent c.alphabet u.piece s k)
+  one_words (ligature_read {c = c} {ws = ws} {u = u} j d) (words_end t) = absurd (begins_none ws.accent c.alphabet u.piece t j)
   one_words (word_read s z j d ds) (ligature_read k e) = cc
   one_words (word_refused s z j d) (ligature_read k e) = cc
   one_words (ligature_read j d) (word_read t z k e es) = cc
   one_words (ligature_read j d) (word_refused t z k e) = cc
-  one_words (words_resized {c = c} {u = u} s d) (ligature_read k e) = absurd (start_no_size c.alphabet u.piece k s)
-  one_words (words_resized_refused {c = c} {u = u} s d) (ligature_read k e) = absurd (start_no_size c.alphabet u.piece k s)
-  one_words (ligature_read {c = c} {u = u} j d) (words_resized t e) = absurd (start_no_size c.alphabet u.piece j t)
-  one_words (ligature_read {c = c} {u = u} j d) (words_resized_refused t e) = absurd (start_no_size c.alphabet u.piece j t)
+  one_words (words_resized {c = c} {ws = ws} {u = u} s d) (ligature_read k e) = absurd (start_no_size ws.accent c.alphabet u.piece k s)
+  one_words (words_resized_refused {c = c} {ws = ws} {u = u} s d) (ligature_read k e) = absurd (start_no_size ws.accent c.alphabet u.piece k s)
+  one_words (ligature_read {c = c} {ws = ws} {u = u} j d) (words_resized t e) = absurd (start_no_size ws.accent c.alphabet u.piece j t)
+  one_words (ligature_read {c = c} {ws = ws} {u = u} j d) (words_resized_refused t e) = absurd (start_no_size ws.accent c.alphabet u.piece j t)

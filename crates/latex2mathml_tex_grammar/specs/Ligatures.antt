@@ -17,15 +17,16 @@ ligature first second =
 abbrev pub begins_ligature : ℕ → Bool
 begins_ligature c = c == byte "-" || c == byte "`" || c == byte "'"
 
--- the character, if a ligature can begin with it. A typewriter has no ligatures.
-abbrev pub first_in : Font → ℕ → Option ℕ
-first_in Typewriter c = None
-first_in Usual c = if begins_ligature c then Some c else None
+-- the character, if a ligature can begin with it. A typewriter has no ligatures, and a character with an accent joins no other.
+abbrev pub first_in : Option ℕ → Font → ℕ → Option ℕ
+first_in (Some accent) font c = None
+first_in None Typewriter c = None
+first_in None Usual c = if begins_ligature c then Some c else None
 
--- the character that a unit is in words in this alphabet, if a ligature can begin with it
-abbrev pub ligature_start : Option Alphabet → Piece → Option ℕ
-ligature_start alphabet (Character c) = first_in (font_in alphabet) c
-ligature_start alphabet piece = None
+-- the character that a unit is in words in this alphabet, if a ligature can begin with it; the accent is the one that it gets
+abbrev pub ligature_start : Option ℕ → Option Alphabet → Piece → Option ℕ
+ligature_start accent alphabet (Character c) = first_in accent (font_in alphabet) c
+ligature_start accent alphabet piece = None
 
 -- the character that one and this unit are set as, if they are set as one
 abbrev pub joint : ℕ → Piece → Option ℕ

@@ -375,19 +375,19 @@ mutual
     word_read : {place : ℕ} {c : Context} {ws vs : Words} {l m : Units} {u : Unit} {o : Outcome Words}
         → IsFalse (is_close u.piece)
         → size_after (word_rule c.alphabet u.piece) ≡ None
-        → ligature_start c.alphabet u.piece ≡ None
+        → ligature_start ws.accent c.alphabet u.piece ≡ None
         → ReadsWord place c ws (Next u l) (Read vs m)
         → ReadsWords place (in_words c (alphabet_behind c.alphabet u.piece)) vs m o
         → ReadsWords place c ws (Next u l) o
     word_refused : {place : ℕ} {c : Context} {ws : Words} {l : Units} {u : Unit} {r : Refusal}
         → IsFalse (is_close u.piece)
         → size_after (word_rule c.alphabet u.piece) ≡ None
-        → ligature_start c.alphabet u.piece ≡ None
+        → ligature_start ws.accent c.alphabet u.piece ≡ None
         → ReadsWord place c ws (Next u l) (Refused r)
         → ReadsWords place c ws (Next u l) (Refused r)
     -- a character with those that join it, and the words after them
     ligature_read : {place : ℕ} {c : Context} {ws : Words} {l : Units} {u : Unit} {first : ℕ} {o : Outcome Words}
-        → ligature_start c.alphabet u.piece ≡ Some first
+        → ligature_start ws.accent c.alphabet u.piece ≡ Some first
         → ReadsWords place c (with_word ws (shown_character c.alphabet (joined first l).0)) (joined first l).1 o
         → ReadsWords place c ws (Next u l) o
     -- a change of size, and the words after it

@@ -34,12 +34,17 @@ impl<'a> Parser<'a> {
     }
 }
 
-/// Returns the character that a unit is in words in this alphabet, if a ligature can begin with it. A typewriter has no ligatures.
-pub(crate) fn ligature_start(alphabet: Option<Alphabet>, piece: Piece) -> Option<char>
-    ensures { result ≡ ligature_start (option_map alphabet_of alphabet) (piece_of piece.entry) }
+/// Returns the character that a unit is in words in this alphabet, if a ligature can begin with it. None begins with one that gets an
+/// accent, and a typewriter has none.
+pub(crate) fn ligature_start(
+    accent: Option<char>,
+    alphabet: Option<Alphabet>,
+    piece: Piece,
+) -> Option<char>
+    ensures { result ≡ ligature_start accent (option_map alphabet_of alphabet) (piece_of piece.entry) }
 {
-    match (Font::of_words(alphabet), piece) {
-        (Font::Usual, Piece::Character(c)) if begins_ligature(c) => Some(c),
+    match (accent, Font::of_words(alphabet), piece) {
+        (None, Font::Usual, Piece::Character(c)) if begins_ligature(c) => Some(c),
         _ => None,
     }
 }

@@ -276,7 +276,7 @@ impl<'a> Parser<'a> {
                             let _ = self.frames.take(self.style);
                             self.change_words(words, place, context, change, next)
                         }
-                        None => match ligature_start(context.alphabet, piece) {
+                        None => match ligature_start(words.accent, context.alphabet, piece) {
                             Some(first) => {
                                 self.input.advance();
                                 self.join(words, first, context.alphabet, next)
