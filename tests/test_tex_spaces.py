@@ -107,7 +107,7 @@ BROKEN = {r"\begin{multline}c\\c\\ccccc\\c\end{multline}": [0, 1 / 2, 1], r"\beg
 DELIMITERS = {r"\big(": (0.458, 0.458), r"\Big)": (0.597, 0.597), r"\bigg[": (0.528, 0.528), r"\Bigg]": (0.583, 0.583),
               r"\bigl\{": (0.583, 0.583), r"\Bigr\rangle": (0.611, 0.611), r"\big/": (0.578, 0.578), r"\bigm\backslash": (0.578, 0.578),
               r"\Bigl\lfloor": (0.528, 0.528), r"\left(c^2\right)": (0.458, 0.736), r"\left[\frac cd\right]": (0.417, 0.528),
-              r"\left.\frac cd\middle/c\right.": (0.578, 1.044), r"\binom cd": (0.458, 0.736),
+              r"\left.\frac cd\middle/c\right.": (0.578, 1.044), r"\binom cd": (0.458, 0.458), r"\dbinom cd": (0.736, 0.736),
               r"\left]\frac cd\right[": (0.417, 0.528), r"\begin{pmatrix}c&c\end{pmatrix}": (0.458, 0.736),
               r"\begin{pmatrix}c\\c\end{pmatrix}": (0.458, 0.736), r"\begin{bmatrix}c\\c\end{bmatrix}": (0.417, 0.528),
               r"\begin{cases}c\\c\end{cases}": (0.583, 0.75)}

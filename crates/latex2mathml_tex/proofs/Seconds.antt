@@ -43,11 +43,11 @@ module _ (s : Start) (p : Parser) (one : First) (place : ℕ) (c : Context) (ope
   abbrev pub IsDue : Last → Context → Type 0
   IsDue made d = Leads (level_within (frame.Last made place d) 0 s p) (left_of p)
 
-  pub denominator_due : (rule : FractionRule) (own : Option Style) → one ≡ first.Fraction rule own → WasRead → IsDue (last.Fraction rule own) c
-  denominator_due rule own e g = operand_due _ (rw e at g.leads)
+  pub denominator_due : (rule : FractionRule) (own : Option Style) (style : Style) → one ≡ first.Fraction rule own style → WasRead → IsDue (last.Fraction rule own style) c
+  denominator_due rule own style e g = operand_due _ (rw e at g.leads)
 
-  pub outlined_due : (outline : Outline) → one ≡ first.Outlined outline → WasRead → IsDue (last.Outlined outline) c
-  outlined_due outline e g = operand_due _ (rw e at g.leads)
+  pub outlined_due : (outline : Outline) (style : Style) → one ≡ first.Outlined outline style → WasRead → IsDue (last.Outlined outline style) c
+  outlined_due outline style e g = operand_due _ (rw e at g.leads)
 
   -- another one that others follow is due in this context
   abbrev pub IsNext : First → Context → Type 0

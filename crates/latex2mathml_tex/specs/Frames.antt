@@ -128,8 +128,8 @@ made_of (last.Choice style o) xs y = choice (style_of style) (operand_in o (drop
 made_of last.Slash xs y = slashed y (struck y.element)
 made_of (last.Classed class style) xs y = classed (class_of class) (as_base (style_of style) (class_of class) y)
 made_of (last.Boxed b style) xs y = core (boxed_atom (box_of b) (as_base (style_of style) Ordinary y))
-made_of (last.Fraction rule own) xs y = fraction (fraction_rule_of rule) (option_map style_of own) (top xs) y.element
-made_of (last.Outlined o) xs y = outlined_fraction (outline_of o) (top xs) y.element
+made_of (last.Fraction rule own style) xs y = fraction (fraction_rule_of rule) (option_map style_of own) (style_of style) (top xs) y.element
+made_of (last.Outlined o style) xs y = outlined_fraction (outline_of o) (style_of style) (top xs) y.element
 made_of (last.Stack s style) xs y = stack (side_of s) (Plain y.class) (top xs) (as_base (style_of style) y.class y).element
 made_of (last.StackedRelation style) xs y = stack Above (stacked_relation y.class) (top xs) (as_base (style_of style) Relation y).element
 made_of last.OverArrow xs y = core (atom (Plain Relation) true (pair Mover plain (top xs) (arrow_label y.element)))
@@ -138,9 +138,9 @@ made_of last.OverAndUnderArrow xs y = labeled_arrow (top (drop 1 xs)) (top xs) y
 -- what follows an operand before the last one, which this place takes in this context, at a level of the outer context; the
 -- operands before it are the uppermost elements here
 abbrev pub after_first : First → ℕ → Context → Context → List Element → Operand → Rule
-after_first (first.Fraction rule own) place c outer xs x =
-    of_one place c (λ y. fraction (fraction_rule_of rule) (option_map style_of own) x.element y.element)
-after_first (first.Outlined o) place c outer xs x = of_one place c (λ y. outlined_fraction (outline_of o) x.element y.element)
+after_first (first.Fraction rule own style) place c outer xs x =
+    of_one place c (λ y. fraction (fraction_rule_of rule) (option_map style_of own) (style_of style) x.element y.element)
+after_first (first.Outlined o style) place c outer xs x = of_one place c (λ y. outlined_fraction (outline_of o) (style_of style) x.element y.element)
 after_first (first.Stack s) place c outer xs x = of_one place outer (λ y. stack (side_of s) (Plain y.class) x.element (as_base outer.style y.class y).element)
 after_first first.StackedRelation place c outer xs x = of_one place outer (λ y. stack Above (stacked_relation y.class) x.element (as_base outer.style Relation y).element)
 after_first first.InBlock place c outer xs x = reads_operand place c (λ y. of_two place c c (λ z w. choice c.style x y z))
@@ -203,8 +203,8 @@ ending_count e = 0
 
 abbrev pub last_count : Last → ℕ
 last_count last.Root = 1
-last_count (last.Fraction rule own) = 1
-last_count (last.Outlined o) = 1
+last_count (last.Fraction rule own style) = 1
+last_count (last.Outlined o style) = 1
 last_count (last.Stack s style) = 1
 last_count (last.StackedRelation style) = 1
 last_count last.OverArrow = 1

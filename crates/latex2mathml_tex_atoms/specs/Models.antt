@@ -14,14 +14,14 @@ use Rattle.latex2mathml_tex_commands.specs.Meanings.{alphabet_of, class_of, frac
 use Rattle.latex2mathml_attributes.specs.declared.attributes.Side.{Side}
 use Rattle.latex2mathml_attributes.specs.declared.attributes.Side.TheVariants as side
 use Rattle.latex2mathml_tex_commands.specs.declared.meaning.Class.TheVariants as class
-use Rattle.latex2mathml_tex_commands.specs.declared.meaning.{Alphabet.Alphabet, FractionRule.FractionRule, Style.Style}
+use Rattle.latex2mathml_tex_commands.specs.declared.meaning.{Alphabet.Alphabet, Style.Style}
 use Rattle.latex2mathml_tex_commands.specs.declared.meaning.TextSize.TheVariants as text_size
 use Rattle.latex2mathml_tex_atoms.specs.declared.atoms.{Before.Before, Context.Context, Core.Core, Joining.Joining, Kind.Kind, Operand.Operand, Row.Row, Scripts.Scripts, Words.Words}
 use Rattle.latex2mathml_tex_atoms.specs.declared.atoms.Before.TheVariants as before
 use Rattle.latex2mathml_tex_atoms.specs.declared.atoms.Joining.TheVariants as joining
 use Rattle.latex2mathml_tex_atoms.specs.declared.atoms.Kind.TheVariants as kind
 use Rattle.latex2mathml_tex_atoms.specs.declared.fonts.Font.{Font}
-use Rattle.latex2mathml_tex_atoms.specs.declared.rests.Look.{Look}
+use Rattle.latex2mathml_tex_atoms.specs.declared.rests.{Division.Division, Look.Look}
 use Rattle.latex2mathml_tex_atoms.specs.declared.fonts.Font.TheVariants as font
 use Rattle.latex2mathml_tex_atoms.specs.declared.spaces.Entry.{Entry}
 use Rattle.latex2mathml_tex_atoms.specs.declared.spaces.Entry.TheVariants as entry
@@ -100,18 +100,18 @@ restyled_with None settled xs = None
 restyled_with (Some look) settled xs = Some (record { before = take settled xs; look = look_of look })
 
 -- the upper part of the fraction, if a row is the lower part of one
-abbrev pub under_with : Option FractionRule → List Element → Option rows.Upper
+abbrev pub under_with : Option Division → List Element → Option rows.Upper
 under_with None xs = None
-under_with (Some rule) xs = Some (record { rule = fraction_rule_of rule; element = top xs })
+under_with (Some fraction) xs = Some (record { rule = fraction_rule_of fraction.rule; style = style_of fraction.style; element = top xs })
 
 -- how many elements precede a change, if there was one
 abbrev pub settled_count : Option Look → ℕ → ℕ
 settled_count None settled = 0
 settled_count (Some change) settled = settled
 
-abbrev pub under_count : Option FractionRule → ℕ
+abbrev pub under_count : Option Division → ℕ
 under_count None = 0
-under_count (Some rule) = 1
+under_count (Some fraction) = 1
 
 -- how many elements of a row are below those since the last change
 abbrev pub row_rest : Row → ℕ

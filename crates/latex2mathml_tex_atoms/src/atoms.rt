@@ -11,12 +11,10 @@ ghost use Rattle.latex2mathml_tex_atoms.specs.Models.{IsFinished, begun, has_scr
 ghost use Rattle.latex2mathml_tex_atoms.specs.Adding.{IsAdded};
 
 use crate::fonts::Font;
-use crate::rests::Look;
+use crate::rests::{Division, Look};
 use crate::signs::is_put_as_it_is;
 use latex2mathml_attributes::attributes::Side;
-use latex2mathml_tex_commands::meaning::{
-    Alphabet, Class, FractionRule, LimitPlace, Style, TextSize,
-};
+use latex2mathml_tex_commands::meaning::{Alphabet, Class, LimitPlace, Style, TextSize};
 
 /// The context in which a unit is read: the style, and the alphabet of letters and digits, if there is one.
 #[derive(Clone, Copy)]
@@ -337,8 +335,8 @@ pub struct Row {
     pub class: Class,
     /// The look of what follows that change, if there was one.
     pub restyled: Option<Look>,
-    /// The rule of the fraction, if the row is the lower part of one. The upper part is below the other elements.
-    pub under: Option<FractionRule>,
+    /// The fraction, if the row is the lower part of one. The upper part is below the other elements.
+    pub under: Option<Division>,
 }
 
 impl Row {

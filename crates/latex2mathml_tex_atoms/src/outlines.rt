@@ -6,8 +6,7 @@ ghost use Rattle.latex2mathml_tex_grammar.specs.Rules;
 ghost use Rattle.latex2mathml_tex_commands.specs.{Delimiters.delimiter_text, Meanings.style_of};
 ghost use Rattle.latex2mathml_tex_atoms.specs.{Models.top, Outlines.outline_of};
 
-use crate::delimiters::{Height, enclose};
-use crate::fractions::{put_in_style, put_null_delimiters, put_without_bar};
+use crate::fractions::{delimit, put_in_style, put_null_delimiters, put_without_bar};
 use latex2mathml_attributes::attributes::Attributes;
 use latex2mathml_attributes::tag::Pair;
 use latex2mathml_builder::builder::Builder;
@@ -38,15 +37,16 @@ pub fn numbered_style(number: &str) -> Option<Option<Style>>
     }
 }
 
-/// Makes the two top elements a fraction, as its author specifies.
-pub fn put_outlined(builder: &mut Builder, outline: Outline) -> Result<(), AllocError>
+/// Makes the two top elements a fraction in this style, as its author specifies.
+pub fn put_outlined(builder: &mut Builder, outline: Outline, style: Style) -> Result<(), AllocError>
     requires { 2 ≤ length (elements_in builder.old) }
     ensures { OnOk result (elements_in builder.new
-        ≡ (Makes.outlined_fraction (outline_of outline) (top (drop 1 (elements_in builder.old)))
+        ≡ (Makes.outlined_fraction (outline_of outline) (style_of style)
+        (top (drop 1 (elements_in builder.old)))
         (top (elements_in builder.old))).atom.element ∷ drop 2 (elements_in builder.old)) }
 {
     put_quotient(builder, outline.has_line)?;
-    put_between_any(builder, outline.opening, outline.closing)?;
+    put_between_any(builder, style, outline.opening, outline.closing)?;
     put_in_style(builder, outline.own)
 }
 
@@ -63,19 +63,20 @@ fn put_quotient(builder: &mut Builder, has_line: bool) -> Result<(), AllocError>
     put_without_bar(builder)
 }
 
-/// Puts the top element between delimiters, or between null delimiters if there are none.
+/// Puts the top element, which is a fraction in this style, between delimiters, or between null delimiters if there are none.
 fn put_between_any(
     builder: &mut Builder,
+    style: Style,
     opening: Option<char>,
     closing: Option<char>,
 ) -> Result<(), AllocError>
     requires { 1 ≤ length (elements_in builder.old) }
     ensures { OnOk result (elements_in builder.new
-        ≡ Makes.between_any (delimiter_text opening) (delimiter_text closing)
+        ≡ Makes.between_any (style_of style) (delimiter_text opening) (delimiter_text closing)
         (top (elements_in builder.old)) ∷ drop 1 (elements_in builder.old)) }
 {
     if opening.is_none() && closing.is_none() {
         return put_null_delimiters(builder);
     }
-    enclose(builder, Height::Tall, opening, closing)
+    delimit(builder, style, opening, closing)
 }

@@ -34,6 +34,13 @@ pub struct Look {
     pub scale: Option<u16>,
 }
 
+/// A fraction that is divided within its group, as by `\over`.
+#[derive(Clone, Copy)]
+pub struct Division {
+    pub rule: FractionRule,
+    pub style: Style,
+}
+
 impl Row {
     /// Returns the look of the row's last atoms, where the row is now read in this context.
     pub fn look(self, context: Context) -> Look
@@ -219,17 +226,18 @@ pub fn begin_anew(
     })
 }
 
-/// Returns the row of the lower part of a fraction whose upper part is a row that was read in this style.
+/// Returns the row of the lower part of this fraction, whose upper part is a row that was read in this style.
 pub fn divide(
     builder: &mut Builder,
     style: Style,
     row: Row,
-    rule: FractionRule,
+    fraction: Division,
 ) -> Result<Row, AllocError>
     requires count { row_count row ≤ length (elements_in builder.old) }
     requires none { row.under ≡ None }
     ensures row { IfOk result (λ begun. row_with begun (elements_in builder.new)
-        ≡ Rests.begun_below (fraction_rule_of rule) (Rests.settled (style_of style)
+        ≡ Rests.begun_below (fraction_rule_of fraction.rule) (style_of fraction.style)
+        (Rests.settled (style_of style)
         (Rows.with_operand_ended (row_with row (elements_in builder.old))))) }
     ensures below { IfOk result (λ begun. drop (row_count begun) (elements_in builder.new)
         ≡ drop (row_count row) (elements_in builder.old)) }
@@ -239,7 +247,7 @@ pub fn divide(
     let whole = settle(builder, style, row)?;
     put_row(builder, whole.count)?;
     Ok(Row {
-        under: Some(rule),
+        under: Some(fraction),
         ..Row::empty()
     })
 }
@@ -334,11 +342,11 @@ fn close_fraction(builder: &mut Builder, row: Row) -> Result<Row, AllocError>
         ≡ drop (row_count row) (elements_in builder.old)) }
     ensures count { IfOk result (λ whole. whole.count ≤ length (elements_in builder.new)) }
 {
-    let Some(rule) = row.under else {
+    let Some(fraction) = row.under else {
         return Ok(row);
     };
     put_row(builder, row.count)?;
-    put_fraction(builder, rule, None)?;
+    put_fraction(builder, fraction.rule, None, fraction.style)?;
     Ok(Row {
         count: 1,
         before: Before::After(Class::Ordinary),

@@ -8,7 +8,7 @@ use Rattle.latex2mathml_elements.specs.Element.{Mi, Mn, Mo, Mtext, Element, toke
 use Rattle.latex2mathml_elements.proofs.{Characters.allowed_both, Characters.allowed_char, Characters.allowed_plain, Characters.plain_is_allowed, Plain.IsPlain, Plain.is_plain}
 use Rattle.latex2mathml_tex_grammar.specs.Alphabets.{in_alphabet}
 use Rattle.latex2mathml_tex_grammar.specs.Atoms.{without_space_after, Atom, Kind, SignOf, PlusOrMinus, Plain, UprightLetters, UprightIdentifier, Unspaced, Blank, Divider, Before, begins_operand, is_ordinary, as_prefix, as_infix, without_space, without_space_before, led, leads_operator, leads_relation, tight, element_there, gap, lone_sign, element_as}
-use Rattle.latex2mathml_tex_grammar.specs.Fences.{Height, fenced, height_if}
+use Rattle.latex2mathml_tex_grammar.specs.Fences.{Height, delimited_fraction, fenced, height_if}
 use Rattle.latex2mathml_tex_grammar.specs.Makes.{text, letter, upright_letter, number, symbol, struck, classed, on_side, accent, brace, stack, in_style, unfenced, quotient, fraction_element, fraction, lowered_divider, lowered, between_delimiters, spaced_as, Scripts, primes_text, prime_mark, behind_primes, superscript, are_stacked, fixed_base, with_scripts, before_base, base_there, scripted_atom, scripted}
 use Rattle.latex2mathml_tex_grammar.specs.Meaning.{FractionRule, Bar, NoBar, Braced, Bracketed, Bare, LimitPlace, Beside, ByStyle, Movable, Stacked}
 use Rattle.latex2mathml_tex_grammar.specs.Rows.{Row, Operand, ended, leaves_space, without_last_space, row_before, Joining, ToWord, ToRelations, Separated, Apart, as_base, is_spaced, isolated, lone, is_empty, join, parted, put, row_element, single, with_atom, empty_row}
@@ -283,18 +283,21 @@ fenced_allowed height opening closing inside h k i = (h, (i, (k, tt)))
 pub unfenced_allowed : (x : Element) → HasAllowedTexts x → HasAllowedTexts (unfenced x)
 unfenced_allowed x h = (h, (([], refl, tt), tt))
 
-fraction_element_allowed : (rule : FractionRule) (above below : Element) → HasAllowedTexts above → HasAllowedTexts below → HasAllowedTexts (fraction_element rule above below)
-fraction_element_allowed Bar above below h k = unfenced_allowed (quotient true above below) (h, k)
-fraction_element_allowed Bare above below h k = unfenced_allowed (quotient false above below) (h, k)
-fraction_element_allowed NoBar above below h k =
-    (allowed_plain (codes "(") refl, ((h, k), (allowed_plain (codes ")") refl, tt)))
-fraction_element_allowed Braced above below h k =
-    (allowed_plain (codes "{") refl, ((h, k), (allowed_plain (codes "}") refl, tt)))
-fraction_element_allowed Bracketed above below h k =
-    (allowed_plain (codes "[") refl, ((h, k), (allowed_plain (codes "]") refl, tt)))
+pub delimited_allowed : (style : Style) (opening closing : List ℕ) (x : Element) → IsAllowed opening → IsAllowed closing → HasAllowedTexts x → HasAllowedTexts (delimited_fraction style opening closing x)
+delimited_allowed style opening closing x h k i = (h, (i, (k, tt)))
 
-pub fraction_allowed : (rule : FractionRule) (own : Option Style) (above below : Element) → HasAllowedTexts above → HasAllowedTexts below → IsAllowedCore (fraction rule own above below)
-fraction_allowed rule own above below h k = in_style_allowed own _ (fraction_element_allowed rule above below h k)
+fraction_element_allowed : (rule : FractionRule) (style : Style) (above below : Element) → HasAllowedTexts above → HasAllowedTexts below → HasAllowedTexts (fraction_element rule style above below)
+fraction_element_allowed Bar style above below h k = unfenced_allowed (quotient true above below) (h, k)
+fraction_element_allowed Bare style above below h k = unfenced_allowed (quotient false above below) (h, k)
+fraction_element_allowed NoBar style above below h k =
+    delimited_allowed style _ _ (quotient false above below) (allowed_plain (codes "(") refl) (allowed_plain (codes ")") refl) (h, k)
+fraction_element_allowed Braced style above below h k =
+    delimited_allowed style _ _ (quotient false above below) (allowed_plain (codes "{") refl) (allowed_plain (codes "}") refl) (h, k)
+fraction_element_allowed Bracketed style above below h k =
+    delimited_allowed style _ _ (quotient false above below) (allowed_plain (codes "[") refl) (allowed_plain (codes "]") refl) (h, k)
+
+pub fraction_allowed : (rule : FractionRule) (own : Option Style) (style : Style) (above below : Element) → HasAllowedTexts above → HasAllowedTexts below → IsAllowedCore (fraction rule own style above below)
+fraction_allowed rule own style above below h k = in_style_allowed own _ (fraction_element_allowed rule style above below h k)
 
 lowered_divider_allowed : (x : Element) → HasAllowedTexts x → HasAllowedTexts (lowered_divider x)
 lowered_divider_allowed (token t a sign_text) h = h

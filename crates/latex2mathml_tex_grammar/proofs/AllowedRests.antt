@@ -40,8 +40,8 @@ settled_allowed (Some change) style row h k = with_drawn_allowed change.look sty
 below_allowed : (upper : Option Upper) (row : Row) → IsAllowedUpper upper → IsAllowedRow row → IsAllowedRow (below upper row)
 below_allowed None row h k = k
 below_allowed (Some upper) row h k =
-    with_atom_allowed InText empty_row (fraction upper.rule None upper.element (row_element row.elements)).atom tt
-    (fraction_allowed upper.rule None upper.element (row_element row.elements) h (row_element_allowed row.elements k))
+    with_atom_allowed InText empty_row (fraction upper.rule None upper.style upper.element (row_element row.elements)).atom tt
+    (fraction_allowed upper.rule None upper.style upper.element (row_element row.elements) h (row_element_allowed row.elements k))
 
 upper_kept : (change : Option Restyled) (style : Style) (row : Row) → IsAllowedUpper row.under → IsAllowedUpper (settled_after change style row).under
 upper_kept None style row h = h

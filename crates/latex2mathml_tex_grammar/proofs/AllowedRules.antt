@@ -5,20 +5,19 @@ use Rattle.latex2mathml_elements.specs.{Attributes.Attributes, Element.Element, 
 use Rattle.latex2mathml_elements.specs.Characters.{is_forbidden, IsAllowed, HasAllowedTexts}
 use Rattle.latex2mathml_elements.proofs.{Characters.allowed_both, Characters.allowed_char, Characters.allowed_plain, Plain.IsPlain}
 use Rattle.latex2mathml_tex_grammar.specs.{Commands.meaning_of, Commands.symbol_of, Delimiters.entry_of_name, Delimiters.negated_of, Delimiters.delimiter_of, TextCommands.text_accents, TextCommands.text_commands, Dots.centered_dots, Dots.low_dots}
-use Rattle.latex2mathml_tex_grammar.specs.Fences.{Tall}
 use Rattle.latex2mathml_tex_grammar.specs.Makes.{Core, core, Scripts, letter, symbol, spacing, struck, text, in_box, raised_by, black, arrow, Outline, quotient, between_any, outlined_fraction, choice}
 use Rattle.latex2mathml_tex_grammar.specs.Refusal.{Refusal, OutsideTable, MisplacedCharacter, CharacterInWords, refusal_at}
 use Rattle.latex2mathml_tex_grammar.specs.Meaning.{Meaning, Shows, FunctionName, Dots, Spacing, Styled, Words as TakesWordsIn, Fraction, Root, Accent, Brace, Stack, StackedRelation, OperatorName, Negation, Slash, Sized, Left, Middle, Right, Limits, NoLimits, Classed, Changes, ToAlphabet, ToStyle, ToSize, Divides, ToColor, BeginTable, EndTable, LineBreak, Substack, Skip, SkipInBraces, Boxed, Smash, ContinuedFraction, GeneralFraction, Choice, Bar, FractionRule, Box, Phantom, PhantomWidth, PhantomHeight, Smashed, WithoutHeight, WithoutDepth, OverRight, OverLeft, OverBoth, Frame, StrikeUp, StrikeDown, StrikeTwice, Raise, InColor, Highlight, Rectangle, Arrow, Raised, Colored, OnColor}
 use Rattle.latex2mathml_tex_grammar.specs.{Colors.color_of, Lengths.width_of}
 use Rattle.latex2mathml_tex_grammar.specs.Atoms.{Plain}
 use Rattle.latex2mathml_tex_grammar.specs.Rows.{as_base, lone, Operand, row_element}
-use Rattle.latex2mathml_tex_grammar.specs.Rules.{Context, Rule, gives, refuses, takes_if, a_character, a_digit, decimal, after_digits, a_number, a_symbol, begins_none, character_rule, struck_atom, slashed, a_box, a_fraction, meaning_rule, command_rule, rule, with_value, a_bar, a_left_brace, a_right_brace, empty_braces, an_outer_delimiter, has_width, a_line, numbered_style, a_style, an_outlined_fraction, a_general_fraction, a_choice}
+use Rattle.latex2mathml_tex_grammar.specs.Rules.{Context, Rule, gives, refuses, takes_if, a_character, a_digit, decimal, after_digits, a_number, a_symbol, begins_none, character_rule, struck_atom, slashed, a_box, a_fraction, meaning_rule, command_rule, rule, with_value, a_bar, a_left_brace, a_right_brace, empty_braces, an_outer_delimiter, has_width, a_line, numbered_style, a_style, an_outlined_fraction, a_general_fraction, a_choice, own_style}
 use Rattle.latex2mathml_tex_grammar.specs.Starts.{OperandStart, NoStart, GroupStart, DigitStart, operand_start, start_of_digit, Mark, Prime, Below, Above as AboveMark, LimitsAt, step_of, step_of_mark}
 use Rattle.latex2mathml_tex_grammar.specs.Symbols.{InDisplay, InText, InScript, Ordinary, Relation, Alphabet, BoldItalic, Monospace, Style, Symbol}
 use Rattle.latex2mathml_tex_grammar.specs.Units.{Piece, Space, Open, Close, Command, Character}
 use Rattle.latex2mathml_tex_grammar.specs.Words.{Font, Word, font_attributes, font_in, is_in, last_font, letter_in, Shown, Formula, Accented, Changed, Resized, WordRule, IsWord, BeginsFormula, NoWord, Words, word_space, word_character, with_text, accented, with_character, end_accent, with_accent_ended, with_word, words_element, word_rule, character_rule as word_of_character, meaning_rule as word_of_meaning, accent_rule as word_of_accent, command_rule as word_of_command, shown_character}
 use Rattle.latex2mathml_tex_grammar.proofs.Allowed.{IsAllowedPiece, AreAllowedElements, IsAllowedAccent, IsAllowedElement, IsAllowedCore, IsAllowedOperand, AreAllowedScripts, AreAllowedWords, IsAllowedWord, IsAllowedWordRule, IsAllowedStep, IsAllowedRule, AreGiven}
-use Rattle.latex2mathml_tex_grammar.proofs.AllowedMakes.{letter_allowed, upright_letter_allowed, symbol_allowed, number_allowed, lone_allowed, row_element_allowed, single_allowed, struck_allowed, as_base_allowed, classed_allowed, accent_allowed, brace_allowed, stack_allowed, fraction_allowed, fenced_allowed, in_style_allowed, unfenced_allowed, between_allowed, behind_primes_allowed}
+use Rattle.latex2mathml_tex_grammar.proofs.AllowedMakes.{letter_allowed, upright_letter_allowed, symbol_allowed, number_allowed, lone_allowed, row_element_allowed, single_allowed, struck_allowed, as_base_allowed, classed_allowed, accent_allowed, brace_allowed, stack_allowed, fraction_allowed, in_style_allowed, delimited_allowed, unfenced_allowed, between_allowed, behind_primes_allowed}
 use Rattle.latex2mathml_elements.specs.Columns.{Alike, Centered, Dense}
 use Rattle.latex2mathml_elements.specs.{Groups.grouped}
 use Rattle.latex2mathml_tex_grammar.specs.Environments.{environment_of}
@@ -189,7 +188,7 @@ a_box_allowed : (place : ℕ) (c : Context) (box : Box) → IsAllowedRule (a_box
 a_box_allowed place c box = λ x k. in_box_allowed box _ (as_base_allowed c.style Ordinary x k)
 
 a_fraction_allowed : (place : ℕ) (c : Context) (rule : FractionRule) (own : Option Style) → IsAllowedRule (a_fraction place c rule own)
-a_fraction_allowed place c rule own = λ above k below i. fraction_allowed rule own above.element below.element k i
+a_fraction_allowed place c rule own = λ above k below i. fraction_allowed rule own (own_style own c.style) above.element below.element k i
 
 grouped_allowed : (x : Element) → HasAllowedTexts x → HasAllowedTexts (grouped x)
 grouped_allowed (token t a text) h = (h, tt)
@@ -216,14 +215,14 @@ quotient_allowed : (has_line : Bool) (above below : Element) → HasAllowedTexts
 quotient_allowed true above below h k = (h, k)
 quotient_allowed false above below h k = (h, k)
 
-between_any_allowed : (opening closing : List ℕ) (x : Element) → IsAllowed opening → IsAllowed closing → HasAllowedTexts x → HasAllowedTexts (between_any opening closing x)
-between_any_allowed [] [] x h k i = unfenced_allowed x i
-between_any_allowed [] (c ∷ cs) x h k i = fenced_allowed Tall [] (c ∷ cs) x h k i
-between_any_allowed (c ∷ cs) closing x h k i = fenced_allowed Tall (c ∷ cs) closing x h k i
+between_any_allowed : (style : Style) (opening closing : List ℕ) (x : Element) → IsAllowed opening → IsAllowed closing → HasAllowedTexts x → HasAllowedTexts (between_any style opening closing x)
+between_any_allowed style [] [] x h k i = unfenced_allowed x i
+between_any_allowed style [] (c ∷ cs) x h k i = delimited_allowed style [] (c ∷ cs) x h k i
+between_any_allowed style (c ∷ cs) closing x h k i = delimited_allowed style (c ∷ cs) closing x h k i
 
-outlined_allowed : (o : Outline) (above below : Element) → IsAllowedOutline o → HasAllowedTexts above → HasAllowedTexts below → IsAllowedCore (outlined_fraction o above below)
-outlined_allowed o above below (h, k) i j =
-    in_style_allowed o.own _ (between_any_allowed o.opening o.closing _ h k (quotient_allowed o.has_line above below i j))
+outlined_allowed : (o : Outline) (style : Style) (above below : Element) → IsAllowedOutline o → HasAllowedTexts above → HasAllowedTexts below → IsAllowedCore (outlined_fraction o style above below)
+outlined_allowed o style above below (h, k) i j =
+    in_style_allowed o.own _ (between_any_allowed style o.opening o.closing _ h k (quotient_allowed o.has_line above below i j))
 
 -- what is between braces
 braced_given : (given : List ℕ) → AreGiven (a_left_brace ∷ delimiter_of ∷ a_right_brace ∷ []) given → IsAllowed given
@@ -243,7 +242,7 @@ style_allowed : (place : ℕ) (more : Option Style → Rule) → ((own : Option 
 style_allowed place more h = λ number. with_value_allowed _ _ h (numbered_style number)
 
 outlined_rule_allowed : (place : ℕ) (c : Context) (o : Outline) → IsAllowedOutline o → IsAllowedRule (an_outlined_fraction place c o)
-outlined_rule_allowed place c o h = λ above i below j. outlined_allowed o above.element below.element h i j
+outlined_rule_allowed place c o h = λ above i below j. outlined_allowed o (own_style o.own c.style) above.element below.element h i j
 
 module _ (place : ℕ) (c : Context) where
   -- what follows a line, and what follows delimiters

@@ -1,9 +1,9 @@
 -- Delimiters: those around something, which may stretch, and those of one size.
 use Rattle.std.specs.Prelude.{ℕ, ◌==◌, ◌||◌, Bool, true, false, List, [], ◌∷◌, Option, Some, None, if◌then◌else◌}
 use Rattle.std.specs.Str.{chars}
-use Rattle.latex2mathml_elements.specs.Attributes.{Form, Prefix, Infix, Postfix, Stretch, Stretching, Rigid, Space, NoSpace, Thick, Size, Bigger, VeryBig, Boxing, plain}
+use Rattle.latex2mathml_elements.specs.Attributes.{Form, Prefix, Infix, Postfix, Stretch, Stretching, Rigid, Space, NoSpace, Thick, Size, Big, Bigger, VeryBig, Boxing, plain}
 use Rattle.latex2mathml_elements.specs.Element.{Mo, Mrow, Element, token, container, children}
-use Rattle.latex2mathml_tex_grammar.specs.Symbols.{Class, Opening, Closing, Relation, Style, InScript}
+use Rattle.latex2mathml_tex_grammar.specs.Symbols.{Class, Opening, Closing, Relation, Style, InDisplay, InScript}
 use Rattle.latex2mathml_tex_grammar.specs.Widths.{room}
 
 -- how high what is between delimiters is
@@ -84,3 +84,18 @@ sized_space style class = NoSpace
 abbrev pub sized_delimiter : Style → Size → Class → List ℕ → Element
 sized_delimiter style size class sign_text =
     token Mo (record plain { form = form_of class; stretch = Some Stretching; size = Some size; space = Some (sized_space style class); boxing = room size sign_text }) sign_text
+
+-- The delimiters of a fraction in this style are of one size, however high its parts are: in a block that of `\bigg`, and
+-- elsewhere that of `\big`.
+abbrev pub fraction_size : Style → Size
+fraction_size InDisplay = VeryBig
+fraction_size style = Big
+
+-- a delimiter of a fraction in this style
+abbrev pub fraction_delimiter : Style → Class → List ℕ → Element
+fraction_delimiter style class sign_text = sized_delimiter style (fraction_size style) class sign_text
+
+-- a fraction in this style between its delimiters
+abbrev pub delimited_fraction : Style → List ℕ → List ℕ → Element → Element
+delimited_fraction style opening closing x =
+    container Mrow plain (children (fraction_delimiter style Opening opening ∷ x ∷ fraction_delimiter style Closing closing ∷ []))

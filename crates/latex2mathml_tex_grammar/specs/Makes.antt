@@ -7,7 +7,7 @@ use Rattle.latex2mathml_tex_grammar.specs.{Alphabets.in_alphabet, Rows.Row, Rows
 use Rattle.latex2mathml_elements.specs.{Extents.wide, Groups.grouped}
 use Rattle.latex2mathml_tex_grammar.specs.Atoms.{Atom, Kind, SignOf, PlusOrMinus, Plain, UprightLetters, UprightIdentifier, Unspaced, Blank, Divider, After, Before, Nothing, atom, element_there}
 use Rattle.latex2mathml_tex_grammar.specs.Meaning.{FractionRule, Bar, NoBar, Braced, Bracketed, Bare, LimitPlace, Beside, ByStyle, Movable, Stacked, Box, Phantom, PhantomWidth, PhantomHeight, Smashed, WithoutHeight, WithoutDepth, OverRight, OverLeft, OverBoth, Frame, StrikeUp, StrikeDown, StrikeTwice, Raised, Colored, OnColor}
-use Rattle.latex2mathml_tex_grammar.specs.Fences.{Tall, fenced, height_if, sized_delimiter}
+use Rattle.latex2mathml_tex_grammar.specs.Fences.{delimited_fraction, fenced, height_if, sized_delimiter}
 use Rattle.latex2mathml_tex_grammar.specs.SignAttributes.{sign_attributes}
 use Rattle.latex2mathml_tex_grammar.specs.Widths.{room}
 use Rattle.latex2mathml_tex_grammar.specs.Symbols.{Class, Ordinary, Operator, Binary, Relation, Opening, Punctuation, Inner, Style, InDisplay, InText, InScript, Alphabet, Upright, Symbol, Letter, UprightLetter, Sign, BigOperator, Integral}
@@ -308,17 +308,17 @@ unfenced x = container Mrow (boxed NullDelimiters) (children (x ∷ empty_operat
 abbrev pub without_bar : Element → Element → Element
 without_bar above below = pair Mfrac (record plain { no_line = true }) above below
 
--- a fraction, and what its rule puts around it
-abbrev pub fraction_element : FractionRule → Element → Element → Element
-fraction_element Bar above below = unfenced (pair Mfrac plain above below)
-fraction_element NoBar above below = fenced Tall (codes "(") (codes ")") (without_bar above below)
-fraction_element Braced above below = fenced Tall (codes "{") (codes "}") (without_bar above below)
-fraction_element Bracketed above below = fenced Tall (codes "[") (codes "]") (without_bar above below)
-fraction_element Bare above below = unfenced (without_bar above below)
+-- a fraction in this style, and what its rule puts around it
+abbrev pub fraction_element : FractionRule → Style → Element → Element → Element
+fraction_element Bar style above below = unfenced (pair Mfrac plain above below)
+fraction_element NoBar style above below = delimited_fraction style (codes "(") (codes ")") (without_bar above below)
+fraction_element Braced style above below = delimited_fraction style (codes "{") (codes "}") (without_bar above below)
+fraction_element Bracketed style above below = delimited_fraction style (codes "[") (codes "]") (without_bar above below)
+fraction_element Bare style above below = unfenced (without_bar above below)
 
--- a fraction in a style of its own, where it has one
-abbrev pub fraction : FractionRule → Option Style → Element → Element → Core
-fraction rule own above below = core (atom (Plain Ordinary) true (in_style own (fraction_element rule above below)))
+-- a fraction in this style, which may be its own
+abbrev pub fraction : FractionRule → Option Style → Style → Element → Element → Core
+fraction rule own style above below = core (atom (Plain Ordinary) true (in_style own (fraction_element rule style above below)))
 
 -- how a fraction is drawn, as its author says: its delimiters, where an empty text is no delimiter, whether it has a line, and
 -- its style, where it has one of its own
@@ -333,15 +333,15 @@ abbrev pub quotient : Bool → Element → Element → Element
 quotient true above below = pair Mfrac plain above below
 quotient false above below = without_bar above below
 
--- an element between delimiters, or between null delimiters if there are none
-abbrev pub between_any : List ℕ → List ℕ → Element → Element
-between_any [] [] x = unfenced x
-between_any opening closing x = fenced Tall opening closing x
+-- a fraction in this style between delimiters, or between null delimiters if there are none
+abbrev pub between_any : Style → List ℕ → List ℕ → Element → Element
+between_any style [] [] x = unfenced x
+between_any style opening closing x = delimited_fraction style opening closing x
 
--- a fraction that is drawn as this says
-abbrev pub outlined_fraction : Outline → Element → Element → Core
-outlined_fraction o above below =
-    core (atom (Plain Ordinary) true (in_style o.own (between_any o.opening o.closing (quotient o.has_line above below))))
+-- a fraction that is drawn as this says, in this style
+abbrev pub outlined_fraction : Outline → Style → Element → Element → Core
+outlined_fraction o style above below =
+    core (atom (Plain Ordinary) true (in_style o.own (between_any style o.opening o.closing (quotient o.has_line above below))))
 
 -- a square root is ordinary, and high
 abbrev pub square_root : Element → Core

@@ -85,15 +85,15 @@ with_resized size c before behind = record { elements = with_drawn (look_in_size
 -- a row below what is above it, where it is the lower part of a fraction
 abbrev pub below : Option Upper → Row → Row
 below None row = row
-below (Some upper) row = with_atom InText empty_row (fraction upper.rule None upper.element (row_element row.elements)).atom
+below (Some upper) row = with_atom InText empty_row (fraction upper.rule None upper.style upper.element (row_element row.elements)).atom
 
 -- a row as the fraction whose lower part it is, where it is one
 abbrev pub whole_fraction : Row → Row
 whole_fraction row = below row.under row
 
--- the row of what is below a row, before its first atom
-abbrev pub begun_below : FractionRule → Row → Row
-begun_below rule row = record empty_row { under = Some (record { rule = rule; element = row_element row.elements }) }
+-- the row of what is below a row, before its first atom, where both are a fraction in this style
+abbrev pub begun_below : FractionRule → Style → Row → Row
+begun_below rule style row = record empty_row { under = Some (record { rule = rule; style = style; element = row_element row.elements }) }
 
 -- elements after a change that these precede: if there are none, a sign that is all of the row has no space
 abbrev pub alone_behind : List Element → Kind → List Element → List Element
@@ -130,7 +130,8 @@ context_below c look = record c { style = smaller look.group; size = look.group_
 -- one such fraction.
 abbrev pub rest_below : FractionRule → Context → Row → ℕ → Units → Option Upper → Rest
 rest_below rule c row place l None =
-    GoesOnIn (context_below c (look_after row.restyled c)) (begun_below rule (settled c.style (with_operand_ended row))) l
+    let look = look_after row.restyled c in
+    GoesOnIn (context_below c look) (begun_below rule look.group (settled c.style (with_operand_ended row))) l
 rest_below rule c row place l (Some upper) = NoRest (refusal_at SecondInfix place)
 
 -- what follows is in the color of this name, where there is one

@@ -23,9 +23,10 @@ pub record Restyled : Type 0 where
   -- the look of what follows
   pub look : Look
 
--- the upper part of a fraction
+-- the upper part of a fraction, which is in this style
 pub record Upper : Type 0 where
   pub rule : FractionRule
+  pub style : Style
   pub element : Element
 
 -- what was read of a row

@@ -182,7 +182,9 @@ own_style (Some own) style = own
 -- a fraction, whose parts are in a smaller style
 abbrev pub a_fraction : ℕ → Context → FractionRule → Option Style → Rule
 a_fraction place c rule own =
-    let part = styled c (smaller (own_style own c.style)) in of_two place part part (λ above below. fraction rule own above.element below.element)
+    let style = own_style own c.style in
+    let part = styled c (smaller style) in
+    of_two place part part (λ above below. fraction rule own style above.element below.element)
 
 -- a root, whose degree is in square brackets
 abbrev pub a_root : ℕ → Context → Rule
@@ -406,7 +408,9 @@ an_outline place more =
 -- the two parts of a fraction that is drawn as this says
 abbrev pub an_outlined_fraction : ℕ → Context → Outline → Rule
 an_outlined_fraction place c o =
-    let part = styled c (smaller (own_style o.own c.style)) in of_two place part part (λ above below. outlined_fraction o above.element below.element)
+    let style = own_style o.own c.style in
+    let part = styled c (smaller style) in
+    of_two place part part (λ above below. outlined_fraction o style above.element below.element)
 
 -- a fraction by `\genfrac`
 abbrev pub a_general_fraction : ℕ → Context → Rule

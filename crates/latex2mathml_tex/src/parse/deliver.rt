@@ -117,12 +117,16 @@ impl<'a> Parser<'a> {
         let outer = self.frames.innermost(self.style).context();
         self.open(
             match first {
-                First::Fraction(rule, own) => Frame::Last(
-                    Last::Fraction(rule, own),
+                First::Fraction(rule, own, style) => Frame::Last(
+                    Last::Fraction(rule, own, style),
                     place,
                     context,
                 ),
-                First::Outlined(outline) => Frame::Last(Last::Outlined(outline), place, context),
+                First::Outlined(outline, style) => Frame::Last(
+                    Last::Outlined(outline, style),
+                    place,
+                    context,
+                ),
                 First::Stack(side) => Frame::Last(Last::Stack(side, outer.style), place, outer),
                 First::StackedRelation => Frame::Last(
                     Last::StackedRelation(outer.style),
@@ -212,13 +216,13 @@ impl<'a> Parser<'a> {
                 *next = State::Core(ordinary(operand.high));
                 Ok(())
             }
-            Last::Fraction(rule, own) => {
-                put_fraction(&mut self.builder, rule, own)?;
+            Last::Fraction(rule, own, style) => {
+                put_fraction(&mut self.builder, rule, own, style)?;
                 *next = State::Core(ordinary(true));
                 Ok(())
             }
-            Last::Outlined(outline) => {
-                put_outlined(&mut self.builder, outline)?;
+            Last::Outlined(outline, style) => {
+                put_outlined(&mut self.builder, outline, style)?;
                 *next = State::Core(ordinary(true));
                 Ok(())
             }

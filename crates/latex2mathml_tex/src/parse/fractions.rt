@@ -51,9 +51,10 @@ impl<'a> Parser<'a> {
             self.old self.new next.new result }
         ensures step { Advances 10 self.old self.new next.new result }
     {
-        let style = own.unwrap_or(context.style).smaller();
+        let style = own.unwrap_or(context.style);
+        let part = context.styled(style.smaller());
         self.open(
-            Frame::First(First::Fraction(rule, own), place, context.styled(style)),
+            Frame::First(First::Fraction(rule, own, style), place, part),
             next,
         )
     }

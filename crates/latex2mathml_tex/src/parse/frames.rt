@@ -36,10 +36,10 @@ pub(crate) enum Last {
     Classed(Class, Style),
     /// An ordinary atom in a box, in this style.
     Boxed(OperandBox, Style),
-    /// A denominator; the numerator is the element below.
-    Fraction(FractionRule, Option<Style>),
-    /// A denominator, where the author says how the fraction is drawn; the numerator is the element below.
-    Outlined(Outline),
+    /// A denominator of a fraction in this style, which may be its own; the numerator is the element below.
+    Fraction(FractionRule, Option<Style>, Style),
+    /// A denominator of a fraction in this style, where the author says how it is drawn; the numerator is the element below.
+    Outlined(Outline, Style),
     /// A base, in this style; its mark is the element below.
     Stack(Side, Style),
     /// A base, in this style; what is shown above it is the element below.
@@ -56,10 +56,10 @@ pub(crate) enum Last {
 /// What an operand is that others follow.
 #[derive(Clone, Copy)]
 pub(crate) enum First {
-    /// A numerator.
-    Fraction(FractionRule, Option<Style>),
-    /// A numerator, where the author says how the fraction is drawn.
-    Outlined(Outline),
+    /// A numerator of a fraction in this style, which may be its own.
+    Fraction(FractionRule, Option<Style>, Style),
+    /// A numerator of a fraction in this style, where the author says how it is drawn.
+    Outlined(Outline, Style),
     /// A mark.
     Stack(Side),
     /// What is shown above a relation.

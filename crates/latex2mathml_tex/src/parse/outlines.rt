@@ -36,9 +36,10 @@ impl<'a> Parser<'a> {
             *next = State::Refused;
             return Ok(());
         };
-        let style = outline.own.unwrap_or(context.style).smaller();
+        let style = outline.own.unwrap_or(context.style);
+        let part = context.styled(style.smaller());
         self.open(
-            Frame::First(First::Outlined(outline), place, context.styled(style)),
+            Frame::First(First::Outlined(outline, style), place, part),
             next,
         )
     }

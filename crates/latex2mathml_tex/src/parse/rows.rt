@@ -17,7 +17,7 @@ use latex2mathml_attributes::tag::Container;
 use latex2mathml_tex_atoms::arrows::put_label_row;
 use latex2mathml_tex_atoms::atoms::{Context, Core, Kind, Operand, Row, Scripts, Words};
 use latex2mathml_tex_atoms::delimiters::{Height, enclose, lower_dividers, put_divider};
-use latex2mathml_tex_atoms::rests::{Look, begin_anew, divide, finish};
+use latex2mathml_tex_atoms::rests::{Division, Look, begin_anew, divide, finish};
 use latex2mathml_tex_atoms::shapes::{isolate, ordinary_kind, put_braced, put_row, with_atom};
 use latex2mathml_tex_commands::commands;
 use latex2mathml_tex_commands::meaning::{Change, Class, LimitPlace, Meaning, Style};
@@ -154,8 +154,13 @@ impl<'a> Parser<'a> {
                     Ok(())
                 }
                 None => {
-                    let below = row.look(context).context_below(context);
-                    let row = divide(&mut self.builder, context.style, row, rule)?;
+                    let look = row.look(context);
+                    let below = look.context_below(context);
+                    let fraction = Division {
+                        rule,
+                        style: look.group,
+                    };
+                    let row = divide(&mut self.builder, context.style, row, fraction)?;
                     self.open(Frame::Row(ending, at, below, row), next)
                 }
             },

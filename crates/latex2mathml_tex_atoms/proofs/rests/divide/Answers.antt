@@ -10,7 +10,7 @@ pub returns-clause-row : goal.returns-clause-row
 returns-clause-row c =
     let style = style_of c.args.style in
     rw (c.empty.ensures, c.in_ok-put_row.ensures)
-    (ap (begun_below (fraction_rule_of c.args.rule)) (c.in_ok-whole.ensures.row ∙ ap (Rests.settled style) c.end_operand-row.ensures.row))
+    (ap (begun_below (fraction_rule_of c.args.fraction.rule) (style_of c.args.fraction.style)) (c.in_ok-whole.ensures.row ∙ ap (Rests.settled style) c.end_operand-row.ensures.row))
 
 pub returns-clause-below : goal.returns-clause-below
 returns-clause-below c =

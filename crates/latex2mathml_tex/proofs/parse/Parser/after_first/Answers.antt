@@ -12,8 +12,8 @@ returns-clause-holds c = λ s g.
     let place = c.args.place in
     let outer : IsOuter s p one place c.args.context operand c.context-outer.result = (c.innermost.result, c.context-outer.ensures, c.innermost.ensures) in
     let due : Leads (level_within c.match-first.open 0 s p) (left_of p) = elim c.match-first.branch [
-      | in-Fraction w ↦ rw w.open-is (denominator_due s p one place c.args.context operand w.in-Fraction.rule w.in-Fraction.own w.in-Fraction.is g)
-      | in-Outlined w ↦ rw w.open-is (outlined_due s p one place c.args.context operand w.in-Outlined.outline w.in-Outlined.is g)
+      | in-Fraction w ↦ rw w.open-is (denominator_due s p one place c.args.context operand w.in-Fraction.rule w.in-Fraction.own w.in-Fraction.style w.in-Fraction.is g)
+      | in-Outlined w ↦ rw w.open-is (outlined_due s p one place c.args.context operand w.in-Outlined.outline w.in-Outlined.style w.in-Outlined.is g)
       | in-Stack w ↦ rw w.open-is (base_due s p one place c.args.context operand w.in-Stack.side c.context-outer.result w.in-Stack.is outer g)
       | in-StackedRelation w ↦ rw w.open-is (relation_due s p one place c.args.context operand c.context-outer.result w.in-StackedRelation.is outer g)
       | in-InBlock w ↦ rw w.open-is (line_due s p one place c.args.context operand w.in-InBlock.is g)

@@ -1,6 +1,6 @@
 use Rattle.std.proofs.Common.{◌≡◌, ◌∙◌, ◌+◌, ℕ, List, Option, Some, ap, arith, drop, option_map, refl, subst, sum_by, sym, true}
 use Rattle.latex2mathml_tex_grammar.specs.Refusal.{SecondInfix, UnknownColor, refusal_at}
-use Rattle.latex2mathml_tex_grammar.specs.Rows.{with_operand_ended}
+use Rattle.latex2mathml_tex_grammar.specs.Rows.{Look, with_operand_ended}
 use Rattle.latex2mathml_tex_grammar.specs.Rests.{GoesOnIn, NoRest, begun_anew, begun_below, context_below, look_after, recolored, resized, rest_of, restyled, settled, with_size}
 use Rattle.latex2mathml_tex_grammar.specs.Rules.{in_size, lettered, styled}
 use Rattle.latex2mathml_tex_commands.specs.Meanings.{alphabet_of, change_of, fraction_rule_of, style_of, text_size_of}
@@ -86,11 +86,15 @@ returns-in_ok-row-in-None-clause-holds c = λ s g.
     let new = c.in_ok-row-in-None in
     let whole = row_with row (elements_of p) in
     let rule = fraction_rule_of c.in-Divides.rule in
-    let inner = context_below (context_of context) (look_after whole.restyled (context_of context)) in
-    let begun = begun_below rule (settled (style_of context.style) (with_operand_ended whole)) in
+    let look = look_after whole.restyled (context_of context) in
+    let inner = context_below (context_of context) look in
+    let above = settled (style_of context.style) (with_operand_ended whole) in
+    let begun = begun_below rule look.group above in
     let rest : rest_of (change_of c.args.change) (context_of context) whole c.args.place (left_of p) ≡ GoesOnIn inner begun (left_of p) = rw (c.in-Divides.is, c.in-None.is) refl in
-    let same = c.context_below-below.ensures ∙ ap (context_below (context_of context)) (c.look-in-None.ensures (elements_of p)) in
-    c.open-in-None.ensures.holds s g.style (rest_begins p c.take.new.self c.take.result c.in-Row.ending c.in-Row.at context row c.take.ensures c.in-Row.is s (change_of c.args.change) c.args.place g c.context_below-below.result inner new.row (elements_of (record p { builder = c.divide.new.builder })) begun (left_of p) same new.ensures.row new.ensures.below rest)
+    let look_is = c.look-look.ensures (elements_of p) in
+    let same = c.context_below-below.ensures ∙ ap (context_below (context_of context)) look_is in
+    let row_is = new.ensures.row ∙ ap (λ (l : Look). begun_below rule l.group above) look_is in
+    c.open-in-None.ensures.holds s g.style (rest_begins p c.take.new.self c.take.result c.in-Row.ending c.in-Row.at context row c.take.ensures c.in-Row.is s (change_of c.args.change) c.args.place g c.context_below-below.result inner new.row (elements_of (record p { builder = c.divide.new.builder })) begun (left_of p) same row_is new.ensures.below rest)
 
 pub returns-in-ToAlphabet-clause-step : goal.returns-in-ToAlphabet-clause-step
 returns-in-ToAlphabet-clause-step c =

@@ -36,11 +36,12 @@ returns-clause-holds c = λ s g.
     let around = context_of c.args.context in
     let took = subst (λ (x : Option Outline). TookBy (an_outline place) p q (option_map outline_of x)) c.in-Some.is c.in_ok-outline.ensures in
     let begins = handed_on (an_outline place) p q (outline_of outline) s (an_outlined_fraction place (context_of c.args.context)) took g in
-    let chosen : style_of c.unwrap_or.result ≡ own_style own (style_of c.args.context.style) = ap style_of c.unwrap_or.ensures ∙ own_style_is outline.own c.args.context.style in
-    let style : smaller (own_style own (style_of c.args.context.style)) ≡ style_of c.smaller-style.result = sym (c.smaller-style.ensures ∙ ap smaller chosen) in
-    let part = styled around (style_of c.smaller-style.result) in
-    let due = subst (λ st. Begins (of_two place (styled around st) (styled around st) (λ above below. outlined_fraction (outline_of outline) above.element below.element)) 0 s q) style begins in
-    c.open.ensures.holds s due.style (rw c.styled.ensures (operand_due (after_first (first.Outlined outline) place part (context_at (level 0 s q)) (elements_of q)) due.leads))
+    let code = c.unwrap_or-style.result in
+    let style : own_style own (style_of c.args.context.style) ≡ style_of code = sym (ap style_of c.unwrap_or-style.ensures ∙ own_style_is outline.own c.args.context.style) in
+    let part = styled around (style_of c.smaller.result) in
+    let chosen = subst (λ st. Begins (of_two place (styled around (smaller st)) (styled around (smaller st)) (λ above below. outlined_fraction (outline_of outline) st above.element below.element)) 0 s q) style begins in
+    let due = subst (λ st. Begins (of_two place (styled around st) (styled around st) (λ above below. outlined_fraction (outline_of outline) (style_of code) above.element below.element)) 0 s q) (sym c.smaller.ensures) chosen in
+    c.open.ensures.holds s due.style (rw c.styled-part.ensures (operand_due (after_first (first.Outlined outline code) place part (context_at (level 0 s q)) (elements_of q)) due.leads))
 
 pub returns-clause-step : goal.returns-clause-step
 returns-clause-step c =

@@ -16,8 +16,9 @@ returns-clause-holds c = λ s g.
     let rule = fraction_rule_of c.args.rule in
     let own = option_map style_of c.args.own in
     let around = context_of c.args.context in
-    let chosen : style_of c.unwrap_or.result ≡ own_style own (style_of c.args.context.style) = ap style_of c.unwrap_or.ensures ∙ own_style_is c.args.own c.args.context.style in
-    let style : smaller (own_style own (style_of c.args.context.style)) ≡ style_of c.smaller-style.result = sym (c.smaller-style.ensures ∙ ap smaller chosen) in
-    let part = styled around (style_of c.smaller-style.result) in
-    let begins = subst (λ st. Begins (of_two place (styled around st) (styled around st) (λ above below. fraction rule own above.element below.element)) 0 s p) style g in
-    c.open.ensures.holds s g.style (rw c.styled.ensures (operand_due (after_first (first.Fraction c.args.rule c.args.own) place part (context_at (level 0 s p)) (elements_of p)) begins.leads))
+    let code = c.unwrap_or-style.result in
+    let style : own_style own (style_of c.args.context.style) ≡ style_of code = sym (ap style_of c.unwrap_or-style.ensures ∙ own_style_is c.args.own c.args.context.style) in
+    let part = styled around (style_of c.smaller.result) in
+    let chosen = subst (λ st. Begins (of_two place (styled around (smaller st)) (styled around (smaller st)) (λ above below. fraction rule own st above.element below.element)) 0 s p) style g in
+    let begins = subst (λ st. Begins (of_two place (styled around st) (styled around st) (λ above below. fraction rule own (style_of code) above.element below.element)) 0 s p) (sym c.smaller.ensures) chosen in
+    c.open.ensures.holds s g.style (rw c.styled-part.ensures (operand_due (after_first (first.Fraction c.args.rule c.args.own code) place part (context_at (level 0 s p)) (elements_of p)) begins.leads))
