@@ -34,7 +34,7 @@ use Rattle.latex2mathml_tex_units.specs.declared.unit.Next.TheVariants as next
 use Rattle.latex2mathml_tex_units.specs.declared.unit.Piece.TheVariants as piece
 use Rattle.latex2mathml_tex.proofs.Leading.{core_ended, core_halted, digit_due, group_due, negated_due, none_due, operand_ended, operand_halted, other_due, refused, row_due, words_due}
 use Rattle.latex2mathml_tex.proofs.Marks.{core_refuses}
-use Rattle.latex2mathml_tex_units.proofs.Nexts.{no_more_past_space}
+use Rattle.latex2mathml_tex_grammar.proofs.Shrinking.{no_more_past_space}
 use Rattle.latex2mathml_tex.proofs.Opening.{begins_in, context_is, out_of_frame, pushed}
 use Rattle.latex2mathml_tex.proofs.Taken.{pushed_can, pushed_weight}
 

@@ -20,7 +20,8 @@ use Rattle.latex2mathml_tex.specs.declared.parse.Parser.{Parser}
 use Rattle.latex2mathml_tex.specs.declared.parse.State.TheVariants as state
 use Rattle.latex2mathml_tex.specs.declared.parse.endings.Ending.TheVariants as ending
 use Rattle.latex2mathml_tex.proofs.Leading.{delimited, given, undelimited}
-use Rattle.latex2mathml_tex_units.proofs.Nexts.{no_more_past_space, no_more_taken}
+use Rattle.latex2mathml_tex_grammar.proofs.Shrinking.{no_more_past_space}
+use Rattle.latex2mathml_tex_units.proofs.Nexts.{no_more_taken}
 use Rattle.latex2mathml_tex.proofs.Marks.{all_refuse, core_refuses}
 
 -- The first elements changed

@@ -25,7 +25,7 @@ use Rattle.latex2mathml_tex.specs.declared.parse.endings.Ending.TheVariants as e
 use Rattle.latex2mathml_tex.specs.declared.parse.frames.Frame.TheVariants as frame
 use Rattle.latex2mathml_tex_grammar.proofs.Spaces.{next_stays}
 use Rattle.latex2mathml_tex.proofs.Leading.{row_ended, row_ends_text, row_stopped, row_unended}
-use Rattle.latex2mathml_tex_units.proofs.Nexts.{no_more_past_space}
+use Rattle.latex2mathml_tex_grammar.proofs.Shrinking.{no_more_past_space}
 use Rattle.latex2mathml_tex.proofs.{Marks.all_refuse, Opening.into_frame, Opening.out_of_frame, Rows.others_await, Rows.step_within, Rows.weighed, Wording.one_innermost}
 
 -- the elements of a row and of the frames around it are among those of all frames

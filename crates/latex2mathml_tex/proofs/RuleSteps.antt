@@ -14,7 +14,7 @@ use Rattle.latex2mathml_tex_commands.specs.declared.meaning.Style.{Style}
 use Rattle.latex2mathml_tex_atoms.specs.declared.atoms.Context.{Context}
 use Rattle.latex2mathml_tex.specs.declared.{parse.Parser.Parser, parse.State.State}
 use Rattle.latex2mathml_tex.specs.declared.parse.State.TheVariants as state
-use Rattle.latex2mathml_tex_units.proofs.Nexts.{no_more_past_space}
+use Rattle.latex2mathml_tex_grammar.proofs.Shrinking.{no_more_past_space}
 use Rattle.latex2mathml_tex.proofs.{Leading.delimited, Leading.refused, Marks.core_refuses, Rows.refused_here, Rows.refused_step}
 
 -- the context no longer matters

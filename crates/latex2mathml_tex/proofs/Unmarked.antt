@@ -4,7 +4,7 @@ use Rattle.latex2mathml_tex_grammar.specs.{Next.past_space, Starts.mark_of}
 use Rattle.latex2mathml_tex_units.specs.{Left.put_back, Left.unit_count, Left.units_at, Left.units_behind, Taking.piece_of}
 use Rattle.latex2mathml_tex_units.specs.declared.{input.Input.Input, unit.Next.Next as CodeNext, unit.Unit.Unit}
 use Rattle.latex2mathml_tex_units.specs.declared.unit.Next.TheVariants as next
-use Rattle.latex2mathml_tex_units.proofs.Nexts.{no_more_past_space}
+use Rattle.latex2mathml_tex_grammar.proofs.Shrinking.{no_more_past_space}
 use Rattle.latex2mathml_tex_atoms.specs.declared.atoms.Core.{Core}
 use Rattle.latex2mathml_tex.specs.{RowSymbols.lone_scripts, Frames.Start}
 use Rattle.latex2mathml_tex.specs.Innermost.{IsLonger, on_top}

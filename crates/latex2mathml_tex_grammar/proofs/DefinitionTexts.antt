@@ -2,7 +2,7 @@
 use Rattle.std.proofs.Common.{ℕ, zero, suc, ◌<◌, ◌≤◌, ◌≡◌, ◌||◌, Option, Some, None, refl, sym, ap, subst, ◌∙◌, arith}
 use Rattle.latex2mathml_tex_grammar.specs.Definitions.{Word, word_of, Definition, definition_of, behind_definition}
 use Rattle.latex2mathml_tex_grammar.specs.DefinitionTexts.{is_prefix, past_prefixes, ReadsDefinitions, no_more, stopped, defines, no_definition, definition_refused}
-use Rattle.latex2mathml_tex_grammar.specs.{ExpansionLaws.HaveOneTable, Macros.Table, Macros.count, Next.is_space_piece, Reading.Outcome, Reading.Read, Reading.Refused, Refusal.Refusal}
+use Rattle.latex2mathml_tex_grammar.specs.{ExpansionLaws.HaveOneTable, Macros.Table, Macros.unit_count, Next.is_space_piece, Reading.Outcome, Reading.Read, Reading.Refused, Refusal.Refusal}
 use Rattle.latex2mathml_tex_grammar.specs.Units.{Unit, Units, Next, End, Stop}
 use Rattle.latex2mathml_tex_grammar.proofs.Choices.{of_either}
 use Rattle.latex2mathml_tex_grammar.proofs.Shrinking.{Leaves, definition_leaves}
@@ -74,14 +74,14 @@ one_table (definition_refused e w g) (definition_refused e' w' g') = ap Refused 
 
 -- there is an outcome
 
-pub count-past_prefixes : (l : Units) → count (past_prefixes l) ≤ count l
-count-past_prefixes (Next u l) =
-    let less = count-past_prefixes l in of_either (λ m. count m ≤ suc (count l)) (is_space_piece u.piece || is_prefix u.piece) (omega (arith, less)) (omega arith)
-count-past_prefixes (End place) = omega arith
-count-past_prefixes (Stop r) = omega arith
+pub no_more_past_prefixes : (l : Units) → unit_count (past_prefixes l) ≤ unit_count l
+no_more_past_prefixes (Next u l) =
+    let less = no_more_past_prefixes l in of_either (λ m. unit_count m ≤ suc (unit_count l)) (is_space_piece u.piece || is_prefix u.piece) (omega (arith, less)) (omega arith)
+no_more_past_prefixes (End place) = omega arith
+no_more_past_prefixes (Stop r) = omega arith
 
 some_behind : (n : ℕ) (table : Table) (l m : Units) (u : Unit) (found : Option Word) (o : Word → Outcome Definition) → past_prefixes l ≡ Next u m → word_of u.piece ≡ found → ((word : Word) → definition_of word u.place m ≡ o word) → ((word : Word) → Leaves n (o word))
-    → ((t : Table) (k : Units) → count k ≤ n → (p : Outcome Table) × ReadsDefinitions t k p)
+    → ((t : Table) (k : Units) → unit_count k ≤ n → (p : Outcome Table) × ReadsDefinitions t k p)
     → (p : Outcome Table) × ReadsDefinitions table l p
 some_behind n table l m u None o e w f h more = (_, no_definition e w)
 some_behind n table l m u (Some word) o e w f h more = with_outcome (o word) (f word) (h word)
@@ -90,16 +90,16 @@ some_behind n table l m u (Some word) o e w f h more = with_outcome (o word) (f 
     with_outcome (Read d k) g less = (let rest = more (behind_definition word d table) k less in (rest.0, defines e w g rest.1))
     with_outcome (Refused r) g less = (Refused r, definition_refused e w g)
 
-some_seen : (n : ℕ) (table : Table) (l p : Units) → past_prefixes l ≡ p → count p < suc n
-    → ((t : Table) (k : Units) → count k < n → (p : Outcome Table) × ReadsDefinitions t k p)
+some_seen : (n : ℕ) (table : Table) (l p : Units) → past_prefixes l ≡ p → unit_count p < suc n
+    → ((t : Table) (k : Units) → unit_count k < n → (p : Outcome Table) × ReadsDefinitions t k p)
     → (p : Outcome Table) × ReadsDefinitions table l p
-some_seen n table l (Next u m) e h more = some_behind (count m) table l m u (word_of u.piece) (λ word. definition_of word u.place m) e refl (λ word. refl) (λ word. definition_leaves word u.place m) (λ t k less. more t k (omega (arith, h, less)))
+some_seen n table l (Next u m) e h more = some_behind (unit_count m) table l m u (word_of u.piece) (λ word. definition_of word u.place m) e refl (λ word. refl) (λ word. definition_leaves word u.place m) (λ t k less. more t k (omega (arith, h, less)))
 some_seen n table l (End place) e h more = (_, no_more e)
 some_seen n table l (Stop r) e h more = (_, stopped e)
 
-some_table : (n : ℕ) (table : Table) (l : Units) → count l < n → (p : Outcome Table) × ReadsDefinitions table l p
+some_table : (n : ℕ) (table : Table) (l : Units) → unit_count l < n → (p : Outcome Table) × ReadsDefinitions table l p
 some_table zero table l h = absurd (omega (arith, h))
-some_table (suc n) table l h = some_seen n table l (past_prefixes l) refl (omega (arith, h, count-past_prefixes l)) (some_table n)
+some_table (suc n) table l h = some_seen n table l (past_prefixes l) refl (omega (arith, h, no_more_past_prefixes l)) (some_table n)
 
 pub have_one_table : HaveOneTable
-have_one_table = λ table l. record { some = some_table (suc (count l)) table l (omega arith); one = λ o p d e. one_table d e }
+have_one_table = λ table l. record { some = some_table (suc (unit_count l)) table l (omega arith); one = λ o p d e. one_table d e }

@@ -8,7 +8,7 @@ use Rattle.latex2mathml_tex_grammar.specs.Arguments.{and_then, macro_arguments}
 use Rattle.latex2mathml_tex_grammar.specs.Expansion.{form_of, used_form, Role, Uses, Defines, Stands, word_role, own_role, macro_role, found_role, role_of, Turn, Stays, Turns, Fails, replaced, with_arguments, used, defined, turn_of, turn, Expands, at_end, at_stop, stays, turns, fails}
 use Rattle.latex2mathml_tex_grammar.specs.Expanding.{expansion}
 use Rattle.latex2mathml_tex_grammar.specs.ExpansionLaws.{AliasesStand, AllStand, HaveOneExpansion, AreExpanded, IsSpacePassed}
-use Rattle.latex2mathml_tex_grammar.specs.Macros.{Part, Macro, Table, alias, macro_of, macro_with_default, with_macro, put, before, count}
+use Rattle.latex2mathml_tex_grammar.specs.Macros.{Part, Macro, Table, alias, macro_of, macro_with_default, with_macro, put, before, unit_count}
 use Rattle.latex2mathml_tex_grammar.specs.{Next.past_space, Reading.Outcome, Reading.Read, Reading.Refused, Refusal.Refusal, Refusal.TooManyExpansions, Refusal.refusal_at}
 use Rattle.latex2mathml_tex_grammar.specs.Units.{Piece, Space, Open, Close, Command, Character, Unit, Units, Next, End, Stop}
 use Rattle.latex2mathml_tex_grammar.proofs.{Choices.of_found, MacrosUsed.of_used_macro}
@@ -207,12 +207,12 @@ behind table next uses room uses_left room_left u l n m h e d =
     let rest : Expands next uses_left room_left n (expansion next uses_left room_left n) = is_expanded next uses_left room_left n in
     subst (AllStand next) (expands_once (turns e rest) d) (done next (now next h) rest)
 
-most : {table : Table} {uses room : ℕ} {l m : Units} → Expands table uses room l m → count m ≤ count l + room
+most : {table : Table} {uses room : ℕ} {l m : Units} → Expands table uses room l m → unit_count m ≤ unit_count l + room
 most at_end = omega arith
 most at_stop = omega arith
 most (stays e d) = omega (arith, most d)
 most (turns {table = table} {uses = uses} {room = room} {u = u} {l = l} e d) =
-    let less = subst (Shrinks (count l + room)) e (turn_shrinks (role_of table u.piece) table uses room u l) in
+    let less = subst (Shrinks (unit_count l + room)) e (turn_shrinks (role_of table u.piece) table uses room u l) in
     omega (arith, less, most d)
 most (fails e) = omega arith
 

@@ -6,7 +6,7 @@ use Rattle.latex2mathml_tex_grammar.specs.Arguments.{macro_arguments}
 use Rattle.latex2mathml_tex_grammar.specs.Definitions.{Word, Definition, definition_of}
 use Rattle.latex2mathml_tex_grammar.specs.Expanding.{turned, expansion_within, expansion}
 use Rattle.latex2mathml_tex_grammar.specs.Expansion.{form_of, used_form, Role, Uses, Defines, Stands, role_of, Turn, Stays, Turns, Fails, replaced, with_arguments, used, defined, turn_of, turn, Expands, at_end, at_stop, stays, turns, fails}
-use Rattle.latex2mathml_tex_grammar.specs.Macros.{Part, Macro, Table, put, count}
+use Rattle.latex2mathml_tex_grammar.specs.Macros.{Part, Macro, Table, put, unit_count}
 use Rattle.latex2mathml_tex_grammar.specs.{Reading.Outcome, Reading.Read, Reading.Refused, Refusal.Refusal}
 use Rattle.latex2mathml_tex_grammar.specs.Units.{Piece, Unit, unit, Units, Next, End, Stop}
 use Rattle.latex2mathml_tex_grammar.proofs.Choices.{of_chosen}
@@ -15,10 +15,10 @@ use Rattle.latex2mathml_tex_grammar.proofs.Shrinking.{Leaves, form_leaves, macro
 -- what is expanded instead, with what can still be put, is at most n units
 abbrev pub Shrinks : ℕ → Turn → Type 0
 Shrinks n (Stays piece) = ⊤
-Shrinks n (Turns table uses room l) = count l + room ≤ n
+Shrinks n (Turns table uses room l) = unit_count l + room ≤ n
 Shrinks n (Fails r) = ⊤
 
-replaced_shrinks : (n : ℕ) (table : Table) (uses room : ℕ) (u : Unit) (us : List Unit) (l : Units) → count l + room ≤ n → Shrinks n (replaced table uses room u us l)
+replaced_shrinks : (n : ℕ) (table : Table) (uses room : ℕ) (u : Unit) (us : List Unit) (l : Units) → unit_count l + room ≤ n → Shrinks n (replaced table uses room u us l)
 replaced_shrinks n table uses room u us l h = of_chosen (Shrinks n) (nat_lt room (length us)) (λ e. tt) (λ e.
     let fits : length us ≤ room = grind (arith, nat_tests) in
     omega (arith, h, fits, count-before us l))
@@ -27,32 +27,32 @@ with_arguments_shrinks : (n k : ℕ) (table : Table) (uses room : ℕ) (u : Unit
 with_arguments_shrinks n k table uses room u parts (Read args l) left h = replaced_shrinks n table uses room u (put args u.place parts) l (omega (arith, left, h))
 with_arguments_shrinks n k table uses room u parts (Refused r) left h = tt
 
-form_shrinks : (n : ℕ) (table : Table) (uses room : ℕ) (u : Unit) (f : Macro × Units) → count f.1 + room ≤ n → Shrinks n (used_form table uses room u f)
-form_shrinks n table uses room u (m, l) h = with_arguments_shrinks n (count l) table uses room u m.body (macro_arguments m u.place l) (macro_arguments_leave m u.place l) h
+form_shrinks : (n : ℕ) (table : Table) (uses room : ℕ) (u : Unit) (f : Macro × Units) → unit_count f.1 + room ≤ n → Shrinks n (used_form table uses room u f)
+form_shrinks n table uses room u (m, l) h = with_arguments_shrinks n (unit_count l) table uses room u m.body (macro_arguments m u.place l) (macro_arguments_leave m u.place l) h
 
-used_shrinks : (table : Table) (uses room : ℕ) (u : Unit) (m : Macro) (l : Units) → Shrinks (count l + room) (used table uses room u m l)
+used_shrinks : (table : Table) (uses room : ℕ) (u : Unit) (m : Macro) (l : Units) → Shrinks (unit_count l + room) (used table uses room u m l)
 used_shrinks table zero room u m l = tt
-used_shrinks table (suc uses) room u m l = form_shrinks (count l + room) table uses room u (form_of m l) (omega (arith, form_leaves m l))
+used_shrinks table (suc uses) room u m l = form_shrinks (unit_count l + room) table uses room u (form_of m l) (omega (arith, form_leaves m l))
 
 defined_shrinks : (n k : ℕ) (table : Table) (uses room : ℕ) (word : Word) (o : Outcome Definition) → Leaves k o → k + room ≤ n → Shrinks n (defined table uses room word o)
 defined_shrinks n k table uses room word (Read d l) left h = omega (arith, left, h)
 defined_shrinks n k table uses room word (Refused r) left h = tt
 
-pub turn_shrinks : (role : Role) (table : Table) (uses room : ℕ) (u : Unit) (l : Units) → Shrinks (count l + room) (turn_of role table uses room u l)
+pub turn_shrinks : (role : Role) (table : Table) (uses room : ℕ) (u : Unit) (l : Units) → Shrinks (unit_count l + room) (turn_of role table uses room u l)
 turn_shrinks (Uses m) table uses room u l = used_shrinks table uses room u m l
-turn_shrinks (Defines word) table uses room u l = defined_shrinks (count l + room) (count l) table uses room word (definition_of word u.place l) (definition_leaves word u.place l) (omega arith)
+turn_shrinks (Defines word) table uses room u l = defined_shrinks (unit_count l + room) (unit_count l) table uses room word (definition_of word u.place l) (definition_leaves word u.place l) (omega arith)
 turn_shrinks (Stands piece) table uses room u l = tt
 
 -- Units have an expansion
 
-turned_expands : (n : ℕ) (table : Table) (uses room : ℕ) (u : Unit) (l : Units) (t : Turn) → turn table uses room u l ≡ t → Shrinks (count l + room) t → count l + room < n
-    → ((table : Table) (uses room : ℕ) (l : Units) → count l + room < n → Expands table uses room l (expansion_within n table uses room l))
+turned_expands : (n : ℕ) (table : Table) (uses room : ℕ) (u : Unit) (l : Units) (t : Turn) → turn table uses room u l ≡ t → Shrinks (unit_count l + room) t → unit_count l + room < n
+    → ((table : Table) (uses room : ℕ) (l : Units) → unit_count l + room < n → Expands table uses room l (expansion_within n table uses room l))
     → Expands table uses room (Next u l) (turned t table uses room u l (expansion_within n))
 turned_expands n table uses room u l (Stays piece) e s h more = stays e (more table uses room l h)
 turned_expands n table uses room u l (Turns next uses_left room_left m) e s h more = turns e (more next uses_left room_left m (omega (arith, s, h)))
 turned_expands n table uses room u l (Fails r) e s h more = fails e
 
-expands_within : (n : ℕ) (table : Table) (uses room : ℕ) (l : Units) → count l + room < n → Expands table uses room l (expansion_within n table uses room l)
+expands_within : (n : ℕ) (table : Table) (uses room : ℕ) (l : Units) → unit_count l + room < n → Expands table uses room l (expansion_within n table uses room l)
 unfolding expansion_within
 expands_within zero table uses room l h = absurd (omega (arith, h))
 expands_within (suc n) table uses room (Next u l) h = turned_expands n table uses room u l (turn table uses room u l) refl (turn_shrinks (role_of table u.piece) table uses room u l) (omega (arith, h)) (expands_within n)
@@ -61,7 +61,7 @@ expands_within (suc n) table uses room (Stop r) h = at_stop
 
 pub is_expanded : (table : Table) (uses room : ℕ) (l : Units) → Expands table uses room l (expansion table uses room l)
 unfolding expansion
-is_expanded table uses room l = expands_within (suc (count l + room)) table uses room l (omega arith)
+is_expanded table uses room l = expands_within (suc (unit_count l + room)) table uses room l (omega arith)
 
 -- Units have no other expansion
 

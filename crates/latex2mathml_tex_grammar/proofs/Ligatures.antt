@@ -1,13 +1,12 @@
 -- Ligatures: what begins one neither ends words nor changes their size, and what joins it is the same among units that are alike.
-use Rattle.std.proofs.Common.{◌≡◌, ◌==◌, ◌≤◌, ℕ, suc, Bool, true, false, IsTrue, Option, Some, None, inl, inr, refl, ap, subst, ◌∙◌, arith}
-use Rattle.std.proofs.lemmas.Bool.{cases_Bool}
-use Rattle.std.specs.{Prelude.if◌then◌else◌, Str.byte}
+use Rattle.std.proofs.Common.{◌≡◌, ◌≤◌, ℕ, suc, Bool, true, false, IsTrue, Option, Some, None, refl, ap, subst, ◌∙◌, arith}
+use Rattle.std.specs.{Prelude.if◌then◌else◌}
 use Rattle.latex2mathml_tex_grammar.specs.Ligatures.{begins_ligature, behind_joint, first_in, joined, joint, ligature, ligature_start}
-use Rattle.latex2mathml_tex_grammar.specs.{Macros.count, Starts.is_close, Symbols.Alphabet, Symbols.TextSize}
+use Rattle.latex2mathml_tex_grammar.specs.{Macros.unit_count, Starts.is_close, Symbols.Alphabet, Symbols.TextSize}
 use Rattle.latex2mathml_tex_grammar.specs.Spacing.{Standing, InWords, is_in_words, standing_behind, AreAlike, both_end, both_stop, same_piece, space_before, space_behind}
 use Rattle.latex2mathml_tex_grammar.specs.Units.{Piece, Space, Open, Close, Command, Character, Unit, Units, Next, End, Stop, is_forbidden}
 use Rattle.latex2mathml_tex_grammar.specs.Words.{Changed, Font, IsWord, Usual, Typewriter, font_in, size_after, word_rule}
-use Rattle.latex2mathml_tex_grammar.proofs.{Allowed.AreAllowedUnits, Allowed.IsAllowedPiece, AllowedRules.of_word_character, Choices.of_either, OneList.is_byte}
+use Rattle.latex2mathml_tex_grammar.proofs.{Allowed.AreAllowedUnits, Allowed.IsAllowedPiece, AllowedRules.of_word_character, Choices.of_either, Spaces.character_stays, Spaces.no_dollar}
 
 -- What begins a ligature neither ends words nor changes their size
 
@@ -48,18 +47,8 @@ begins (Some accent) f c e = cc
 begins None Typewriter c e = cc
 begins None Usual c e = chosen (begins_ligature c) c e
 
--- the test does not hold of a dollar sign
-no_dollar : (test : ℕ → Bool) (c : ℕ) → test c ≡ true → test (byte "$") ≡ false → (c == byte "$") ≡ false
-no_dollar test c h none = elim (cases_Bool (c == byte "$")) [
-  | inl s ↦ (let same = ap test (is_byte c (byte "$") s) in absurd (cc))
-  | inr s ↦ s
-]
-
-character_stays : (at : Standing) (c : ℕ) → (c == byte "$") ≡ false → standing_behind (Character c) (InWords at) ≡ InWords at
-character_stays at c h = rw h refl
-
 pub start_stays : (accent : Option ℕ) (at : Standing) (a : Option Alphabet) (piece : Piece) {first : ℕ} → ligature_start accent a piece ≡ Some first → standing_behind piece (InWords at) ≡ InWords at
-start_stays accent at a (Character c) e = character_stays at c (no_dollar begins_ligature c (begins accent (font_in a) c e).0 refl)
+start_stays accent at a (Character c) e = character_stays at c (no_dollar begins_ligature refl (λ s. cc) c (begins accent (font_in a) c e).0)
 start_stays accent at a Space e = cc
 start_stays accent at a Open e = cc
 start_stays accent at a Close e = cc
@@ -79,7 +68,7 @@ is_some (Some c) = true
 is_some None = false
 
 joint_stays : (at : Standing) (c : ℕ) (piece : Piece) {d : ℕ} → joint c piece ≡ Some d → standing_behind piece (InWords at) ≡ InWords at
-joint_stays at c (Character d) e = character_stays at d (no_dollar (λ k. is_some (ligature c k)) d (ap is_some e) refl)
+joint_stays at c (Character d) e = character_stays at d (no_dollar (λ k. is_some (ligature c k)) refl (λ s. cc) d (ap is_some e))
 joint_stays at c Space e = cc
 joint_stays at c Open e = cc
 joint_stays at c Close e = cc
@@ -109,12 +98,12 @@ joined_alike c h = from c refl h
 
 -- What is left
 
-joint_shortens : (c : ℕ) (u : Unit) (l : Units) (found : Option ℕ) → ((d : ℕ) → count (joined d l).1 ≤ count l) → count (behind_joint found (c, Next u l) (λ d. joined d l)).1 ≤ suc (count l)
+joint_shortens : (c : ℕ) (u : Unit) (l : Units) (found : Option ℕ) → ((d : ℕ) → unit_count (joined d l).1 ≤ unit_count l) → unit_count (behind_joint found (c, Next u l) (λ d. joined d l)).1 ≤ suc (unit_count l)
 joint_shortens c u l (Some d) more = (let fewer = more d in omega (arith, fewer))
 joint_shortens c u l None more = omega arith
 
 -- no more units are left
-pub joined_shortens : (c : ℕ) (l : Units) → count (joined c l).1 ≤ count l
+pub joined_shortens : (c : ℕ) (l : Units) → unit_count (joined c l).1 ≤ unit_count l
 joined_shortens c (Next u l) = joint_shortens c u l (joint c u.piece) (λ d. joined_shortens d l)
 joined_shortens c (End place) = omega arith
 joined_shortens c (Stop r) = omega arith

@@ -126,27 +126,27 @@ not_negated = refl
 
 pub delimiter_plain : ArePlain delimiter_of
 delimiter_plain (Command name) found e = takes_none name (in_table name found delimiter_commands delimiters_plain e)
-delimiter_plain (Character c) found e = character_plain c (no_dollar (λ c. delimiter_of (Character c)) no_delimiter c found e)
+delimiter_plain (Character c) found e = character_plain c (no_dollar (λ c. delimiter_of (Character c)) no_delimiter (λ s. cc) c e)
 delimiter_plain Space found e = cc
 delimiter_plain Open found e = cc
 delimiter_plain Close found e = cc
 
 pub negated_of_plain : ArePlain negated_of
 negated_of_plain (Command name) found e = takes_none name (in_table name found negated_commands negated_plain e)
-negated_of_plain (Character c) found e = character_plain c (no_dollar (λ c. negated_of (Character c)) not_negated c found e)
+negated_of_plain (Character c) found e = character_plain c (no_dollar (λ c. negated_of (Character c)) not_negated (λ s. cc) c e)
 negated_of_plain Space found e = cc
 negated_of_plain Open found e = cc
 negated_of_plain Close found e = cc
 
 pub a_character_plain : (d : ℕ) → (byte "$" == d) ≡ false → ArePlain (a_character d)
-a_character_plain d h (Character c) found e = character_plain c (no_dollar (λ c. a_character d (Character c)) (rw h refl) c found e)
+a_character_plain d h (Character c) found e = character_plain c (no_dollar {x = None} (λ c. a_character d (Character c)) (rw h refl) (λ s. cc) c e)
 a_character_plain d h (Command name) found e = cc
 a_character_plain d h Space found e = cc
 a_character_plain d h Open found e = cc
 a_character_plain d h Close found e = cc
 
 pub sign_of_arrow_plain : ArePlain sign_of_arrow
-sign_of_arrow_plain (Character c) found e = character_plain c (no_dollar (λ c. sign_of_arrow (Character c)) refl c found e)
+sign_of_arrow_plain (Character c) found e = character_plain c (no_dollar (λ c. sign_of_arrow (Character c)) refl (λ s. cc) c e)
 sign_of_arrow_plain (Command name) found e = cc
 sign_of_arrow_plain Space found e = cc
 sign_of_arrow_plain Open found e = cc
@@ -154,7 +154,7 @@ sign_of_arrow_plain Close found e = cc
 
 -- a mark is plain
 pub mark_plain : (piece : Piece) (mark : Mark) → mark_of piece ≡ Some mark → IsPlain piece
-mark_plain (Character c) mark e = character_plain c (no_dollar (λ c. mark_of (Character c)) refl c mark e)
+mark_plain (Character c) mark e = character_plain c (no_dollar (λ c. mark_of (Character c)) refl (λ s. cc) c e)
 mark_plain Space mark e = cc
 mark_plain Open mark e = cc
 mark_plain Close mark e = cc

@@ -6,7 +6,7 @@ use Rattle.latex2mathml_tex_grammar.specs.Arguments.{macro_arguments}
 use Rattle.latex2mathml_tex_grammar.specs.Definitions.{Word, NewCommand, ProvideCommand, Def, DeclareOperator, DeclareDelimiters, Let, Definition, definition_of, provided, resolved, behind_definition}
 use Rattle.latex2mathml_tex_grammar.specs.Expanding.{turned, expansion_within, expansion}
 use Rattle.latex2mathml_tex_grammar.specs.Expansion.{form_of, used_form, Role, Uses, Defines, Stands, found_role, role_of, Turn, Turns, Fails, with_arguments, used, defined, turn_of}
-use Rattle.latex2mathml_tex_grammar.specs.Macros.{Part, Macro, alias, macro_of, SameMacros, Table, with_macro, put, before, count}
+use Rattle.latex2mathml_tex_grammar.specs.Macros.{Part, Macro, alias, macro_of, SameMacros, Table, with_macro, put, before, unit_count}
 use Rattle.latex2mathml_tex_grammar.specs.{Reading.Outcome, Reading.Read, Reading.Refused, Refusal.Refusal, Refusal.TooManyExpansions, Refusal.refusal_at}
 use Rattle.latex2mathml_tex_grammar.specs.Units.{Piece, Space, Open, Close, Command, Character, Unit, unit, Units, Next, End, Stop}
 
@@ -89,4 +89,4 @@ same_within (suc n) t v uses room (Stop r) h = refl
 
 pub expansion_same : (t v : Table) (uses room : ℕ) (l : Units) → SameMacros t v → expansion t uses room l ≡ expansion v uses room l
 unfolding expansion
-expansion_same t v uses room l h = same_within (suc (count l + room)) t v uses room l h
+expansion_same t v uses room l h = same_within (suc (unit_count l + room)) t v uses room l h

@@ -1,6 +1,5 @@
 -- What is taken unit by unit among units that are alike but for white space.
-use Rattle.std.proofs.Common.{◌≡◌, ◌==◌, ◌||◌, ℕ, Bool, true, false, inl, inr, List, [], ◌++◌, codes, refl, sym, ap, subst, ◌∙◌, if◌then◌else◌}
-use Rattle.std.proofs.{lemmas.Bool.cases_Bool}
+use Rattle.std.proofs.Common.{◌≡◌, ◌==◌, ◌||◌, ℕ, Bool, true, false, List, [], ◌++◌, codes, refl, sym, ap, subst, ◌∙◌, if◌then◌else◌}
 use Rattle.std.specs.{Char.encode_utf8, Str.byte}
 use Rattle.latex2mathml_tex_grammar.specs.{Commands.command_entries, Commands.meaning_of, CommandsFromM.commands_from_m, CommandsUpToL.commands_up_to_l}
 use Rattle.latex2mathml_tex_grammar.specs.{Meaning.takes_words, RowGaps.gap_at, RowGaps.space_found}
@@ -8,8 +7,8 @@ use Rattle.latex2mathml_tex_grammar.specs.Refusal.{UnknownColumn, Refusal}
 use Rattle.latex2mathml_tex_grammar.specs.Scanning.{Name, ColumnList, RepeatedColumns, Number, ColorName, BeforeColor, InModel, Spot, BeforeArgument, InArgument, BeforeGap, InGap, BeforeTimes, InTimes, BeforeRepeated, BeforeBrace, BeforePosition, InPosition, BehindPosition, BeforeStar, BehindStar, BeforeLength, BeforeLengthInBraces, InLength, BehindSign, InNumber, InDecimals, BehindLetter, BehindLength, AtBracket, AtBrace, AtUnit, BeforeRow, Deed, Passes, Adds, Ends, Leaves, Misses, Refuses, deed, done, is_line, may_end, found_at_end, with_character, Found, Given, Missing, scan, behind_found, past, past_break, past_gap}
 use Rattle.latex2mathml_tex_grammar.specs.Spacing.{Standing, standing_behind, AreAlike, both_end, both_stop, same_piece, space_before, space_behind}
 use Rattle.latex2mathml_tex_grammar.specs.Units.{Piece, Space, Open, Close, Command, Character, Unit, Units, Next}
-use Rattle.latex2mathml_tex_grammar.proofs.{OneList.is_byte, Plain.TakesNone, Plain.takes_none, Plain.open_plain, Plain.close_plain, Plain.is_named}
-use Rattle.latex2mathml_tex_grammar.proofs.Spaces.{IsCalm, IsPlain, behind_plain, character_plain}
+use Rattle.latex2mathml_tex_grammar.proofs.{Plain.TakesNone, Plain.takes_none, Plain.open_plain, Plain.close_plain, Plain.is_named}
+use Rattle.latex2mathml_tex_grammar.proofs.Spaces.{IsCalm, IsPlain, behind_plain, character_plain, no_dollar}
 
 -- Units that are taken are plain
 
@@ -22,7 +21,7 @@ takes Misses = false
 takes (Refuses kind) = false
 
 -- no dollar sign is taken
-pub no_dollar_taken : (spot : Spot) → takes (deed spot (Character (byte "$"))) ≡ false
+no_dollar_taken : (spot : Spot) → takes (deed spot (Character (byte "$"))) ≡ false
 no_dollar_taken (BeforeArgument a) = refl
 no_dollar_taken (InArgument Name) = refl
 no_dollar_taken (InArgument ColumnList) = refl
@@ -54,11 +53,12 @@ no_dollar_taken (BehindLength AtBrace) = refl
 no_dollar_taken (BehindLength AtUnit) = refl
 no_dollar_taken BeforeRow = refl
 
+-- a character that is taken is no dollar sign
+pub taken_no_dollar : (spot : Spot) (c : ℕ) → takes (deed spot (Character c)) ≡ true → (c == byte "$") ≡ false
+taken_no_dollar spot c h = no_dollar (λ c. takes (deed spot (Character c))) (no_dollar_taken spot) (λ s. cc) c h
+
 character_taken : (spot : Spot) (c : ℕ) → takes (deed spot (Character c)) ≡ true → IsPlain (Character c)
-character_taken spot c h = elim (cases_Bool (c == byte "$")) [
-  | inl s ↦ (let same = ap (λ c. takes (deed spot (Character c))) (is_byte c (byte "$") s) in let none = no_dollar_taken spot in absurd (cc))
-  | inr s ↦ character_plain c s
-]
+character_taken spot c h = character_plain c (taken_no_dollar spot c h)
 
 -- nor a command that takes words
 

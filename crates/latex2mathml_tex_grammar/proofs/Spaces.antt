@@ -152,15 +152,18 @@ pub character_plain : (c : ℕ) → (c == byte "$") ≡ false → IsPlain (Chara
 character_plain c h at in_formula = rw h refl
 character_plain c h at in_dollars = rw h refl
 
--- what passes a test that the dollar sign does not pass is not a dollar sign
-pub no_dollar : {A : Type 0} (test : ℕ → Option A) → test (byte "$") ≡ None → (c : ℕ) (found : A) → test c ≡ Some found → (c == byte "$") ≡ false
-no_dollar test h c found e = elim (cases_Bool (c == byte "$")) [
-  | inl s ↦ (let same = ap test (is_byte c (byte "$") s) in absurd (cc))
+pub character_stays : (at : Standing) (c : ℕ) → (c == byte "$") ≡ false → standing_behind (Character c) (InWords at) ≡ InWords at
+character_stays at c h = rw h refl
+
+-- a character is no dollar sign if a test tells them apart
+pub no_dollar : {A : Type 0} {x y : A} (test : ℕ → A) → test (byte "$") ≡ x → (x ≡ y → ⊥) → (c : ℕ) → test c ≡ y → (c == byte "$") ≡ false
+no_dollar test h differ c e = elim (cases_Bool (c == byte "$")) [
+  | inl s ↦ absurd (differ (sym h ∙ ap test (sym (is_byte c (byte "$") s)) ∙ e))
   | inr s ↦ s
 ]
 
 pub digit_plain : ArePlain a_digit
-digit_plain (Character c) found e = character_plain c (no_dollar (λ c. a_digit (Character c)) refl c found e)
+digit_plain (Character c) found e = character_plain c (no_dollar (λ c. a_digit (Character c)) refl (λ s. cc) c e)
 digit_plain Space found e = cc
 digit_plain Open found e = cc
 digit_plain Close found e = cc

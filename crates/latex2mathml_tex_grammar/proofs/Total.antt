@@ -23,7 +23,7 @@ use Rattle.latex2mathml_tex_grammar.specs.Words.{size_after, Words, no_words, Fo
 use Rattle.latex2mathml_tex_grammar.proofs.{Spaces.next_stays, Unique.one_atoms}
 use Rattle.latex2mathml_tex_grammar.specs.Ligatures.{joined, ligature_start}
 use Rattle.latex2mathml_tex_grammar.proofs.Ligatures.{joined_shortens}
-use Rattle.latex2mathml_tex_grammar.specs.Macros.{count as size}
+use Rattle.latex2mathml_tex_grammar.specs.Macros.{unit_count as size}
 
 -- there is an outcome, which leaves at most k units
 data Comes (A : Type 0) (reads : Outcome A → Type 0) (k : ℕ) : Type 0 where

@@ -7,7 +7,7 @@ use Rattle.latex2mathml_tex_grammar.specs.{Next.is_space_piece, Refusal.Kind, Sy
 use Rattle.latex2mathml_tex_grammar.specs.Spacing.{Standing, BeforeWords, InWords, BetweenDollars, standing_behind, is_in_words}
 use Rattle.latex2mathml_tex_grammar.specs.Units.{Piece, Space, Open, Close, Command, Character}
 use Rattle.latex2mathml_tex_grammar.specs.Words.{Font, Word, Shown, Formula, Accented, Changed, Resized, font_in, size_after, WordRule, IsWord, BeginsGroup, EndsGroup, BeginsFormula, TakesWords, ShowsAtom, NoWord, word_rule, command_rule, accent_rule, meaning_rule}
-use Rattle.latex2mathml_tex_grammar.proofs.{AlikeRules.WordsStand, AlikeRules.before_words, AlikeRules.within_words, Plain.TakesNone, Plain.takes_none, Spaces.IsPlain, Plain.text_accent_plain, Plain.text_command_plain}
+use Rattle.latex2mathml_tex_grammar.proofs.{AlikeRules.WordsStand, AlikeRules.before_words, AlikeRules.within_words, Plain.TakesNone, Plain.takes_none, Spaces.IsPlain, Spaces.character_stays, Plain.text_accent_plain, Plain.text_command_plain}
 
 -- the piece is all of the words where words are due, or one part of words in braces
 abbrev pub EndsWord : Piece → Type 0
@@ -15,7 +15,7 @@ EndsWord piece = (before at : Standing) → WordsStand before at → (is_in_word
 
 character_ends : (c : ℕ) → (c == byte "$") ≡ false → EndsWord (Character c)
 character_ends c h before at before_words s = rw h refl
-character_ends c h before at within_words s = rw h refl
+character_ends c h before at within_words s = character_stays _ c h
 
 -- a dollar sign begins a formula, after which units are where they are after the words
 dollar_begins : (c : ℕ) → (c == byte "$") ≡ true → (before at : Standing) → WordsStand before at → standing_behind (Character c) before ≡ BetweenDollars at

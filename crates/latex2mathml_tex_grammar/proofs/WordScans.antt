@@ -1,6 +1,5 @@
 -- What is taken of a length in words is the same among units that are alike. White space counts there, and a brace begins words.
 use Rattle.std.proofs.Common.{◌≡◌, ◌==◌, ℕ, ℤ, Bool, Option, Some, None, true, false, inl, inr, nat_lt, List, [], refl, sym, ap, subst, ◌∙◌}
-use Rattle.std.proofs.lemmas.Bool.{cases_Bool}
 use Rattle.std.specs.{Bool.⊤, Char.is_ascii_digit, Str.byte}
 use Rattle.latex2mathml_tex_grammar.specs.Scanning.{Spot, LengthEnd, AtBracket, AtBrace, AtUnit, BeforeStar, BehindStar, BeforeLengthInBraces, InLength, BehindSign, InNumber, InDecimals, BehindLetter, BehindLength, Deed, Given, Missing, Passes, Adds, Ends, Leaves, Misses, Refuses, adds_if, begins_unit_of_length, deed, done, ends_if, is_unit_of_length, may_end, most_decimals, number_deed, past, scan, unit_deed}
 use Rattle.latex2mathml_tex_grammar.specs.Spacing.{Standing, InWords, is_in_words, standing_behind, AreAlike, both_end, both_stop, same_piece, space_before, space_behind}
@@ -9,7 +8,7 @@ use Rattle.latex2mathml_tex_grammar.specs.{Lengths.width_of, Makes.Core, Makes.b
 use Rattle.latex2mathml_tex_grammar.specs.Refusal.{LengthTooLarge, Refusal, refusal_at}
 use Rattle.latex2mathml_tex_grammar.specs.Rules.{Context, Rule, a_skip, gives, passes_over, refuses, rule, takes_found, with_value}
 use Rattle.latex2mathml_tex_grammar.proofs.WordPieces.{IsLengthCommand, TakesLength}
-use Rattle.latex2mathml_tex_grammar.proofs.{Choices.of_either, OneList.is_byte, Scans.FoundAlike, Scans.FoundToo, Scans.behind_alike, Scans.given_there, Scans.missing_there, Scans.both_given, Scans.both_missing, Scans.ended, Scans.longer, Scans.no_dollar_taken, Scans.takes}
+use Rattle.latex2mathml_tex_grammar.proofs.{Choices.of_either, Spaces.character_stays, Scans.FoundAlike, Scans.FoundToo, Scans.behind_alike, Scans.given_there, Scans.missing_there, Scans.both_given, Scans.both_missing, Scans.ended, Scans.longer, Scans.taken_no_dollar, Scans.takes}
 
 -- whether a brace is open in a length that ends so
 abbrev is_braced : LengthEnd → Bool
@@ -86,21 +85,14 @@ character_keeps spot c h = cc
 
 -- Where units in words are
 
+-- around the words at a spot, where a brace may be open
+abbrev around : Bool → Standing → Standing
+around true at = InWords at
+around false at = at
+
 -- at a spot, in a brace if one is open there
 abbrev inside : Bool → Standing → Standing
-inside true at = InWords (InWords at)
-inside false at = InWords at
-
--- a character that is taken is no dollar sign
-no_dollar : (spot : Spot) (c : ℕ) → takes (deed spot (Character c)) ≡ true → (c == byte "$") ≡ false
-no_dollar spot c h = elim (cases_Bool (c == byte "$")) [
-  | inl s ↦ (let same = ap (λ c. takes (deed spot (Character c))) (is_byte c (byte "$") s) in let none = no_dollar_taken spot in absurd (cc))
-  | inr s ↦ s
-]
-
-character_stays : (b : Bool) (at : Standing) (c : ℕ) → (c == byte "$") ≡ false → standing_behind (Character c) (inside b at) ≡ inside b at
-character_stays true at c h = rw h refl
-character_stays false at c h = rw h refl
+inside b at = InWords (around b at)
 
 -- what a deed makes of the scan of units behind it
 abbrev Goes : Standing → Spot → Piece → Deed → Type 0
@@ -113,9 +105,9 @@ Goes at spot piece (Refuses kind) = ⊤
 
 -- a deed that keeps the scan in the length keeps units where they are
 kept : (at : Standing) (spot : Spot) (c : ℕ) (d : Deed) → (takes d ≡ true → (c == byte "$") ≡ false) → Keeps spot d → Goes at spot (Character c) d
-kept at spot c (Passes next) plain h = (h.0, character_stays (is_open spot) at c (plain refl) ∙ ap (λ b. inside b at) (sym h.1))
-kept at spot c (Adds d next) plain h = (h.0, character_stays (is_open spot) at c (plain refl) ∙ ap (λ b. inside b at) (sym h.1))
-kept at spot c Ends plain h = character_stays (is_open spot) at c (plain refl) ∙ ap (λ b. inside b at) h
+kept at spot c (Passes next) plain h = (h.0, character_stays (around (is_open spot) at) c (plain refl) ∙ ap (λ b. inside b at) (sym h.1))
+kept at spot c (Adds d next) plain h = (h.0, character_stays (around (is_open spot) at) c (plain refl) ∙ ap (λ b. inside b at) (sym h.1))
+kept at spot c Ends plain h = character_stays (around (is_open spot) at) c (plain refl) ∙ ap (λ b. inside b at) h
 kept at spot c Leaves plain h = h
 kept at spot c Misses plain h = tt
 kept at spot c (Refuses kind) plain h = tt
@@ -167,7 +159,7 @@ goes at spot Space h = (h, refl)
 goes at spot Open h = opening_goes at spot h
 goes at spot Close h = closing_goes at spot h
 goes at spot (Command name) h = command_goes at spot name h
-goes at spot (Character c) h = kept at spot c (deed spot (Character c)) (no_dollar spot c) (character_keeps spot c h)
+goes at spot (Character c) h = kept at spot c (deed spot (Character c)) (taken_no_dollar spot c) (character_keeps spot c h)
 
 -- What is found
 

@@ -2,7 +2,7 @@
 -- is: no promise depends on how it is found here.
 use Rattle.std.specs.Prelude.{ℕ, zero, suc, ◌+◌}
 use Rattle.latex2mathml_tex_grammar.specs.Expansion.{Turn, Stays, Turns, Fails, turn}
-use Rattle.latex2mathml_tex_grammar.specs.Macros.{Table, count}
+use Rattle.latex2mathml_tex_grammar.specs.Macros.{Table, unit_count}
 use Rattle.latex2mathml_tex_grammar.specs.Units.{Unit, unit, Units, Next, End, Stop}
 
 -- what a turn leads to: a unit and what follows it, only what follows, or a refusal
@@ -20,4 +20,4 @@ expansion_within (suc n) table uses room (Stop r) = Stop r
 
 -- the expansion of units
 unfoldable pub expansion : Table → ℕ → ℕ → Units → Units
-expansion table uses room l = expansion_within (suc (count l + room)) table uses room l
+expansion table uses room l = expansion_within (suc (unit_count l + room)) table uses room l

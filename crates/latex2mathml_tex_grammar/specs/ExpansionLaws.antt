@@ -4,7 +4,7 @@ use Rattle.std.specs.Prelude.{Bool, IsTrue, Option, Some, None, codes, ◌≡◌
 use Rattle.latex2mathml_tex_grammar.specs.Arguments.{Opening, Closing, NoBrace, brace_of, group, first_sign, arguments}
 use Rattle.latex2mathml_tex_grammar.specs.Definitions.{Word, definition_of, meaning_now}
 use Rattle.latex2mathml_tex_grammar.specs.{DefinitionTexts.ReadsDefinitions, Reading.Outcome, Reading.Read}
-use Rattle.latex2mathml_tex_grammar.specs.{Expansion.Expands, Expansion.Stands, Expansion.Turns, Expansion.role_of, Expansion.turn, Macros.Part, Macros.Fixed, Macros.Argument, Macros.Taken, Macros.Parameter, Macros.Macro, Macros.macro_of, Macros.Table, Macros.with_macro, Macros.before, Macros.count}
+use Rattle.latex2mathml_tex_grammar.specs.{Expansion.Expands, Expansion.Stands, Expansion.Turns, Expansion.role_of, Expansion.turn, Macros.Part, Macros.Fixed, Macros.Argument, Macros.Taken, Macros.Parameter, Macros.Macro, Macros.macro_of, Macros.Table, Macros.with_macro, Macros.before, Macros.unit_count}
 use Rattle.latex2mathml_tex_grammar.specs.Units.{Piece, Space, Open, Close, Command, Character, Unit, Units, Next}
 
 -- among the units no macro is used, and no definition begins
@@ -49,7 +49,7 @@ pub record AreExpanded : Type 0 where
   -- so an expansion is its own expansion
   pub again : (table : Table) (uses room : ℕ) (l m : Units) → AliasesStand table → Expands table uses room l m → Expands table uses room m m
   -- it has no more units than there were before, plus those that can be put
-  pub most : (table : Table) (uses room : ℕ) (l m : Units) → Expands table uses room l m → count m ≤ count l + room
+  pub most : (table : Table) (uses room : ℕ) (l m : Units) → Expands table uses room l m → unit_count m ≤ unit_count l + room
   -- after `\let`, the new name is to a text what the piece was
   pub named : (table : Table) (name : List ℕ) (piece : Piece)
       → role_of (with_macro name (meaning_now table piece) table) (Command name) ≡ role_of table piece

@@ -94,6 +94,6 @@ before [] l = l
 before (u ∷ us) l = Next u (before us l)
 
 -- how many units there are
-abbrev pub count : Units → ℕ
-count (Next u l) = suc (count l)
-count l = 0
+abbrev pub unit_count : Units → ℕ
+unit_count (Next u l) = suc (unit_count l)
+unit_count l = 0

@@ -4,11 +4,11 @@ use Rattle.std.specs.Prelude.{Ok, Err}
 use Rattle.latex2mathml_tex_grammar.specs.Definitions.{Definition, behind_definition, definition_of, word_of}
 use Rattle.latex2mathml_tex_grammar.specs.Definitions as definitions
 use Rattle.latex2mathml_tex_grammar.specs.DefinitionTexts.{ReadsDefinitions, past_prefixes, defines, definition_refused, no_definition, no_more, stopped}
-use Rattle.latex2mathml_tex_grammar.specs.{Macros.SameMacros, Macros.Table, Macros.count, Reading.Outcome, Reading.Read, Reading.Refused, Refusal.NoDefinition, Refusal.Refusal, Refusal.refusal_at, UsualMacros.usual_macros}
+use Rattle.latex2mathml_tex_grammar.specs.{Macros.SameMacros, Macros.Table, Macros.unit_count, Reading.Outcome, Reading.Read, Reading.Refused, Refusal.NoDefinition, Refusal.Refusal, Refusal.refusal_at, UsualMacros.usual_macros}
 use Rattle.latex2mathml_tex_grammar.specs.Units as units
 use Rattle.latex2mathml_tex_grammar.specs.Units.{Units}
 use Rattle.latex2mathml_tex_grammar.proofs.SameTables.{behind_same}
-use Rattle.latex2mathml_tex_grammar.proofs.{DefinitionTexts.count-past_prefixes, Shrinking.Leaves, Shrinking.definition_leaves}
+use Rattle.latex2mathml_tex_grammar.proofs.{DefinitionTexts.no_more_past_prefixes, Shrinking.Leaves, Shrinking.definition_leaves}
 use Rattle.latex2mathml_tex_units.specs.{MacroTables.table_of, Texts.ReadsTo, Taking.kind_of}
 use Rattle.latex2mathml_tex_units.specs.declared.macros.{halt.Halt.Halt, scope.Scope.Scope}
 use Rattle.latex2mathml_tex_units.specs.declared.macros.halt.Halt.TheVariants as halt
@@ -44,9 +44,9 @@ pub text_defines : (start l k m n : Units) (scope new : Scope) (u : units.Unit) 
 text_defines start l k m n scope new u word d (table, same, own, leads) s e w read held kept =
     (behind_definition word d table, λ name. behind_same word d table (table_of scope) same name ∙ sym (held name), kept ∙ own, λ o r. leads o (defines (sym s ∙ e) (sym w) read r))
 
-pub text_smaller : (l k m n : Units) (u : units.Unit) (word : definitions.Word) (d : Definition) → k ≡ past_prefixes l → k ≡ units.Next u m → definition_of word u.place m ≡ Read d n → count n < count l
+pub text_smaller : (l k m n : Units) (u : units.Unit) (word : definitions.Word) (d : Definition) → k ≡ past_prefixes l → k ≡ units.Next u m → definition_of word u.place m ≡ Read d n → unit_count n < unit_count l
 text_smaller l k m n u word d s e read =
-    let taken : count n ≤ count m = subst (Leaves (count m)) read (definition_leaves word u.place m) in
-    let seen : count k ≡ suc (count m) = ap count e in
-    let passed : count k ≤ count l = subst (λ x. count x ≤ count l) (sym s) (count-past_prefixes l) in
+    let taken : unit_count n ≤ unit_count m = subst (Leaves (unit_count m)) read (definition_leaves word u.place m) in
+    let seen : unit_count k ≡ suc (unit_count m) = ap unit_count e in
+    let passed : unit_count k ≤ unit_count l = subst (λ x. unit_count x ≤ unit_count l) (sym s) (no_more_past_prefixes l) in
     omega (arith, taken, seen, passed)

@@ -1,10 +1,8 @@
 -- Units that come next, ignoring white space.
-use Rattle.std.proofs.Common.{◌≡◌, ℕ, suc, ◌<◌, ◌≤◌, List, [], ◌∷◌, ◌++◌, Option, Some, None, arith, inl, inr, refl, ap, sym, ◌∙◌}
-use Rattle.std.proofs.lemmas.Bool.{cases_Bool}
-use Rattle.latex2mathml_tex_grammar.specs.{Ligatures.joined, Macros.count}
-use Rattle.latex2mathml_tex_grammar.proofs.Ligatures.{joined_shortens}
-use Rattle.latex2mathml_tex_grammar.specs.Next.{first_is, first_passes, is_space_piece, next_are, past_space}
+use Rattle.std.proofs.Common.{◌≡◌, ℕ, ◌<◌, ◌≤◌, List, [], ◌∷◌, ◌++◌, Option, Some, None, arith, refl, ap, sym, ◌∙◌}
+use Rattle.latex2mathml_tex_grammar.specs.Next.{first_is, first_passes, next_are, past_space}
 use Rattle.latex2mathml_tex_grammar.specs.Units.{Piece, Units, Next, End, Stop}
+use Rattle.latex2mathml_tex_grammar.proofs.Shrinking.{no_more_past_space}
 use Rattle.latex2mathml_tex_units.specs.Left.{put_back, unit_count, units_at, units_behind}
 use Rattle.latex2mathml_tex_units.specs.declared.{input.Input.Input, unit.Next.Next as CodeNext}
 
@@ -13,24 +11,6 @@ pub passed : (n : CodeNext) (i j : Input) → units_at i ≡ put_back n (units_b
 passed n i j is behind = is ∙ ap (put_back n) (sym behind)
 
 -- How many units are left
-
--- no more are left past white space
-pub no_more_past_space : (l : Units) → unit_count (past_space l) ≤ unit_count l
-no_more_past_space (Next u us) = elim (cases_Bool (is_space_piece u.piece)) [
-  | inl h ↦ (let less = no_more_past_space us in rw h (omega arith))
-  | inr h ↦ rw h (omega arith)
-]
-no_more_past_space (End place) = omega arith
-no_more_past_space (Stop r) = omega arith
-
--- or past units that join a character
-counted : (l : Units) → count l ≡ unit_count l
-counted (Next u l) = ap suc (counted l)
-counted (End place) = refl
-counted (Stop r) = refl
-
-pub no_more_joined : (c : ℕ) (l : Units) → unit_count (joined c l).1 ≤ unit_count l
-no_more_joined c l = omega (arith, joined_shortens c l, counted (joined c l).1, counted l)
 
 -- the number of units left does not grow when units that pass tests are taken
 no_more_passed : (found : Option (List ℕ)) (others : Option (List ℕ × Units)) (n : ℕ) → ((texts : List ℕ) (m : Units) → others ≡ Some (texts, m) → unit_count m ≤ n) → (texts : List ℕ) (m : Units) → first_passes found others ≡ Some (texts, m) → unit_count m ≤ n

@@ -2,10 +2,10 @@
 use Rattle.std.proofs.Common.{◌≡◌, ◌∙◌, ◌||◌, ◌<◌, ◌≤◌, Bool, true, false, Some, None, inl, inr, refl, sym, ap, subst, arith}
 use Rattle.std.proofs.lemmas.Bool.{cases_Bool}
 use Rattle.std.specs.Prelude.{if◌then◌else◌}
-use Rattle.latex2mathml_tex_grammar.specs.{DefinitionTexts.is_prefix, DefinitionTexts.past_prefixes, Macros.count, Next.is_space_piece, Next.past_space}
+use Rattle.latex2mathml_tex_grammar.specs.{DefinitionTexts.is_prefix, DefinitionTexts.past_prefixes, Macros.unit_count, Next.is_space_piece, Next.past_space}
 use Rattle.latex2mathml_tex_grammar.specs.Units as units
 use Rattle.latex2mathml_tex_grammar.specs.Units.{Units, Next, End, Stop}
-use Rattle.latex2mathml_tex_grammar.proofs.Shrinking.{count-past_space}
+use Rattle.latex2mathml_tex_grammar.proofs.Shrinking.{no_more_past_space}
 use Rattle.latex2mathml_tex_units.specs.{Pending.next_piece, Taking.Takes, Taking.unit_of}
 use Rattle.latex2mathml_tex_units.specs.declared.unit.Next.{Next as CodeNext}
 use Rattle.latex2mathml_tex_units.specs.declared.unit.Next.TheVariants as next
@@ -74,11 +74,11 @@ was_taken (next.Unit u) k m p takes e =
 was_taken (next.End place) k m p takes e = (let none : Some p ≡ None = e ∙ ap next_piece takes.0 in cc)
 was_taken (next.Fault fault place) k m p takes e = (let none : Some p ≡ None = e ∙ ap next_piece takes.0 in cc)
 
-pub prefix_smaller : (taken : CodeNext) (k l m : Units) (p : units.Piece) → k ≡ past_space l → Takes taken k m → Some p ≡ next_piece k → count m < count l
+pub prefix_smaller : (taken : CodeNext) (k l m : Units) (p : units.Piece) → k ≡ past_space l → Takes taken k m → Some p ≡ next_piece k → unit_count m < unit_count l
 prefix_smaller taken k l m p s takes e =
     let (u, is, piece) = was_taken taken k m p takes e in
-    let less : count k ≤ count l = subst (λ x. count x ≤ count l) (sym s) (count-past_space l) in
-    omega (arith, ap count is, less)
+    let less : unit_count k ≤ unit_count l = subst (λ x. unit_count x ≤ unit_count l) (sym s) (no_more_past_space l) in
+    omega (arith, ap unit_count is, less)
 
 pub prefix_passed : (taken : CodeNext) (k l m start : Units) (p : units.Piece) → past_prefixes l ≡ past_prefixes start → k ≡ past_space l → Takes taken k m → Some p ≡ next_piece k → is_prefix p ≡ true → past_prefixes m ≡ past_prefixes start
 prefix_passed taken k l m start p same s takes e passes =

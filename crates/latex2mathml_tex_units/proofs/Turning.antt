@@ -5,7 +5,7 @@ use Rattle.latex2mathml_tex_grammar.specs.Definitions.{behind_definition, defini
 use Rattle.latex2mathml_tex_grammar.specs.Definitions as definitions
 use Rattle.latex2mathml_tex_grammar.specs.Expanding.{expansion}
 use Rattle.latex2mathml_tex_grammar.specs.Expansion.{Stands, Stays, Turn, Turns, Uses, defined, found_role, macro_role, own_role, role_of, turn, turn_of, used, word_role}
-use Rattle.latex2mathml_tex_grammar.specs.{Macros.Macro, Macros.SameMacros, Macros.Table, Macros.count, Reading.Read, UsualMacros.usual_macros}
+use Rattle.latex2mathml_tex_grammar.specs.{Macros.Macro, Macros.SameMacros, Macros.Table, Macros.unit_count, Reading.Read, UsualMacros.usual_macros}
 use Rattle.latex2mathml_tex_grammar.specs.Units as units
 use Rattle.latex2mathml_tex_grammar.specs.Units.{Units}
 use Rattle.latex2mathml_tex_grammar.proofs.Expanding.{Shrinks, expansion_end, expansion_fails, expansion_stays, expansion_stop, expansion_turns, turn_shrinks}
@@ -125,10 +125,10 @@ turned_on table new uses room uses_left room_left u v l k m start same is v_is (
 
 pub turned_smaller : (table new : Table) (uses room uses_left room_left : ℕ) (u v : units.Unit) (l k m : Units) → l ≡ units.Next u k
     → (next : Table) × (turn table uses room v k ≡ Turns next uses_left room_left m) × SameMacros next new
-    → count m + room_left < count l + room
+    → unit_count m + room_left < unit_count l + room
 turned_smaller table new uses room uses_left room_left u v l k m is (next, turns, tables) =
-    let less : count m + room_left ≤ count k + room = subst (Shrinks (count k + room)) turns (turn_shrinks (role_of table v.piece) table uses room v k) in
-    let more : count l ≡ suc (count k) = ap count is in
+    let less : unit_count m + room_left ≤ unit_count k + room = subst (Shrinks (unit_count k + room)) turns (turn_shrinks (role_of table v.piece) table uses room v k) in
+    let more : unit_count l ≡ suc (unit_count k) = ap unit_count is in
     omega (arith, less, more)
 
 -- what is refused

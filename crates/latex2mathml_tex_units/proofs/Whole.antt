@@ -1,7 +1,7 @@
 -- Units that are listed, one after another.
 use Rattle.std.proofs.Common.{◌≡◌, ◌≤◌, List, [], ◌∷◌, ◌++◌, map, refl, sym, ap, ◌∙◌, arith}
 use Rattle.std.proofs.lemmas.List.{map-append}
-use Rattle.latex2mathml_tex_grammar.specs.Macros.{before, count}
+use Rattle.latex2mathml_tex_grammar.specs.Macros.{before, unit_count}
 use Rattle.latex2mathml_tex_grammar.specs.Units as units
 use Rattle.latex2mathml_tex_grammar.specs.Units.{Units}
 use Rattle.latex2mathml_tex_grammar.proofs.Shrinking.{count-before}
@@ -23,5 +23,5 @@ pub moved_all : (us us' : List Unit) (l m start : Units) → before (map unit_of
 moved_all us us' l m start same (taken, e, is) =
     ap (λ xs. before xs m) (ap (map unit_of) e ∙ map-append unit_of us taken) ∙ before-append (map unit_of us) (map unit_of taken) m ∙ ap (before (map unit_of us)) (sym is) ∙ same
 
-pub moved_less : (us us' : List Unit) (l m : Units) → Moves us us' (λ taken. l ≡ before taken m) → count m ≤ count l
-moved_less us us' l m (taken, e, is) = omega (arith, ap count is, count-before (map unit_of taken) m)
+pub moved_less : (us us' : List Unit) (l m : Units) → Moves us us' (λ taken. l ≡ before taken m) → unit_count m ≤ unit_count l
+moved_less us us' l m (taken, e, is) = omega (arith, ap unit_count is, count-before (map unit_of taken) m)

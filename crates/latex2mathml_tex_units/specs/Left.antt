@@ -1,7 +1,8 @@
 -- The units that are left.
-use Rattle.std.specs.Prelude.{◌≡◌, ℕ, suc, ◌+◌, List, [], ◌∷◌, Option, Some, None, drop, map}
+use Rattle.std.specs.Prelude.{◌≡◌, ℕ, ◌+◌, List, [], ◌∷◌, Option, Some, None, drop, map}
 use Rattle.std.specs.Str.{chars}
 use Rattle.latex2mathml_tex_grammar.specs.{Cutting.units_of, Macros.before, Next.digits_next, Next.next_are, Refusal.refusal_at, Rules.a_character, Rules.a_digit, Units.Units}
+pub use Rattle.latex2mathml_tex_grammar.specs.Macros.{unit_count}
 use Rattle.latex2mathml_tex_grammar.specs.Units as units
 use Rattle.latex2mathml_tex_units.specs.Taking.{kind_of, unit_of}
 use Rattle.latex2mathml_tex_units.specs.declared.{input.Input.Input, macros.whole.End.End, lexer.Lexer.Lexer, unit.Next.Next}
@@ -51,9 +52,3 @@ pub data TakesLone (c : ℕ) : Units → Units → Type 0 where
 -- neither a digit comes next, nor a point and a digit, nor white space before them
 abbrev pub EndsNumber : Units → Type 0
 EndsNumber l = (digits_next l ≡ ([], l)) × (next_are (a_character 46 ∷ a_digit ∷ []) l ≡ None)
-
--- how many units there are
-abbrev pub unit_count : Units → ℕ
-unit_count (units.Next u l) = suc (unit_count l)
-unit_count (units.End place) = 0
-unit_count (units.Stop r) = 0

@@ -4,7 +4,8 @@ use Rattle.latex2mathml_tex_grammar.specs.Refusal.{MissingDelimiter}
 use Rattle.latex2mathml_tex_commands.specs.Delimiters.{delimiter_text}
 use Rattle.latex2mathml_tex_units.specs.Left.{unit_count, units_at}
 use Rattle.latex2mathml_tex.specs.Steps.{left_of}
-use Rattle.latex2mathml_tex_units.proofs.Nexts.{no_more_past_space, no_more_taken}
+use Rattle.latex2mathml_tex_grammar.proofs.Shrinking.{no_more_past_space}
+use Rattle.latex2mathml_tex_units.proofs.Nexts.{no_more_taken}
 use Rattle.latex2mathml_tex_grammar.specs.Delimiters.{delimiter_of}
 use Rattle.std.proofs.Common.{[], ◌∷◌}
 use Rattle.latex2mathml_tex.proofs.Rows.{divider_put, no_divider, refused_here, refused_step, step_within}

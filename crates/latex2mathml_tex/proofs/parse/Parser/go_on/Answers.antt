@@ -4,7 +4,8 @@ use Rattle.latex2mathml_tex_units.specs.{Left.put_back, Left.unit_count, Left.un
 use Rattle.latex2mathml_tex.specs.Steps.{left_of}
 use Rattle.latex2mathml_tex_units.specs.declared.unit.Unit.{Unit}
 use Rattle.latex2mathml_tex_units.specs.declared.unit.Next.TheVariants as next
-use Rattle.latex2mathml_tex_units.proofs.Nexts.{no_more_past_space, passed}
+use Rattle.latex2mathml_tex_grammar.proofs.Shrinking.{no_more_past_space}
+use Rattle.latex2mathml_tex_units.proofs.Nexts.{passed}
 use Rattle.latex2mathml_tex.proofs.Rows.{scripts_made, step_within}
 use Rattle.latex2mathml_tex.proofs.Spaced.{made_spaced}
 use Rattle.latex2mathml_tex.proofs.parse.Parser.go_on.Goals as goal

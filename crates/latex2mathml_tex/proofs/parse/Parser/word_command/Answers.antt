@@ -7,7 +7,7 @@ use Rattle.latex2mathml_tex_grammar.specs.Words.{Accented, Formula, Shown, font_
 use Rattle.latex2mathml_tex_units.specs.{Errors.refusal_of, Left.unit_count, Left.units_at}
 use Rattle.latex2mathml_tex.specs.{Steps.ShowsAtomOf, Steps.left_of, WordCommands.rule_of, WordCommands.word_of}
 use Rattle.latex2mathml_tex_commands.specs.Meanings.{symbol_of}
-use Rattle.latex2mathml_tex_units.proofs.Nexts.{no_more_past_space}
+use Rattle.latex2mathml_tex_grammar.proofs.Shrinking.{no_more_past_space}
 use Rattle.latex2mathml_tex_atoms.specs.Models.{context_of}
 use Rattle.latex2mathml_tex.proofs.Rows.{refused_step}
 use Rattle.latex2mathml_tex.proofs.WordRules.{command_refused, command_step}

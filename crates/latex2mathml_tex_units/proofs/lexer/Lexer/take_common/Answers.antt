@@ -1,7 +1,7 @@
 use Rattle.std.proofs.Common.{◌≡◌, ◌∙◌, ◌+◌, ◌<◌, ap, arith, false, get_or, length, refl, rules, subst, sym, true}
 use Rattle.std.proofs.lemmas.Str.{IsCharBoundary-start}
 use Rattle.std.specs.Str.{chars, IsUtf8}
-use Rattle.latex2mathml_tex_grammar.specs.{Cutting.units_of, Macros.count}
+use Rattle.latex2mathml_tex_grammar.specs.{Cutting.units_of, Macros.unit_count}
 use Rattle.latex2mathml_tex_units.specs.{Characters.is_plain, Left.units_left, Standing.AreStanding, Standing.Moves, Taking.piece_of}
 use Rattle.latex2mathml_tex_units.specs.declared.unit.Piece.TheVariants as piece
 use Rattle.latex2mathml_tex_units.proofs.{Plain.in_table, Plain.plain_at, Standing.moved_on, Standing.none_moved, Steps.piece_step, Steps.plain_step, Steps.rest_within}
@@ -30,7 +30,7 @@ units-smaller-then-plain_bytes-from c =
     let here : get_or text c.units.at 0 ≡ c.from-then-plain_bytes-from.result = ap (λ t. get_or t c.units.at 0) (sym c.as_bytes-bytes.ensures.value) ∙ sym c.from-then-plain_bytes-from.ensures in
     let less : c.units.at < length text = subst (λ t. c.units.at < length t) c.as_bytes-bytes.ensures.value c.units-test.true in
     let step = plain_step text c.args.self.now.place c.units.at c.from-then-plain_bytes-from.result utf8 less c.units.invariant.cut here (ap is_plain same ∙ plain) in
-    omega (arith, ap count step.is)
+    omega (arith, ap unit_count step.is)
 
 pub units-preserved-then-plain_bytes-from : goal.units-preserved-then-plain_bytes-from
 units-preserved-then-plain_bytes-from c =
@@ -61,7 +61,7 @@ units-smaller c =
     let behind : IsUtf8 c.in-Some.behind.now = search rules in
     let (w, e, spells) = c.in-Some.ensures.begins in
     let step = piece_step c.args.self.now.rest.now c.in-Some.behind.now w c.args.self.now.place c.units.at (piece_of c.in-Some.piece) utf8 c.units.invariant.within c.units.invariant.cut behind (ap chars (sym c.split_at.ensures.back) ∙ e) spells in
-    omega (arith, ap count step.is)
+    omega (arith, ap unit_count step.is)
 
 pub units-preserved : goal.units-preserved
 units-preserved c =

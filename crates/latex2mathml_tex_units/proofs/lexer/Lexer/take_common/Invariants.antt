@@ -1,7 +1,7 @@
 -- The units so far stay, and the text may be cut where the next one begins.
 use Rattle.std.proofs.Common.{◌+◌, ◌≤◌, drop, length}
 use Rattle.std.specs.Str.{chars, IsCharBoundary}
-use Rattle.latex2mathml_tex_grammar.specs.{Cutting.units_of, Macros.count}
+use Rattle.latex2mathml_tex_grammar.specs.{Cutting.units_of, Macros.unit_count}
 use Rattle.latex2mathml_tex_units.specs.{Left.units_left, Standing.AreStanding, Standing.Moves}
 use Rattle.latex2mathml_tex_units.proofs.lexer.Lexer.take_common.Given as goal
 
@@ -13,4 +13,4 @@ invariant-units l = record {
 }
 
 abbrev pub decreases-units : goal.decreases-units
-decreases-units l = count (units_of (l.fn.self.place + l.at) (chars (drop l.at l.fn.self.rest.now)))
+decreases-units l = unit_count (units_of (l.fn.self.place + l.at) (chars (drop l.at l.fn.self.rest.now)))

@@ -1,6 +1,6 @@
 use Rattle.std.proofs.Common.{◌+◌, ◌-◌, ◌≤◌, [], ◌∷◌, ap, arith, length, refl, rules}
 use Rattle.std.specs.Str.{IsUtf8}
-use Rattle.latex2mathml_tex_grammar.specs.Macros.{count}
+use Rattle.latex2mathml_tex_grammar.specs.Macros.{unit_count}
 use Rattle.latex2mathml_tex_units.specs.{Left.units_left, Taking.piece_of}
 use Rattle.latex2mathml_tex_units.specs.declared.unit.Piece.TheVariants as piece
 use Rattle.latex2mathml_tex_units.proofs.{Plain.plain_before, Standing.moved_on, Taken.end_within, Taken.piece_before}
@@ -11,7 +11,7 @@ units-smaller-in-Some c =
     let behind : IsUtf8 c.in-Some.behind.now = search rules in
     let end = c.args.self.now.place + length c.args.self.now.rest.now in
     let is = plain_before end c.units.rest.now c.in-Some.behind.now c.in-Some.c c.units.invariant.utf8 behind c.units.invariant.within c.in-Some.ensures.0 c.in-Some.ensures.1 in
-    omega (arith, ap count is)
+    omega (arith, ap unit_count is)
 
 pub units-preserved-in-Some : goal.units-preserved-in-Some
 units-preserved-in-Some c =
@@ -31,7 +31,7 @@ units-smaller c =
     let end = c.args.self.now.place + length c.args.self.now.rest.now in
     let (w, e, spells) = c.in-Piece.ensures.start in
     let is = piece_before end c.units.rest.now c.in-Piece.behind.now w (piece_of c.in-Piece.piece) c.units.invariant.utf8 behind c.units.invariant.within e spells in
-    omega (arith, ap count is)
+    omega (arith, ap unit_count is)
 
 pub units-preserved : goal.units-preserved
 units-preserved c =

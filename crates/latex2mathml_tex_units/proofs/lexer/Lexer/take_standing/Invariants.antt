@@ -3,7 +3,7 @@ use Rattle.std.proofs.Common.{◌-◌, ◌≤◌, length}
 use denote.Shadow.{shadow}
 use denote.Text.{Utf8}
 use Rattle.std.specs.Str.{chars}
-use Rattle.latex2mathml_tex_grammar.specs.{Cutting.units_of, Macros.count}
+use Rattle.latex2mathml_tex_grammar.specs.{Cutting.units_of, Macros.unit_count}
 use Rattle.latex2mathml_tex_units.specs.{Left.units_left, Standing.AreStanding, Standing.Moves}
 use Rattle.latex2mathml_tex_units.proofs.lexer.Lexer.take_standing.Given as goal
 
@@ -15,4 +15,4 @@ invariant-units l = record {
 }
 
 abbrev pub decreases-units : goal.decreases-units
-decreases-units l = count (units_of (l.end - length l.rest) (chars l.rest))
+decreases-units l = unit_count (units_of (l.end - length l.rest) (chars l.rest))

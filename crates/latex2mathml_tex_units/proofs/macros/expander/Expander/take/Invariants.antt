@@ -1,5 +1,5 @@
 use Rattle.std.proofs.Common.{◌≡◌, ◌+◌, None}
-use Rattle.latex2mathml_tex_grammar.specs.Macros.{count}
+use Rattle.latex2mathml_tex_grammar.specs.Macros.{unit_count}
 use Rattle.latex2mathml_tex_units.specs.{Expanded.still_expanded, Pending.pending_units}
 use Rattle.latex2mathml_tex_units.proofs.macros.expander.Expander.take.Given as goal
 
@@ -10,4 +10,4 @@ invariant-units l = record {
 }
 
 abbrev pub decreases-units : goal.decreases-units
-decreases-units l = count (pending_units l.self.pending) + l.self.room
+decreases-units l = unit_count (pending_units l.self.pending) + l.self.room

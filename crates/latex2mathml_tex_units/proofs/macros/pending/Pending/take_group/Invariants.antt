@@ -1,5 +1,5 @@
 use Rattle.std.proofs.Common.{◌≡◌, ◌≤◌, map, vec_len}
-use Rattle.latex2mathml_tex_grammar.specs.{Arguments.group, Macros.count}
+use Rattle.latex2mathml_tex_grammar.specs.{Arguments.group, Macros.unit_count}
 use Rattle.latex2mathml_tex_units.specs.{Pending.pending_units, Taking.unit_of}
 use Rattle.latex2mathml_tex_units.proofs.Grouping.{with_all}
 use Rattle.latex2mathml_tex_units.proofs.macros.pending.Pending.take_group.Given as goal
@@ -11,4 +11,4 @@ invariant-group l = record {
 }
 
 abbrev pub decreases-group : goal.decreases-group
-decreases-group l = count (pending_units l.self)
+decreases-group l = unit_count (pending_units l.self)

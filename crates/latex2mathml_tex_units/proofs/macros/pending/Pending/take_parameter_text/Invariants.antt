@@ -1,5 +1,5 @@
 use Rattle.std.proofs.Common.{◌≡◌, ◌≤◌}
-use Rattle.latex2mathml_tex_grammar.specs.{Definitions.parameter_text, Definitions.parameters_behind, Macros.count}
+use Rattle.latex2mathml_tex_grammar.specs.{Definitions.parameter_text, Definitions.parameters_behind, Macros.unit_count}
 use Rattle.latex2mathml_tex_units.specs.{Bodies.taken_in, Pending.pending_units}
 use Rattle.latex2mathml_tex_units.proofs.Grouping.{with_all}
 use Rattle.latex2mathml_tex_units.proofs.macros.pending.Pending.take_parameter_text.Given as goal
@@ -11,4 +11,4 @@ invariant-units l = record {
 }
 
 abbrev pub decreases-units : goal.decreases-units
-decreases-units l = count (pending_units l.self)
+decreases-units l = unit_count (pending_units l.self)

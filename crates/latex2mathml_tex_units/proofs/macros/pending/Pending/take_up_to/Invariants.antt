@@ -1,5 +1,5 @@
 use Rattle.std.proofs.Common.{◌≡◌, ◌≤◌, map, vec_len}
-use Rattle.latex2mathml_tex_grammar.specs.{Arguments.up_to, Macros.count, Refusal.refusal_at}
+use Rattle.latex2mathml_tex_grammar.specs.{Arguments.up_to, Macros.unit_count, Refusal.refusal_at}
 use Rattle.latex2mathml_tex_units.specs.{Pending.pending_units, Taking.kind_of, Taking.piece_of, Taking.unit_of}
 use Rattle.latex2mathml_tex_units.proofs.Grouping.{with_all}
 use Rattle.latex2mathml_tex_units.proofs.macros.pending.Pending.take_up_to.Given as goal
@@ -11,4 +11,4 @@ invariant-units l = record {
 }
 
 abbrev pub decreases-units : goal.decreases-units
-decreases-units l = count (pending_units l.self)
+decreases-units l = unit_count (pending_units l.self)

@@ -1,4 +1,4 @@
-use Rattle.latex2mathml_tex_grammar.specs.{Cutting.units_of, Macros.count}
+use Rattle.latex2mathml_tex_grammar.specs.{Cutting.units_of, Macros.unit_count}
 use Rattle.std.specs.Str.{chars}
 use Rattle.latex2mathml_tex_units.specs.Pending.{pending_units}
 use Rattle.latex2mathml_tex_units.proofs.DefinitionTexts.{Leads}
@@ -8,4 +8,4 @@ abbrev pub invariant-definitions : goal.invariant-definitions
 invariant-definitions l = Leads (units_of 0 (chars l.fn.text)) l.scope (pending_units l.pending)
 
 abbrev pub decreases-definitions : goal.decreases-definitions
-decreases-definitions l = count (pending_units l.pending)
+decreases-definitions l = unit_count (pending_units l.pending)
