@@ -102,13 +102,15 @@ SMALL_ROWS = {r"\begin{smallmatrix}c\\c\end{smallmatrix}": [0.6], r"x_{\substack
 BROKEN = {r"\begin{multline}c\\c\\ccccc\\c\end{multline}": [0, 1 / 2, 1], r"\begin{multline*}ccc\\c\end{multline*}": [1],
           r"c\\ccccc": [1 / 2], r"\begin{gathered}c\\ccccc\end{gathered}": [1 / 2]}
 
-# Delimiters, and how many ems wide they are at least and at most. Those with a size are as wide as TeX's. Those that stretch are at
-# least as wide as the lowest form of TeX's, and at most as wide as the highest one.
+# Delimiters, and how many ems wide they are at least and at most. Those with a size are as wide as TeX's, and so are those that
+# stretch around what is about as high as one of these. Others are at least as wide as the lowest form of TeX's, and at most as wide
+# as the highest one.
 DELIMITERS = {r"\big(": (0.458, 0.458), r"\Big)": (0.597, 0.597), r"\bigg[": (0.528, 0.528), r"\Bigg]": (0.583, 0.583),
               r"\bigl\{": (0.583, 0.583), r"\Bigr\rangle": (0.611, 0.611), r"\big/": (0.578, 0.578), r"\bigm\backslash": (0.578, 0.578),
-              r"\Bigl\lfloor": (0.528, 0.528), r"\left(c^2\right)": (0.458, 0.736), r"\left[\frac cd\right]": (0.417, 0.528),
+              r"\Bigl\lfloor": (0.528, 0.528), r"\left(c^2\right)": (0.458, 0.458), r"\left[\frac cd\right]": (0.417, 0.417),
               r"\left.\frac cd\middle/c\right.": (0.578, 1.044), r"\binom cd": (0.458, 0.458), r"\dbinom cd": (0.736, 0.736),
-              r"\left]\frac cd\right[": (0.417, 0.528), r"\begin{pmatrix}c&c\end{pmatrix}": (0.458, 0.736),
+              r"\left]\frac cd\right[": (0.417, 0.417), r"\left(\dfrac cd\right)": (0.736, 0.736),
+              r"\left(\begin{array}{c}c\\c\end{array}\right)": (0.736, 0.736), r"\begin{pmatrix}c&c\end{pmatrix}": (0.458, 0.736),
               r"\begin{pmatrix}c\\c\end{pmatrix}": (0.458, 0.736), r"\begin{bmatrix}c\\c\end{bmatrix}": (0.417, 0.528),
               r"\begin{cases}c\\c\end{cases}": (0.583, 0.75)}
 

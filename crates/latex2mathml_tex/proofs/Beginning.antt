@@ -3,6 +3,7 @@ use Rattle.std.proofs.Common.{inl, inr, ◌≡◌, ℕ, ◌+◌, ◌≤◌, suc,
 use Rattle.std.specs.Char.{is_ascii_digit}
 use Rattle.latex2mathml_elements.specs.Element.{Element}
 use Rattle.latex2mathml_builder.specs.Built.{Built, elements_in}
+use Rattle.latex2mathml_tex_grammar.specs.Heights.{Low}
 use Rattle.latex2mathml_tex_grammar.specs.{Makes.Core, Makes.braced, Makes.core, Makes.number, Next.past_space, Rows.empty_row, Words.words_atom}
 use Rattle.latex2mathml_tex_grammar.specs.Atoms.{Plain, atom}
 use Rattle.latex2mathml_tex_grammar.specs.Symbols.{Ordinary}
@@ -162,7 +163,7 @@ module _ (s : Start) (p : Parser) (u : Unit) (due : (place : ℕ) × AwaitsOpera
       rw (none, same) led
 
   -- a digit is the whole operand
-  pub digit_taken : (b : Built) (k : Context) (f : Frame) (c : CodeCore) (digit : ℕ) → k ≡ frame_context f → InnermostIs f p → u.piece ≡ piece.Character digit → is_ascii_digit digit ≡ true → elements_in b ≡ (number (option_map alphabet_of k.alphabet) (digit ∷ [])).element ∷ elements_of p → ((x : Element) → core_with c x ≡ core (atom (Plain Ordinary) false x)) → Holds s (record p { builder = b }) (state.Core c)
+  pub digit_taken : (b : Built) (k : Context) (f : Frame) (c : CodeCore) (digit : ℕ) → k ≡ frame_context f → InnermostIs f p → u.piece ≡ piece.Character digit → is_ascii_digit digit ≡ true → elements_in b ≡ (number (option_map alphabet_of k.alphabet) (digit ∷ [])).element ∷ elements_of p → ((x : Element) → core_with c x ≡ core (atom (Plain Ordinary) Low x)) → Holds s (record p { builder = b }) (state.Core c)
   digit_taken b k f c digit e i is one put made =
       let starts : operand_start (piece_of u.piece) ≡ DigitStart (digit ∷ []) = rw some (rw is (rw one refl)) in
       let led : CoreMade (level 0 s p) (Read (core (number (context_at (level 0 s p)).alphabet (digit ∷ []))) (left_of p)) =

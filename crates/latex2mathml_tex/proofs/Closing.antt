@@ -7,7 +7,7 @@ use Rattle.latex2mathml_tex_grammar.specs.{Makes.arrow_label, Makes.core, Makes.
 use Rattle.latex2mathml_tex_grammar.specs.{Rules.gives, Symbols.InScript}
 use Rattle.latex2mathml_tex_grammar.specs.Rules as rules
 use Rattle.latex2mathml_tex.specs.{Frames.Start, Frames.context_at, Frames.labeled_arrow, Innermost.frame_context, Levels.Leads}
-use Rattle.latex2mathml_tex_atoms.specs.Models.{context_of, core_with, kind_of, top}
+use Rattle.latex2mathml_tex_atoms.specs.Models.{context_of, core_with, height_of, kind_of, top}
 use Rattle.latex2mathml_tex_commands.specs.declared.meaning.Style.TheVariants as style
 use Rattle.latex2mathml_tex.specs.Steps.{CanMake, ClosesRow, Follows, Holds, InnermostIs, Made, core_made, elements_of, left_of, level, level_within, operand_made, to_do, words_made}
 use Rattle.latex2mathml_tex_atoms.specs.declared.{atoms.Context.Context, atoms.Core.Core as CodeCore, atoms.Operand.Operand as CodeOperand, atoms.Row.Row as CodeRow}
@@ -50,7 +50,7 @@ module _ (s : Start) (p : Parser) (b : Built) (place : ℕ) (row : CodeRow) wher
   abbrev pub group : Element
   group = row_element (lone (kind_of row.last) (take row.count (elements_of p)))
 
-  pub group_closed : elements_in b ≡ group ∷ drop row.count (elements_of p) → (c : CodeCore) → core_with c group ≡ core (ordinary row.high group) → ClosesRow ending.Group place row s p → Holds s (record p { builder = b }) (state.Core c)
+  pub group_closed : elements_in b ≡ group ∷ drop row.count (elements_of p) → (c : CodeCore) → core_with c group ≡ core (ordinary (height_of row.height) group) → ClosesRow ending.Group place row s p → Holds s (record p { builder = b }) (state.Core c)
   group_closed one c is g = record { style = g.style; claims = rw (one, is) (rw none_beside at (given g.leads)) }
 
   pub formula_closed : elements_in b ≡ group ∷ drop row.count (elements_of p) → (n : ℕ) → ClosesRow (ending.Formula n) place row s p → Holds s (record p { builder = b }) (state.Words (record { count = n + 1; last = None; accent = None }))
@@ -67,7 +67,7 @@ module _ (s : Start) (p : Parser) (b : Built) (place : ℕ) (row : CodeRow) (one
   degree_closed f c inner is g =
       let same = ap context_of is ∙ context_is s p.style p.frames.stack.items f (drop row.count (elements_of p)) g.style inner in
       let x = row_element (take row.count (elements_of p)) in
-      rw (one, same) (operand_due (λ y. gives (root x y.element)) (rw (none_beside s p b place row) at g.leads))
+      rw (one, same) (operand_due (λ y. gives (root x y)) (rw (none_beside s p b place row) at g.leads))
 
 -- the elements of the row are the label of an arrow
 abbrev pub IsLabel : CodeRow → Parser → Built → Type 0

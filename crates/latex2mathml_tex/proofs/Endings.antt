@@ -1,17 +1,17 @@
 -- How rows end.
-use Rattle.std.proofs.Common.{◌≡◌, ◌∙◌, ℕ, zero, suc, ◌+◌, Bool, true, false, List, [], ◌∷◌, Option, Some, None, drop, length, map, not, take, refl, sym, ap, arith, reverse}
+use Rattle.std.proofs.Common.{◌≡◌, ◌∙◌, ℕ, zero, suc, ◌+◌, true, false, List, [], ◌∷◌, Option, Some, None, drop, length, map, take, refl, sym, ap, arith, reverse}
 use Rattle.std.proofs.lemmas.List.{length-drop}
 use Rattle.latex2mathml_elements.specs.Element.{Element}
 use Rattle.latex2mathml_builder.specs.Built.{Built, elements_in}
 use Rattle.latex2mathml_tex_grammar.specs.{Atoms.Plain, Atoms.atom, Delimiters.delimiter_of, Next.next_are, Next.past_space, Next.refusal_here, Symbols.Inner}
-use Rattle.latex2mathml_tex_grammar.specs.Fences.{Height, fenced, height_if}
+use Rattle.latex2mathml_tex_grammar.specs.{Fences.fenced, Heights.Height, Heights.Low}
 use Rattle.latex2mathml_tex_grammar.specs.Makes.{between_delimiters, core, lowered, lowered_divider}
 use Rattle.latex2mathml_tex_grammar.specs.Refusal.{MissingDelimiter}
 use Rattle.latex2mathml_tex_grammar.specs.Rows.{row_element}
 use Rattle.latex2mathml_tex_grammar.specs.Rules.{gives}
 use Rattle.latex2mathml_tex_commands.specs.{Delimiters.delimiter_text, Meanings.style_of}
 use Rattle.latex2mathml_tex_units.specs.{Errors.refusal_of, Left.units_at}
-use Rattle.latex2mathml_tex_atoms.specs.{Models.core_with, Models.row_with, Models.top, Shapes.mapped_first}
+use Rattle.latex2mathml_tex_atoms.specs.{Models.core_with, Models.height_of, Models.is_low, Models.row_with, Models.top, Shapes.mapped_first}
 use Rattle.latex2mathml_tex.specs.Frames.{Start}
 use Rattle.latex2mathml_tex.specs.Steps.{CanMake, ClosesRow, Follows, Holds, core_made, elements_of, left_of, level, to_do}
 use Rattle.latex2mathml_tex_units.specs.declared.input.Input.{Input}
@@ -46,29 +46,29 @@ length_mapped f (suc n) (x ∷ xs) = ap suc (length_mapped f n xs)
 
 -- Rows between delimiters
 
-pub is_low : (high : Bool) → not high ≡ true → high ≡ false
-is_low true e = cc e
-is_low false e = refl
+pub lowest : (height : Height) → is_low height ≡ true → height ≡ Low
+lowest Low e = refl
+lowest height e = cc
 
-pub is_high : (high : Bool) → not high ≡ false → high ≡ true
-is_high true e = refl
-is_high false e = cc e
+stays : (height : Height) (xs : List Element) → is_low height ≡ false → xs ≡ lowered height xs
+stays Low xs e = cc
+stays height xs e = refl
 
--- the dividers among the first n are no higher than a letter, unless the row is high
-pub record Lowered (high : Bool) (n : ℕ) (xs ys : List Element) : Type 0 where
-  pub first : take n ys ≡ lowered high (take n xs)
+-- the dividers among the first n are no higher than a letter, unless the row is
+pub record Lowered (height : Height) (n : ℕ) (xs ys : List Element) : Type 0 where
+  pub first : take n ys ≡ lowered height (take n xs)
   pub below : drop n ys ≡ drop n xs
   pub count : length ys ≡ length xs
 
-pub all_lowered : (high : Bool) (n : ℕ) (xs ys : List Element) → high ≡ false → ys ≡ mapped_first lowered_divider n xs → Lowered high n xs ys
-all_lowered high n xs ys e f = record {
+pub all_lowered : (height : Height) (n : ℕ) (xs ys : List Element) → height ≡ Low → ys ≡ mapped_first lowered_divider n xs → Lowered height n xs ys
+all_lowered height n xs ys e f = record {
   first = rw (e, f) (first_mapped lowered_divider n xs);
   below = rw f (below_mapped lowered_divider n xs);
   count = rw f (length_mapped lowered_divider n xs);
 }
 
-pub none_lowered : (high : Bool) (n : ℕ) (xs : List Element) → high ≡ true → Lowered high n xs xs
-none_lowered high n xs e = record { first = rw e refl; below = refl; count = refl }
+pub none_lowered : (height : Height) (n : ℕ) (xs : List Element) → is_low height ≡ false → Lowered height n xs xs
+none_lowered height n xs e = record { first = stays height (take n xs) e; below = refl; count = refl }
 
 module _ (s : Start) (p : Parser) (opening : Option ℕ) (row : CodeRow) where
   abbrev pub Closes : Type 0
@@ -80,10 +80,10 @@ module _ (s : Start) (p : Parser) (opening : Option ℕ) (row : CodeRow) where
     claims = rw h (all_refuse (refusal_here MissingDelimiter (past_space (left_of p))) s (reverse p.frames.stack.items) (drop (row.count + 0) (elements_of p)) (core_refuses (refusal_here MissingDelimiter (past_space (left_of p))) (level (row.count + 0) s p) (undelimited e g.leads)));
   }
 
-  pub enclosed : (i : Input) (b : Built) (c : CodeCore) (text : List ℕ) (ys zs : List Element) (height : Height) → height ≡ height_if row.high → next_are (delimiter_of ∷ []) (left_of p) ≡ Some (text, units_at i) → Lowered row.high row.count (elements_of p) ys → zs ≡ row_element (take row.count ys) ∷ drop row.count ys → elements_in b ≡ fenced height (delimiter_text opening) text (top zs) ∷ drop 1 zs → ((x : Element) → core_with c x ≡ core (atom (Plain Inner) row.high x)) → Closes → Holds s (record p { input = i; builder = b }) (state.Core c)
-  enclosed i b c text ys zs height high e low put around is g =
-      let x = fenced (height_if row.high) (delimiter_text opening) text (row_element (lowered row.high (take row.count (elements_of p)))) in
-      let all : elements_in b ≡ x ∷ drop row.count (elements_of p) = rw (around, high, put, low.first, low.below) refl in
+  pub enclosed : (i : Input) (b : Built) (c : CodeCore) (text : List ℕ) (ys zs : List Element) → next_are (delimiter_of ∷ []) (left_of p) ≡ Some (text, units_at i) → Lowered (height_of row.height) row.count (elements_of p) ys → zs ≡ row_element (take row.count ys) ∷ drop row.count ys → elements_in b ≡ fenced (height_of row.height) (delimiter_text opening) text (top zs) ∷ drop 1 zs → ((x : Element) → core_with c x ≡ core (atom (Plain Inner) (height_of row.height) x)) → Closes → Holds s (record p { input = i; builder = b }) (state.Core c)
+  enclosed i b c text ys zs e low put around is g =
+      let x = fenced (height_of row.height) (delimiter_text opening) text (row_element (lowered (height_of row.height) (take row.count (elements_of p)))) in
+      let all : elements_in b ≡ x ∷ drop row.count (elements_of p) = rw (around, put, low.first, low.below) refl in
       let count : row.count + 0 ≡ row.count = omega arith in
       record { style = g.style; claims = rw (all, is x) (rw count at (given (delimited (λ closing. gives (between_delimiters (delimiter_text opening) closing (row_with row (elements_of p)))) e g.leads))) }
 

@@ -1,18 +1,21 @@
 -- What is made of the operands of a command, and of an atom that is struck through.
-use Rattle.std.proofs.Common.{◌≡◌, ℕ, ◌+◌, ◌≤◌, ◌&&◌, Bool, true, false, not, List, [], ◌∷◌, ◌++◌, drop, length, reverse, take, refl, sym, ap, ◌∙◌, arith}
+use Rattle.std.proofs.Common.{◌≡◌, ℕ, ◌+◌, ◌≤◌, true, false, List, [], ◌∷◌, ◌++◌, drop, length, reverse, take, refl, sym, ap, ◌∙◌, arith}
 use Rattle.std.proofs.lemmas.List.{length-drop}
+use Rattle.std.specs.Prelude.{if◌then◌else◌}
 use Rattle.latex2mathml_elements.specs.Element.{Element, token}
 use Rattle.latex2mathml_builder.specs.{Built.Built, Built.elements_in, Stacks.is_token, Stacks.lengthened, Stacks.ordered, Stacks.group_at}
 use Rattle.latex2mathml_tex_grammar.specs.{Atoms.atom, Atoms.element_as, Makes.Core, Makes.classed, Makes.core, Makes.classed_kind, Makes.no_letters, Makes.spaced_as, Makes.struck, Makes.text, Makes.choice}
 use Rattle.latex2mathml_tex_grammar.specs.Refusal.{NothingToNegate, refusal_at}
 use Rattle.latex2mathml_tex_grammar.specs.Rules.{gives, refuses, slashed, struck_atom}
 use Rattle.latex2mathml_tex_commands.specs.Meanings.{class_of, style_of}
-use Rattle.latex2mathml_tex_atoms.specs.{Models.core_with, Models.kind_of, Models.operand_with, Models.top, Shapes.IsPut, Shapes.changed_at}
+use Rattle.latex2mathml_tex_atoms.specs.{Models.core_with, Models.height_of, Models.kind_of, Models.operand_with, Models.top, Shapes.IsPut, Shapes.changed_at}
 use Rattle.latex2mathml_tex.specs.{Choices.depth_in, Frames.Start, Frames.last_count, Frames.made_of, Frames.operand_in}
 use Rattle.latex2mathml_tex.specs.Steps.{Begins, CanMake, Follows, HasElements, Holds, core_made, elements_of, level, to_do}
 use Rattle.latex2mathml_tex_commands.specs.declared.meaning.{Class.Class as CodeClass, Style.Style as CodeStyle}
 use Rattle.latex2mathml_tex_atoms.specs.declared.{atoms.Core.Core as CodeCore, atoms.Kind.Kind as CodeKind, atoms.Operand.Operand as CodeOperand}
 use Rattle.latex2mathml_tex.specs.declared.{parse.Parser.Parser}
+use Rattle.latex2mathml_tex_atoms.specs.declared.heights.Height.{Height as CodeHeight}
+use Rattle.latex2mathml_tex_atoms.specs.declared.heights.Height.TheVariants as code_height
 use Rattle.latex2mathml_tex_atoms.specs.declared.atoms.Kind.TheVariants as kind
 use Rattle.latex2mathml_tex_units.specs.declared.error.TexErrorKind.TheVariants as error
 use Rattle.latex2mathml_tex_commands.specs.declared.meaning.Class.TheVariants as class
@@ -100,14 +103,14 @@ module _ (p : Parser) (last : Last) (operand : CodeOperand) where
     classed_put b d class style c e some put kind is put_space same g =
         let x = base style class (top (elements_of p)) in
         let one : elements_in b ≡ x ∷ below = put ∙ rw e (first_changed (base style class) (elements_of p) some) in
-        let then : elements_in d ≡ spaced class x ∷ below = put_space ∙ ap (changed_at (spaced class) 0) one in
-        made_put d c (spaced class x) then (rw e (same x (is ∙ ap (λ ys. classed_kind (class_of class) (top ys)) one))) g
+        let all : elements_in d ≡ spaced class x ∷ below = put_space ∙ ap (changed_at (spaced class) 0) one in
+        made_put d c (spaced class x) all (rw e (same x (is ∙ ap (λ ys. classed_kind (class_of class) (top ys)) one))) g
 
 -- One of four operands
 
 -- what is shown of an operand as its core
 abbrev pub shown_core : CodeOperand → CodeCore
-shown_core o = record { kind = kind.Plain o.class; high = o.high; limits = place.Beside }
+shown_core o = record { kind = kind.Plain o.class; height = o.height; limits = place.Beside }
 
 -- what is shown in this style, of the operands below the uppermost one
 abbrev pub shown_of : CodeStyle → CodeOperand → List Element → Core
@@ -128,21 +131,21 @@ abbrev pub stroke : List ℕ
 stroke = text 0x0338
 
 -- an ordinary atom without limits
-abbrev pub ordinary : Bool → CodeCore
-ordinary high = record { kind = kind.Plain class.Ordinary; high = high; limits = place.Beside }
+abbrev pub ordinary : CodeHeight → CodeCore
+ordinary height = record { kind = kind.Plain class.Ordinary; height = height; limits = place.Beside }
 
-pub slash_put : (operand : CodeOperand) (high : Bool) (xs : List Element) → 1 ≤ length xs → high ≡ (not (is_token xs) && operand.high) → IsPut (ordinary high) (slashed (operand_with operand (top xs)) (struck (top xs))) (drop 1 xs) (lengthened stroke xs)
-slash_put operand high [] h e = absurd (omega (arith, h))
-slash_put operand high (token t a signs ∷ xs) h e = record { element = refl; is = rw e refl }
-slash_put operand high (x ∷ xs) h e = record { element = refl; is = rw e refl }
+pub slash_put : (operand : CodeOperand) (height : CodeHeight) (xs : List Element) → 1 ≤ length xs → height ≡ (if is_token xs then code_height.Low else operand.height) → IsPut (ordinary height) (slashed (operand_with operand (top xs)) (struck (top xs))) (drop 1 xs) (lengthened stroke xs)
+slash_put operand height [] h e = absurd (omega (arith, h))
+slash_put operand height (token t a signs ∷ xs) h e = record { element = refl; is = rw e refl }
+slash_put operand height (x ∷ xs) h e = record { element = refl; is = rw e refl }
 
 -- the atom of a core that is struck through
 abbrev pub StruckTo : ℕ → CodeCore → CodeCore → List Element → Core → Type 0
 StruckTo at c d xs k = IsPut d k (drop 1 xs) (lengthened stroke xs) × (struck_atom at (core_with c (top xs)) (struck (top xs)) ≡ gives k)
 
-is_struck : (at : ℕ) (c : CodeCore) (k : CodeKind) (xs : List Element) → is_token xs ≡ true → kind_of k ≡ no_letters (kind_of c.kind) → (made : Core) × StruckTo at c (record { kind = k; high = c.high; limits = place.Beside }) xs made
+is_struck : (at : ℕ) (c : CodeCore) (k : CodeKind) (xs : List Element) → is_token xs ≡ true → kind_of k ≡ no_letters (kind_of c.kind) → (made : Core) × StruckTo at c (record { kind = k; height = c.height; limits = place.Beside }) xs made
 is_struck at c k [] is same = absurd (cc)
-is_struck at c k (token t a signs ∷ xs) is same = (core (atom (kind_of k) c.high (token t a (signs ++ stroke))), (record { element = refl; is = refl }, rw same refl))
+is_struck at c k (token t a signs ∷ xs) is same = (core (atom (kind_of k) (height_of c.height) (token t a (signs ++ stroke))), (record { element = refl; is = refl }, rw same refl))
 is_struck at c k (x ∷ xs) is same = absurd (cc)
 
 not_struck : (at : ℕ) (c : CodeCore) (xs : List Element) → is_token xs ≡ false → struck_atom at (core_with c (top xs)) (struck (top xs)) ≡ refuses (refusal_at NothingToNegate at)
@@ -154,10 +157,10 @@ module _ (s : Start) (p : Parser) (at : ℕ) (c : CodeCore) where
   abbrev pub BeginsStruck : Type 0
   BeginsStruck = Begins (struck_atom at (core_with c (top (elements_of p))) (struck (top (elements_of p)))) 1 s p
 
-  pub struck_put : (b : Built) (d : CodeCore) (k : CodeKind) → d ≡ record { kind = k; high = c.high; limits = place.Beside } → kind_of k ≡ no_letters (kind_of c.kind) → is_token (elements_of p) ≡ true → elements_in b ≡ lengthened stroke (elements_of p) → BeginsStruck → Holds s (record p { builder = b }) (state.Core d)
+  pub struck_put : (b : Built) (d : CodeCore) (k : CodeKind) → d ≡ record { kind = k; height = c.height; limits = place.Beside } → kind_of k ≡ no_letters (kind_of c.kind) → is_token (elements_of p) ≡ true → elements_in b ≡ lengthened stroke (elements_of p) → BeginsStruck → Holds s (record p { builder = b }) (state.Core d)
   struck_put b d k e same is put g =
       let (made, (to, rule)) = is_struck at c k (elements_of p) is same in
-      rw e (core_of_words s p b 1 (record { kind = k; high = c.high; limits = place.Beside }) made.atom.element made (put ∙ to.element) to.is (rw rule at g))
+      rw e (core_of_words s p b 1 (record { kind = k; height = c.height; limits = place.Beside }) made.atom.element made (put ∙ to.element) to.is (rw rule at g))
 
   pub nothing_struck : (q : Parser) → q.style ≡ p.style → q.refusal ≡ record { kind = error.NothingToNegate; place = at } → is_token (elements_of p) ≡ false → BeginsStruck → Holds s q state.Refused
   nothing_struck q f h is g =

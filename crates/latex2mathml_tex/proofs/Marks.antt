@@ -23,7 +23,8 @@ use Rattle.latex2mathml_tex.proofs.Opening.{context_is}
 use Rattle.latex2mathml_tex.specs.Levels.{AtomMade, CoreMade, Leads, Level, OperandMade, PartMade, Refuses, ScriptsLead, row, operand, part, words}
 use Rattle.latex2mathml_tex.specs.Levels.{core as core_level}
 use Rattle.latex2mathml_tex_commands.specs.Meanings.{limit_place_of, style_of}
-use Rattle.latex2mathml_tex_atoms.specs.Models.{context_of, element_above, element_below, row_count, script_count, scripts_with, top}
+use Rattle.latex2mathml_tex_atoms.specs.declared.heights.Height.{Height as CodeHeight}
+use Rattle.latex2mathml_tex_atoms.specs.Models.{context_of, element_above, element_below, height_of, row_count, script_count, scripts_with, top}
 use Rattle.latex2mathml_tex.specs.Steps.{Holds, InnermostIs, TookMark, TookScript, elements_of, left_of, level, level_within, mark_model}
 use Rattle.latex2mathml_tex_units.specs.declared.error.TexErrorKind.{TexErrorKind}
 use Rattle.latex2mathml_tex_commands.specs.declared.meaning.LimitPlace.{LimitPlace as CodeLimitPlace}
@@ -126,7 +127,7 @@ prime_step : (scripts : Scripts) (below : Option Element) → step_of scripts be
 prime_step scripts None = refl
 prime_step scripts (Some x) = refl
 
-below_step : (scripts : Scripts) (above : Option Element) → step_of scripts None above starts.Below ≡ TakesOperand (λ x. record scripts { below = Some x.element; high = x.high })
+below_step : (scripts : Scripts) (above : Option Element) → step_of scripts None above starts.Below ≡ TakesOperand (λ x. record scripts { below = Some x.element; height = x.height })
 below_step scripts None = refl
 below_step scripts (Some y) = refl
 
@@ -249,7 +250,7 @@ module _ (s : Start) (p : Parser) (c : CodeCore) (scripts : CodeScripts) (m : Ma
 
   -- the scripts with an operand
   abbrev pub script_read : Side → Operand → Scripts
-  script_read side.Below x = record read { below = Some x.element; high = x.high }
+  script_read side.Below x = record read { below = Some x.element; height = x.height }
   script_read side.Above x = record read { above = Some (behind_primes scripts.primes x.element) }
 
   -- these elements are those that were there, with a mark above them of the primes that precede a script on this side
@@ -257,7 +258,7 @@ module _ (s : Start) (p : Parser) (c : CodeCore) (scripts : CodeScripts) (m : Ma
   MarkPut on ys =
       (drop (primes_put on scripts.primes + (script_count scripts + 1)) ys ≡ drop (script_count scripts + 1) here)
       × (drop (primes_put on scripts.primes) ys ≡ here)
-      × ((x : Operand) → script_read on x ≡ with_script on read ys x.element x.high)
+      × ((x : Operand) → script_read on x ≡ with_script on read ys x.element x.height)
 
   abbrev frame_level : Side → List Element → Level
   frame_level on ys = inside s p.frames.stack.items (drop (primes_put on scripts.primes + (script_count scripts + 1)) ys)
@@ -300,19 +301,19 @@ module _ (s : Start) (p : Parser) (c : CodeCore) (scripts : CodeScripts) (m : Ma
 -- After the operand of a script
 
 -- these scripts
-abbrev scripts_of : Bool → ℕ → Bool → Bool → Bool → CodeLimitPlace → Bool → CodeScripts
-scripts_of takes primes below above exchanged limits high = record { primes = primes; below = below; above = above; is_exchanged = exchanged; limits = limits; takes_limits = takes; high = high }
+abbrev scripts_of : Bool → ℕ → Bool → Bool → Bool → CodeLimitPlace → CodeHeight → CodeScripts
+scripts_of takes primes below above exchanged limits height = record { primes = primes; below = below; above = above; is_exchanged = exchanged; limits = limits; takes_limits = takes; height = height }
 
-module _ (s : Start) (fs : List Frame) (c : CodeCore) (takes : Bool) (limits : CodeLimitPlace) (before high : Bool) (m : Units) where
+module _ (s : Start) (fs : List Frame) (c : CodeCore) (takes : Bool) (limits : CodeLimitPlace) (before height : CodeHeight) (m : Units) where
   -- what follows these scripts leads on; their elements are uppermost
   abbrev AllLead : CodeScripts → List Element → Type 0
   AllLead scripts xs = ScriptsLead (inside s fs (drop (script_count scripts + 1) xs)) (base_of c scripts xs).atom (scripts_with scripts xs) m
 
   -- the uppermost element is that of an operand, which is a script in addition to them
   abbrev ScriptLeadsOn : CodeScripts → Side → List Element → Type 0
-  ScriptLeadsOn scripts on xs = (class : Class) → ScriptMade (inside s fs (drop (primes_put on scripts.primes + (script_count scripts + 2)) xs)) c scripts on (drop 1 xs) (Read (record { element = top xs; class = class; high = high }) m)
+  ScriptLeadsOn scripts on xs = (class : Class) → ScriptMade (inside s fs (drop (primes_put on scripts.primes + (script_count scripts + 2)) xs)) c scripts on (drop 1 xs) (Read (record { element = top xs; class = class; height = height_of height }) m)
 
-  below_read : (primes : ℕ) (below above exchanged : Bool) (xs : List Element) → ScriptLeadsOn (scripts_of takes primes below above exchanged limits before) side.Below xs → AllLead (scripts_of takes primes true above above limits high) xs
+  below_read : (primes : ℕ) (below above exchanged : Bool) (xs : List Element) → ScriptLeadsOn (scripts_of takes primes below above exchanged limits before) side.Below xs → AllLead (scripts_of takes primes true above above limits height) xs
   below_read primes true above exchanged xs k = cc (k class.Ordinary).0
   below_read primes false true exchanged [] k = (k class.Ordinary).1
   below_read primes false true exchanged (x ∷ []) k = (k class.Ordinary).1
@@ -344,15 +345,15 @@ module _ (s : Start) (fs : List Frame) (c : CodeCore) (takes : Bool) (limits : C
   any_behind_read zero below above exchanged xs ys some enough e k = absurd (omega (arith, some))
   any_behind_read (suc primes) below above exchanged xs ys some enough e k = rw e (behind_read primes below above exchanged xs enough k)
 
-module _ (s : Start) (p : Parser) (c : CodeCore) (scripts : CodeScripts) (high : Bool) where
-  pub script_below : (on : Side) → on ≡ side.Below → TookScript c scripts on high s p → Holds s p (state.Atom c (record scripts { below = true; is_exchanged = scripts.above; high = high }))
-  script_below side.Below e g = record { style = g.style; claims = below_read s p.frames.stack.items c scripts.takes_limits scripts.limits scripts.high high (left_of p) scripts.primes scripts.below scripts.above scripts.is_exchanged (elements_of p) g.leads }
+module _ (s : Start) (p : Parser) (c : CodeCore) (scripts : CodeScripts) (height : CodeHeight) where
+  pub script_below : (on : Side) → on ≡ side.Below → TookScript c scripts on height s p → Holds s p (state.Atom c (record scripts { below = true; is_exchanged = scripts.above; height = height }))
+  script_below side.Below e g = record { style = g.style; claims = below_read s p.frames.stack.items c scripts.takes_limits scripts.limits scripts.height height (left_of p) scripts.primes scripts.below scripts.above scripts.is_exchanged (elements_of p) g.leads }
   script_below side.Above e g = cc e
 
-  pub script_above : (on : Side) → on ≡ side.Above → scripts.primes ≡ 0 → TookScript c scripts on high s p → Holds s p (state.Atom c (record scripts { above = true; is_exchanged = false }))
-  script_above side.Above e none g = record { style = g.style; claims = any_above_read s p.frames.stack.items c scripts.takes_limits scripts.limits scripts.high high (left_of p) scripts.primes scripts.below scripts.above scripts.is_exchanged (elements_of p) none g.leads }
+  pub script_above : (on : Side) → on ≡ side.Above → scripts.primes ≡ 0 → TookScript c scripts on height s p → Holds s p (state.Atom c (record scripts { above = true; is_exchanged = false }))
+  script_above side.Above e none g = record { style = g.style; claims = any_above_read s p.frames.stack.items c scripts.takes_limits scripts.limits scripts.height height (left_of p) scripts.primes scripts.below scripts.above scripts.is_exchanged (elements_of p) none g.leads }
   script_above side.Below e none g = cc e
 
-  pub script_behind : (b : Built) (on : Side) → on ≡ side.Above → 0 < scripts.primes → 2 ≤ length (elements_of p) → elements_in b ≡ row_element (take 2 (elements_of p)) ∷ drop 2 (elements_of p) → TookScript c scripts on high s p → Holds s (record p { builder = b }) (state.Atom c (record scripts { above = true; is_exchanged = false }))
-  script_behind b side.Above e some enough put g = record { style = g.style; claims = any_behind_read s p.frames.stack.items c scripts.takes_limits scripts.limits scripts.high high (left_of p) scripts.primes scripts.below scripts.above scripts.is_exchanged (elements_of p) (elements_in b) some enough put g.leads }
+  pub script_behind : (b : Built) (on : Side) → on ≡ side.Above → 0 < scripts.primes → 2 ≤ length (elements_of p) → elements_in b ≡ row_element (take 2 (elements_of p)) ∷ drop 2 (elements_of p) → TookScript c scripts on height s p → Holds s (record p { builder = b }) (state.Atom c (record scripts { above = true; is_exchanged = false }))
+  script_behind b side.Above e some enough put g = record { style = g.style; claims = any_behind_read s p.frames.stack.items c scripts.takes_limits scripts.limits scripts.height height (left_of p) scripts.primes scripts.below scripts.above scripts.is_exchanged (elements_of p) (elements_in b) some enough put g.leads }
   script_behind b side.Below e some enough put g = cc e

@@ -11,6 +11,7 @@ use Rattle.latex2mathml_tex.specs.Frames.{ScriptMade, Start, after_first, contex
 use Rattle.latex2mathml_tex.specs.Innermost.{IsInnermost, none_begun, on_top}
 use Rattle.latex2mathml_tex.specs.Levels.{CoreMade, OperandMade, RuleLeads, ScriptsLead, Then}
 use Rattle.latex2mathml_tex_commands.specs.Meanings.{style_of}
+use Rattle.latex2mathml_tex_atoms.specs.declared.heights.Height.TheVariants as code_height
 use Rattle.latex2mathml_tex_atoms.specs.Models.{context_of, core_with, kind_of, operand_with, row_with, script_count, top}
 use Rattle.latex2mathml_tex.specs.Steps.{Begins, FirstRead, Follows, Holds, InnermostIs, Ready, TookScript, accepts, elements_of, first_accepts, left_of, operand_made, to_do}
 use Rattle.latex2mathml_tex_commands.specs.declared.meaning.Style.{Style as CodeStyle}
@@ -25,7 +26,7 @@ use Rattle.latex2mathml_tex.specs.declared.parse.frames.Frame.TheVariants as fra
 use Rattle.latex2mathml_tex.proofs.Opening.{into_frame, out_of_frame}
 
 -- the operand of a script, whose frame is taken off
-pub script_taken : (s : Start) (p : Parser) (fr : Frames) (c : CodeCore) (scripts : Scripts) (on : Side) (place : ℕ) (context : Context) (operand : CodeOperand) → IsInnermost p.style p.frames.stack.items (frame.Script c scripts on place context) fr.stack.items → Holds s p (state.Operand operand) → TookScript c scripts on operand.high s (record p { frames = fr })
+pub script_taken : (s : Start) (p : Parser) (fr : Frames) (c : CodeCore) (scripts : Scripts) (on : Side) (place : ℕ) (context : Context) (operand : CodeOperand) → IsInnermost p.style p.frames.stack.items (frame.Script c scripts on place context) fr.stack.items → Holds s p (state.Operand operand) → TookScript c scripts on operand.height s (record p { frames = fr })
 script_taken s p fr c scripts on place context operand i g =
     let xs = elements_of p in
     let own = primes_put on scripts.primes + (script_count scripts + 1) in
@@ -67,7 +68,7 @@ first_taken s p fr one place context operand i g =
 
 -- Within a row scripts may follow the atom
 
-pub core_in_row : (s : Start) (p : Parser) (c : CodeCore) (scripts : Scripts) (f : Frame) (e : Ending) (place : ℕ) (context : Context) (row : CodeRow) → InnermostIs f p → f ≡ frame.Row e place context row → scripts ≡ record { primes = 0; below = false; above = false; is_exchanged = false; limits = c.limits; takes_limits = takes_limits (kind_of c.kind); high = false } → Holds s p (state.Core c) → Holds s p (state.Atom c scripts)
+pub core_in_row : (s : Start) (p : Parser) (c : CodeCore) (scripts : Scripts) (f : Frame) (e : Ending) (place : ℕ) (context : Context) (row : CodeRow) → InnermostIs f p → f ≡ frame.Row e place context row → scripts ≡ record { primes = 0; below = false; above = false; is_exchanged = false; limits = c.limits; takes_limits = takes_limits (kind_of c.kind); height = code_height.Low } → Holds s p (state.Core c) → Holds s p (state.Atom c scripts)
 core_in_row s p c scripts f e place context row (others, i) is none g =
     let xs = drop 1 (elements_of p) in
     let fs = p.frames.stack.items in
@@ -137,9 +138,9 @@ module _ (style : Style) (x : Atom) (row : CodeRow) (xs ys : List Element) (long
       let none = never_parted style x.kind in
       omega (arith, length-take row.count ys, there, rw none at some)
 
-  pub is_single : operand_with (record { class = row.class; high = row.high }) (top ys) ≡ single style x
+  pub is_single : operand_with (record { class = row.class; height = row.height }) (top ys) ≡ single style x
   is_single =
-      let alone : operand_with (record { class = row.class; high = row.high }) (top ys) ≡ operand_of (row_with row ys) = rw (one_alone row.count ys one there) refl in
+      let alone : operand_with (record { class = row.class; height = row.height }) (top ys) ≡ operand_of (row_with row ys) = rw (one_alone row.count ys one there) refl in
       alone ∙ ap operand_of longer
 
   pub under_one : drop 1 ys ≡ drop 1 xs
@@ -150,7 +151,7 @@ module _ (style : Style) (x : Atom) (row : CodeRow) (xs ys : List Element) (long
 
 module _ (p : Parser) (b : Built) (c : CodeCore) (f : Frame) (context : Context) (row : CodeRow) where
   abbrev put_operand : CodeOperand
-  put_operand = record { class = row.class; high = row.high }
+  put_operand = record { class = row.class; height = row.height }
 
   -- the atom was put in a row of its own
   abbrev pub PutAlone : Type 0

@@ -2,6 +2,7 @@
 use Rattle.std.proofs.Common.{Bool, true, ◌≡◌, ℕ, ◌+◌, ◌≤◌, false, List, ◌∷◌, Option, Some, None, sym, ap, ◌∙◌, arith}
 use Rattle.latex2mathml_elements.specs.Element.{Element}
 use Rattle.latex2mathml_builder.specs.Built.{Built, elements_in}
+use Rattle.latex2mathml_tex_grammar.specs.Heights.{Low}
 use Rattle.latex2mathml_tex_grammar.specs.{Atoms.Plain, Atoms.atom, Makes.Core, Makes.core, Makes.number, Next.digits_next, Next.follows, Next.next_are, Symbols.Alphabet, Symbols.Ordinary, Units.Piece}
 use Rattle.latex2mathml_tex_grammar.specs.Rules.{Rule, gives, if_follows, takes_digits, takes_if}
 use Rattle.latex2mathml_tex_units.specs.Left.{unit_count, units_at}
@@ -60,5 +61,5 @@ module _ (s : Start) (p : Parser) {test : Piece → Bool} {then otherwise : Rule
   before_none e g = record { style = g.style; leads = none_follows e g.leads }
 
 -- the element of a number
-pub number_put : (s : Start) (p : Parser) (b : Built) (c : CodeCore) (given_alphabet alphabet : Option Alphabet) (ds : List ℕ) → ((x : Element) → core_with c x ≡ core (atom (Plain Ordinary) false x)) → given_alphabet ≡ alphabet → elements_in b ≡ (number given_alphabet ds).element ∷ elements_of p → Begins (gives (core (number alphabet ds))) 0 s p → Holds s (record p { builder = b }) (state.Core c)
+pub number_put : (s : Start) (p : Parser) (b : Built) (c : CodeCore) (given_alphabet alphabet : Option Alphabet) (ds : List ℕ) → ((x : Element) → core_with c x ≡ core (atom (Plain Ordinary) Low x)) → given_alphabet ≡ alphabet → elements_in b ≡ (number given_alphabet ds).element ∷ elements_of p → Begins (gives (core (number alphabet ds))) 0 s p → Holds s (record p { builder = b }) (state.Core c)
 number_put s p b c given_alphabet alphabet ds f h e g = core_put s p b c (number given_alphabet ds).element (core (number alphabet ds)) e (f (number given_alphabet ds).element ∙ ap (λ a. core (number a ds)) h) g

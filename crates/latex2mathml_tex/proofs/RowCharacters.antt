@@ -10,6 +10,7 @@ use Rattle.latex2mathml_tex_grammar.specs.Rules as rules
 use Rattle.latex2mathml_tex_grammar.specs.Rules.{WholeText, InBraces, InBrackets, InDollars, InDelimiters, InCell, InLabel, ByName, OfDiagram, ByBrace, ByText}
 use Rattle.latex2mathml_tex_grammar.specs.Starts.{RuleStart, atom_start, ends}
 use Rattle.latex2mathml_tex_grammar.specs.Units.{Character, Next, Open}
+use Rattle.latex2mathml_tex_atoms.specs.declared.heights.Height.TheVariants as code_height
 use Rattle.latex2mathml_tex_atoms.specs.Models.{context_of, empty_row}
 use Rattle.latex2mathml_tex_units.specs.{Left.EndsNumber, Left.unit_count, Left.units_at, Left.units_behind, Taking.unit_of}
 use Rattle.latex2mathml_tex_units.specs.declared.{input.Input.Input, unit.Unit.Unit}
@@ -120,11 +121,11 @@ symbol_begins p i u c there is taken s k row none h =
     character_begins p i u c is s k row none (character_next p i u c is next) h
 
 -- what follows an atom that was put in the innermost row
-pub scripts_follow : (p : Parser) (k : Context) → IsRowInnermost p.style p.frames.stack.items k → (c : Core) (scripts : Scripts) → scripts ≡ record { primes = 0; below = false; above = false; is_exchanged = false; limits = c.limits; takes_limits = takes_limits (kind_of c.kind); high = false } → (s : Start) → Holds s p (state.Core c) → Holds s p (state.Atom c scripts)
+pub scripts_follow : (p : Parser) (k : Context) → IsRowInnermost p.style p.frames.stack.items k → (c : Core) (scripts : Scripts) → scripts ≡ record { primes = 0; below = false; above = false; is_exchanged = false; limits = c.limits; takes_limits = takes_limits (kind_of c.kind); height = code_height.Low } → (s : Start) → Holds s p (state.Core c) → Holds s p (state.Atom c scripts)
 scripts_follow p k (e, (place, (row, (others, (inner, plain))))) c scripts none s g = core_in_row s p c scripts (frame.Row e place k row) e place k row (others, inner) refl none g
 
 -- the innermost row waits for an atom that was put
-pub scripts_ready : (p : Parser) (b : Built) (k : Context) → IsRowInnermost p.style p.frames.stack.items k → (c : Core) (scripts : Scripts) (made : Makes.Core) → scripts ≡ record { primes = 0; below = false; above = false; is_exchanged = false; limits = c.limits; takes_limits = takes_limits (kind_of c.kind); high = false } → IsPut c made (elements_of p) (elements_in b) → CanBegin 0 p → Ready (record p { builder = b }) (state.Atom c scripts)
+pub scripts_ready : (p : Parser) (b : Built) (k : Context) → IsRowInnermost p.style p.frames.stack.items k → (c : Core) (scripts : Scripts) (made : Makes.Core) → scripts ≡ record { primes = 0; below = false; above = false; is_exchanged = false; limits = c.limits; takes_limits = takes_limits (kind_of c.kind); height = code_height.Low } → IsPut c made (elements_of p) (elements_in b) → CanBegin 0 p → Ready (record p { builder = b }) (state.Atom c scripts)
 scripts_ready p b k (e, (place, (row, (others, (inner, plain))))) c scripts made none put can = record {
   elements = rw (none, put.element) (omega (arith, can.elements));
   may_come = let waits = row_awaits p e place row k others inner can in record { accepted = waits.accepted; nested = waits.nested };

@@ -21,6 +21,7 @@ use Rattle.latex2mathml_tex_units.specs.declared.{error.TexError.TexError, input
 use Rattle.latex2mathml_tex_commands.specs.declared.meaning.Style.{Style}
 use Rattle.latex2mathml_tex_atoms.specs.declared.{atoms.Before.Before as CodeBefore, atoms.Context.Context, atoms.Core.Core as CodeCore, atoms.Row.Row as CodeRow, atoms.Scripts.Scripts as CodeScripts}
 use Rattle.latex2mathml_tex.specs.declared.{parse.Parser.Parser, parse.State.State, parse.scripts.Mark.Mark}
+use Rattle.latex2mathml_tex_atoms.specs.declared.heights.Height.TheVariants as code_height
 use Rattle.latex2mathml_tex_atoms.specs.declared.atoms.Kind.TheVariants as kind
 use Rattle.latex2mathml_tex_commands.specs.declared.meaning.Class.TheVariants as class
 use Rattle.latex2mathml_tex_commands.specs.declared.meaning.LimitPlace.TheVariants as code_place
@@ -189,7 +190,7 @@ step_within old q new st (Err e) n m h f = f
 pub no_divider : (s : Start) (p : Parser) → next_are (delimiter_of ∷ []) (left_of p) ≡ None → BeginsDivider s p → Refuses (level 0 s p) (refusal_here MissingDelimiter (past_space (left_of p)))
 no_divider s p e g = atom_refuses (refusal_here MissingDelimiter (past_space (left_of p))) (level 0 s p) (undelimited e g.leads)
 
-pub divider_put : (s : Start) (p : Parser) (i : Input) (b : Built) (c : CodeCore) (text : List ℕ) → next_are (delimiter_of ∷ []) (left_of p) ≡ Some (text, units_at i) → elements_in b ≡ (divider text).element ∷ elements_of p → c ≡ record { kind = kind.Divider; high = false; limits = code_place.Beside } → BeginsDivider s p → MadeAtom c s (record p { input = i; builder = b })
+pub divider_put : (s : Start) (p : Parser) (i : Input) (b : Built) (c : CodeCore) (text : List ℕ) → next_are (delimiter_of ∷ []) (left_of p) ≡ Some (text, units_at i) → elements_in b ≡ (divider text).element ∷ elements_of p → c ≡ record { kind = kind.Divider; height = code_height.Low; limits = code_place.Beside } → BeginsDivider s p → MadeAtom c s (record p { input = i; builder = b })
 divider_put s p i b c text e put is g = record {
   style = g.style;
   leads = rw (put, is) (given (delimited (λ text. gives (core (divider text))) e g.leads));
@@ -197,7 +198,7 @@ divider_put s p i b c text e put is g = record {
 
 -- Scripts whose base is a row without atoms
 
-pub mark_begins : (s : Start) (p : Parser) (b : Built) (m : Mark) (place : ℕ) (c : CodeCore) (scripts : CodeScripts) → elements_in b ≡ row_element [] ∷ elements_of p → c ≡ record { kind = kind.Plain class.Ordinary; high = false; limits = code_place.Beside } → scripts ≡ record { primes = 0; below = false; above = false; is_exchanged = false; limits = code_place.Beside; takes_limits = false; high = false } → TookMark m place (level 0 s p) empty_base (no_scripts empty_base.kind Beside) s p → TookMark m place (inside s p.frames.stack.items (drop (script_count scripts + 1) (elements_in b))) (base_of c scripts (elements_in b)).atom (scripts_with scripts (elements_in b)) s (record p { builder = b })
+pub mark_begins : (s : Start) (p : Parser) (b : Built) (m : Mark) (place : ℕ) (c : CodeCore) (scripts : CodeScripts) → elements_in b ≡ row_element [] ∷ elements_of p → c ≡ record { kind = kind.Plain class.Ordinary; height = code_height.Low; limits = code_place.Beside } → scripts ≡ record { primes = 0; below = false; above = false; is_exchanged = false; limits = code_place.Beside; takes_limits = false; height = code_height.Low } → TookMark m place (level 0 s p) empty_base (no_scripts empty_base.kind Beside) s p → TookMark m place (inside s p.frames.stack.items (drop (script_count scripts + 1) (elements_in b))) (base_of c scripts (elements_in b)).atom (scripts_with scripts (elements_in b)) s (record p { builder = b })
 mark_begins s p b m place c scripts put is none g = record {
   style = g.style;
   before = g.before;

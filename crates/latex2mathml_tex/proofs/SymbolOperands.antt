@@ -4,6 +4,7 @@ use Rattle.std.proofs.lemmas.Bool.Decides.{nat_tests}
 use Rattle.std.specs.Char.{is_ascii_alphabetic, is_ascii_alphanumeric, is_ascii_digit}
 use Rattle.latex2mathml_elements.specs.Element.{Element}
 use Rattle.latex2mathml_builder.specs.Built.{Built, elements_in}
+use Rattle.latex2mathml_tex_grammar.specs.Heights.{Low}
 use Rattle.latex2mathml_tex_grammar.specs.Atoms.{Atom, Kind, Nothing, Plain, SignOf, atom, awaits_second, past}
 use Rattle.latex2mathml_tex_grammar.specs.Makes.{core, letter, no_scripts, number}
 use Rattle.latex2mathml_tex_grammar.specs.{Next.digits_next, Next.past_space, Rests.finished}
@@ -19,7 +20,7 @@ use Rattle.latex2mathml_tex_grammar.specs.Units.{Character, Close, Next, Open, U
 use Rattle.latex2mathml_tex_commands.specs.Meanings.{alphabet_of, style_of}
 use Rattle.latex2mathml_tex_units.specs.{Left.TakesLone, Left.by_itself, Left.in_braces, Left.unit_count, Left.units_at}
 use Rattle.latex2mathml_tex_units.specs.declared.input.Input.{Input}
-use Rattle.latex2mathml_tex_atoms.specs.{Models.context_of, Models.core_with, Models.row_with, Models.script_count, Models.top, Shapes.IsPut}
+use Rattle.latex2mathml_tex_atoms.specs.{Models.context_of, Models.core_with, Models.height_of, Models.row_with, Models.script_count, Models.top, Shapes.IsPut}
 use Rattle.latex2mathml_tex_atoms.specs.declared.atoms.{Context.Context, Core.Core, Operand.Operand, Row.Row, Scripts.Scripts}
 use Rattle.latex2mathml_tex.specs.RowCharacters.{ends_or_marks}
 use Rattle.latex2mathml_tex.specs.SymbolOperands.{TookOperand}
@@ -120,22 +121,22 @@ module _ (k : Context) (i j : Input) (c : ℕ) (lone : TakesLone c (units_at i) 
   Longer = row_with row (elements_in new) ≡ with_atom (style_of k.style) empty_row (core_with put (top (elements_in middle))).atom
 
   -- an atom that was put is the operand
-  took : (a : Atom) → ((place : ℕ) → ReadsOperand place (context_of k) (units_at i) (Read (single (style_of k.style) a) (units_at j))) → elements_in middle ≡ a.element ∷ elements_in old → row_with row (elements_in new) ≡ with_atom (style_of k.style) empty_row a → TookOperand (record { class = row.class; high = row.high }) k i j old new
+  took : (a : Atom) → ((place : ℕ) → ReadsOperand place (context_of k) (units_at i) (Read (single (style_of k.style) a) (units_at j))) → elements_in middle ≡ a.element ∷ elements_in old → row_with row (elements_in new) ≡ with_atom (style_of k.style) empty_row a → TookOperand (record { class = row.class; height = row.height }) k i j old new
   took a reads is longer = record {
     operand = single (style_of k.style) a;
-    is = ap (λ (r : rows.Row). record { element = (single (style_of k.style) a).element; class = r.class; high = r.high }) longer;
+    is = ap (λ (r : rows.Row). record { element = (single (style_of k.style) a).element; class = r.class; height = r.height }) longer;
     reads = reads;
     put = put_alone k a row (elements_in old) (elements_in middle) (elements_in new) is longer below there;
     fewer = fewer c (units_at i) (units_at j) lone;
   }
 
-  pub took_letter : is_ascii_digit c ≡ false → is_ascii_alphabetic c ≡ true → IsPut put (core (letter (option_map alphabet_of k.alphabet) c)) (elements_in old) (elements_in middle) → Longer → TookOperand (record { class = row.class; high = row.high }) k i j old new
+  pub took_letter : is_ascii_digit c ≡ false → is_ascii_alphabetic c ≡ true → IsPut put (core (letter (option_map alphabet_of k.alphabet) c)) (elements_in old) (elements_in middle) → Longer → TookOperand (record { class = row.class; height = row.height }) k i j old new
   took_letter none alphabetic is_put longer =
       let a = letter (option_map alphabet_of k.alphabet) c in
       let made : (core_with put (top (elements_in middle))).atom ≡ a = rw is_put.element (ap (λ (x : makes.Core). x.atom) is_put.is) in
       took a (λ place. letter_read (context_of k) c place none alphabetic (units_at i) (units_at j) lone) is_put.element (longer ∙ ap (with_atom (style_of k.style) empty_row) made)
 
-  pub took_digit : is_ascii_digit c ≡ true → elements_in middle ≡ (number (option_map alphabet_of k.alphabet) (c ∷ [])).element ∷ elements_in old → ((x : Element) → core_with put x ≡ core (atom (Plain Ordinary) false x)) → Longer → TookOperand (record { class = row.class; high = row.high }) k i j old new
+  pub took_digit : is_ascii_digit c ≡ true → elements_in middle ≡ (number (option_map alphabet_of k.alphabet) (c ∷ [])).element ∷ elements_in old → ((x : Element) → core_with put x ≡ core (atom (Plain Ordinary) Low x)) → Longer → TookOperand (record { class = row.class; height = row.height }) k i j old new
   took_digit one is_put number_is longer =
       let a = number (option_map alphabet_of k.alphabet) (c ∷ []) in
       let made : (core_with put (top (elements_in middle))).atom ≡ a = rw is_put (ap (λ (x : makes.Core). x.atom) (number_is a.element)) in
@@ -163,7 +164,7 @@ operand_follows p place x k i b (f, (others, inner), is) read ready =
     }
 
 -- the operand of a script was read without a frame
-pub script_read : (s : Start) (p : Parser) (i : Input) (b : Built) (base : Core) (scripts : Scripts) (on : Side) (place : ℕ) (k : Context) (put : Operand) → s.style ≡ style_of p.style → TookOperand put k p.input i p.builder b → Leads (level_within (frame.Script base scripts on place k) 0 s p) (left_of p) → TookScript base scripts on put.high s (record p { input = i; builder = b })
+pub script_read : (s : Start) (p : Parser) (i : Input) (b : Built) (base : Core) (scripts : Scripts) (on : Side) (place : ℕ) (k : Context) (put : Operand) → s.style ≡ style_of p.style → TookOperand put k p.input i p.builder b → Leads (level_within (frame.Script base scripts on place k) 0 s p) (left_of p) → TookScript base scripts on put.height s (record p { input = i; builder = b })
 script_read s p i b base scripts on place k put style took leads =
     let xs = elements_of p in
     let x = took.operand in
@@ -172,8 +173,8 @@ script_read s p i b base scripts on place k put style took leads =
     let count : all ≡ suc own = omega arith in
     let made : ScriptMade (inside s p.frames.stack.items (drop own xs)) base scripts on xs (Read x (units_at i)) = leads (Read x (units_at i)) (took.reads place) in
     let there : ScriptMade (inside s p.frames.stack.items (drop all (x.element ∷ xs))) base scripts on xs (Read x (units_at i)) = rw count made in
-    let high : put.high ≡ x.high = ap (λ o. o.high) took.is in
+    let height : height_of put.height ≡ x.height = ap (λ o. o.height) took.is in
     record {
       style = style;
-      leads = λ class. subst (λ ys. ScriptMade (inside s p.frames.stack.items (drop all ys)) base scripts on (drop 1 ys) (Read (record { element = top ys; class = class; high = put.high }) (units_at i))) (sym took.put) (rw high there);
+      leads = λ class. subst (λ ys. ScriptMade (inside s p.frames.stack.items (drop all ys)) base scripts on (drop 1 ys) (Read (record { element = top ys; class = class; height = height_of put.height }) (units_at i))) (sym took.put) (rw height there);
     }

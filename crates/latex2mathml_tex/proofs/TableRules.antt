@@ -161,7 +161,7 @@ rows_reversed a columns (y ∷ ys) x xs = rows_reversed a columns ys y (x ∷ xs
 table_of_lines : (a : Attributes) (columns : Columns) (lines : Lines) (xs : List Element) → xs ≡ lines.last ∷ lines.others → table_with a columns (reverse xs) ≡ table (attributes_in columns a) (rows_of columns lines)
 table_of_lines a columns lines xs e = ap (λ k. table_with a columns (reverse k)) e ∙ rows_reversed a columns lines.others lines.last []
 
-pub table_made : (s : Start) (p : Parser) (b : Built) (delimiters : Option (Option ℕ × Option ℕ)) (columns : CodeColumns) (own : Style) (rows : ℕ) (f : Frame) (around : Context) (said : Option MathStyle) (c : CodeCore) → around ≡ frame_context f → InnermostIs f p → option_map math_style_of said ≡ said_style (style_of own) (style_of around.style) → elements_in b ≡ between_any (option_map delimiter_texts delimiters) (height_of (take rows (elements_of p))) (table_with (attributes.styled (option_map math_style_of said)) (columns_of columns) (reverse (take rows (elements_of p)))) ∷ drop rows (elements_of p) → ((x : Element) → core_with c x ≡ core (atom (Plain (table_class (option_map delimiter_texts delimiters))) true x)) → MakesTable delimiters columns own rows s p → Holds s (record p { builder = b }) (state.Core c)
+pub table_made : (s : Start) (p : Parser) (b : Built) (delimiters : Option (Option ℕ × Option ℕ)) (columns : CodeColumns) (own : Style) (rows : ℕ) (f : Frame) (around : Context) (said : Option MathStyle) (c : CodeCore) → around ≡ frame_context f → InnermostIs f p → option_map math_style_of said ≡ said_style (style_of own) (style_of around.style) → elements_in b ≡ between_any (option_map delimiter_texts delimiters) (height_of (take rows (elements_of p))) (table_with (attributes.styled (option_map math_style_of said)) (columns_of columns) (reverse (take rows (elements_of p)))) ∷ drop rows (elements_of p) → ((x : Element) → core_with c x ≡ core (atom (Plain (table_class (option_map delimiter_texts delimiters))) (height_of (take rows (elements_of p))) x)) → MakesTable delimiters columns own rows s p → Holds s (record p { builder = b }) (state.Core c)
 table_made s p b delimiters columns own rows f around said c is inner says put core_is g =
     let outer : context_of around ≡ context_at (level rows s p) = ap context_of is ∙ context_is s p.style p.frames.stack.items f (drop rows (elements_of p)) g.style inner in
     let style : option_map math_style_of said ≡ said_style (style_of own) (context_at (level rows s p)).style = says ∙ ap (λ (k : RuleContext). said_style (style_of own) k.style) outer in
@@ -175,7 +175,7 @@ table_made s p b delimiters columns own rows f around said c is inner says put c
     ∙ ap (λ k. between_any texts height (table_with (attributes.styled k) (columns_of columns) (reverse (take rows (elements_of p)))) ∷ drop rows (elements_of p)) style
     ∙ ap (λ y. between_any texts height y ∷ drop rows (elements_of p)) (table_of_lines a (columns_of columns) g.lines (take rows (elements_of p)) g.are)
     ∙ ap (λ ys. between_any texts (height_of ys) made ∷ drop rows (elements_of p)) g.are in
-    record { style = g.style; claims = rw (one, core_is x) (given g.leads) }
+    record { style = g.style; claims = rw (one, core_is x ∙ ap (λ ys. core (atom (Plain (table_class texts)) (height_of ys) x)) g.are) (given g.leads) }
 
 -- less is left to do after the lines before the first row
 pub begun_step : (p : Parser) (b : Built) (i : Input) (new : Parser) (st : State) (answer : Result ⊤ AllocError) → units_at i ≡ past BeforeRow (left_of p) → Advances 6 (record p { builder = b; input = i }) new st answer → Advances 12 p new st answer

@@ -1,9 +1,10 @@
 -- What the parser's frames mean: each is a level that was entered. A frame holds no elements: those that were read for it are
 -- the first of the elements that are given next to it, the uppermost first.
-use Rattle.std.specs.Prelude.{◌≡◌, ℕ, zero, suc, ◌+◌, Bool, true, IsFalse, List, [], ◌∷◌, drop, reverse, take, option_map, Some}
+use Rattle.std.specs.Prelude.{◌≡◌, ℕ, zero, suc, ◌+◌, IsFalse, List, [], ◌∷◌, drop, reverse, take, option_map, Some}
 use Rattle.latex2mathml_elements.specs.{Attributes.Above, Attributes.plain, Element.Element, Element.Mover, Element.Munderover, Element.pair, Element.triple}
 use Rattle.latex2mathml_attributes.specs.Names.{side_of, stretch_of}
 use Rattle.latex2mathml_tex_grammar.specs.Makes as makes
+use Rattle.latex2mathml_tex_grammar.specs.Heights.{Height, Tall}
 use Rattle.latex2mathml_tex_grammar.specs.Makes.{Core, braced, core, group, classed, operator_name, accent, brace, stack, stacked_relation, fraction, outlined_fraction, square_root, root, between_delimiters, struck, boxed_atom, choice, arrow_label}
 use Rattle.latex2mathml_tex_grammar.specs.Reading.{Outcome, Read, Refused, ReadsAtoms, ReadsRule}
 use Rattle.latex2mathml_tex_grammar.specs.{Formulas.alone, Formulas.formula_context, Atoms.Before, Atoms.Nothing, Atoms.Plain, Atoms.atom, Symbols.Style, Symbols.InScript, Symbols.InText, Symbols.Relation, Units.Units, Symbols.Ordinary}
@@ -85,7 +86,7 @@ after_delimiters opening row = takes_delimiter (λ closing. gives (between_delim
 
 -- an atom of an arrow, the label below it, and what is the label above it
 abbrev pub labeled_arrow : Element → Element → Element → Core
-labeled_arrow sign label above = core (atom (Plain Relation) true (triple Munderover plain sign label (arrow_label above)))
+labeled_arrow sign label above = core (atom (Plain Relation) Tall (triple Munderover plain sign label (arrow_label above)))
 
 -- what follows the first label of an arrow in a diagram
 abbrev pub behind_first_label : Direction → ℕ → Context → Element → Row → Rule
@@ -102,7 +103,7 @@ abbrev pub RowMade : Start → Ending → ℕ → List Element → Level → Out
 RowMade s ending.Text place xs l = Whole s
 RowMade s ending.Group place xs l = Then (λ row. gives (core (braced row))) (CoreMade l)
 RowMade s ending.Operand place xs l = λ o. OperandMade l (as_operand o)
-RowMade s ending.Degree place xs l = Then (λ row. of_one place (context_at l) (λ x. root (row_element row.elements) x.element)) (CoreMade l)
+RowMade s ending.Degree place xs l = Then (λ row. of_one place (context_at l) (root (row_element row.elements))) (CoreMade l)
 RowMade s ending.BelowArrow place xs l = Then (λ row. of_one place (rules.styled (context_at l) InScript) (λ x. labeled_arrow (top xs) (arrow_label (row_element row.elements)) x.element)) (CoreMade l)
 RowMade s (ending.Delimiters opening) place xs l = Then (after_delimiters (delimiter_text opening)) (CoreMade l)
 RowMade s (ending.Formula n) place xs l = λ o. PartMade l (as_words (take n xs) o)
@@ -119,9 +120,9 @@ operand_in operand xs = operand_with operand (top xs)
 -- what the last operand makes; the one before it is the uppermost element here
 abbrev pub made_of : Last → List Element → Operand → Core
 made_of last.Group xs y = core (group y)
-made_of last.SquareRoot xs y = square_root y.element
-made_of last.Root xs y = root (top xs) y.element
-made_of (last.Accent s c w) xs y = accent (side_of s) c (stretch_of w) y.element
+made_of last.SquareRoot xs y = square_root y
+made_of last.Root xs y = root (top xs) y
+made_of (last.Accent s c w) xs y = accent (side_of s) c (stretch_of w) y
 made_of (last.Brace s c) xs y = brace (side_of s) c y.element
 made_of (last.OperatorName limits) xs y = operator_name (limit_place_of limits) y
 made_of (last.Choice style o) xs y = choice (style_of style) (operand_in o (drop 1 (drop 1 xs))) (operand_in o (drop 1 xs)) (operand_in o xs)
@@ -132,7 +133,7 @@ made_of (last.Fraction rule own style) xs y = fraction (fraction_rule_of rule) (
 made_of (last.Outlined o style) xs y = outlined_fraction (outline_of o) (style_of style) (top xs) y.element
 made_of (last.Stack s style) xs y = stack (side_of s) (Plain y.class) (top xs) (as_base (style_of style) y.class y).element
 made_of (last.StackedRelation style) xs y = stack Above (stacked_relation y.class) (top xs) (as_base (style_of style) Relation y).element
-made_of last.OverArrow xs y = core (atom (Plain Relation) true (pair Mover plain (top xs) (arrow_label y.element)))
+made_of last.OverArrow xs y = core (atom (Plain Relation) Tall (pair Mover plain (top xs) (arrow_label y.element)))
 made_of last.OverAndUnderArrow xs y = labeled_arrow (top (drop 1 xs)) (top xs) y.element
 
 -- what follows an operand before the last one, which this place takes in this context, at a level of the outer context; the
@@ -158,10 +159,10 @@ abbrev pub behind_mark : ℕ → List Element → Element → Element
 behind_mark zero xs x = x
 behind_mark (suc n) xs x = row_element (x ∷ top xs ∷ [])
 
--- the scripts with this element on a side, which may be higher than a letter
-abbrev pub with_script : Side → makes.Scripts → List Element → Element → Bool → makes.Scripts
-with_script side.Below scripts xs x high = record scripts { below = Some x; high = high }
-with_script side.Above scripts xs x high = record scripts { above = Some (behind_mark scripts.primes xs x) }
+-- the scripts with this element of this height on a side
+abbrev pub with_script : Side → makes.Scripts → List Element → Element → Height → makes.Scripts
+with_script side.Below scripts xs x height = record scripts { below = Some x; height = height }
+with_script side.Above scripts xs x height = record scripts { above = Some (behind_mark scripts.primes xs x) }
 
 -- the elements given next to a script's frame, without the mark of primes
 abbrev pub past_primes : Side → Scripts → List Element → List Element
@@ -175,7 +176,7 @@ base_of c scripts xs = core_with c (top (drop (script_count scripts) xs))
 abbrev pub ScriptMade : Level → CodeCore → Scripts → Side → List Element → Outcome Operand → Type 0
 ScriptMade l c scripts s xs (Read x m) =
     IsFalse (has_script s scripts)
-    × ScriptsLead l (base_of c scripts (past_primes s scripts xs)).atom (with_script s (scripts_with scripts (past_primes s scripts xs)) xs x.element x.high) m
+    × ScriptsLead l (base_of c scripts (past_primes s scripts xs)).atom (with_script s (scripts_with scripts (past_primes s scripts xs)) xs x.element x.height) m
 ScriptMade l c scripts s xs (Refused r) = AtomMade l (Refused r)
 
 -- Frames

@@ -6,6 +6,7 @@ use Rattle.latex2mathml_tex_units.specs.{Left.units_behind, Taking.piece_of, Tak
 use Rattle.latex2mathml_tex_units.specs.declared.unit.{Piece.Piece, Unit.Unit}
 use Rattle.latex2mathml_tex_atoms.specs.Models.{kind_of}
 use Rattle.latex2mathml_tex_atoms.specs.declared.atoms.{Core.Core, Scripts.Scripts}
+use Rattle.latex2mathml_tex_atoms.specs.declared.heights.Height.TheVariants as height
 use Rattle.latex2mathml_tex.specs.Frames.{Start}
 use Rattle.latex2mathml_tex.specs.Steps.{Follows, Holds, left_of, to_do}
 use Rattle.latex2mathml_tex.specs.declared.parse.{Parser.Parser, State.State}
@@ -15,7 +16,7 @@ use Rattle.latex2mathml_tex.specs.declared.parse.plain.InRow.TheVariants as in_r
 
 -- the scripts of an atom that has none yet
 abbrev pub lone_scripts : Core → Scripts
-lone_scripts core = record { primes = 0; below = false; above = false; is_exchanged = false; limits = core.limits; takes_limits = takes_limits (kind_of core.kind); high = false }
+lone_scripts core = record { primes = 0; below = false; above = false; is_exchanged = false; limits = core.limits; takes_limits = takes_limits (kind_of core.kind); height = height.Low }
 
 -- a unit comes next that is this piece
 abbrev pub IsNext : Piece → Parser → Type 0

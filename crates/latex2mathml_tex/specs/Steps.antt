@@ -30,10 +30,11 @@ use Rattle.latex2mathml_tex.specs.Frames.{RowMade, ScriptMade, Start, Whole, aft
 use Rattle.latex2mathml_tex_units.specs.Left.{unit_count, units_at}
 use Rattle.latex2mathml_tex.specs.Levels.{AtomMade, CoreMade, Leads, Level, OperandMade, PartMade, RestLeads, RuleLeads, ScriptsLead, Then, WordLeads, as_atom, as_atom_in_words, as_resized, words}
 use Rattle.latex2mathml_tex_commands.specs.Meanings.{alphabet_of, limit_place_of, style_of}
-use Rattle.latex2mathml_tex_atoms.specs.Models.{context_of, core_with, kind_of, operand_with, row_count, row_with, script_count, scripts_with, top, words_with}
+use Rattle.latex2mathml_tex_atoms.specs.Models.{context_of, core_with, height_of, kind_of, operand_with, row_count, row_with, script_count, scripts_with, top, words_with}
 use Rattle.latex2mathml_tex.specs.Numbers.{after_point}
 use Rattle.latex2mathml_tex_commands.specs.declared.{meaning.Alphabet.Alphabet as CodeAlphabet, meaning.Style.Style as CodeStyle}
 use Rattle.latex2mathml_tex_units.specs.declared.unit.Unit.{Unit}
+use Rattle.latex2mathml_tex_atoms.specs.declared.heights.Height.{Height as CodeHeight}
 use Rattle.latex2mathml_tex_atoms.specs.declared.{atoms.Context.Context, atoms.Core.Core as CodeCore, atoms.Kind.Kind as AtomKind, atoms.Operand.Operand as CodeOperand, atoms.Row.Row as CodeRow, atoms.Scripts.Scripts as CodeScripts, atoms.Words.Words as CodeWords}
 use Rattle.latex2mathml_tex.specs.declared.{parse.Form.Form, parse.Parser.Parser, parse.State.State, parse.scripts.Mark.Mark}
 use Rattle.latex2mathml_tex.specs.declared.parse.scripts.Mark.TheVariants as mark
@@ -270,11 +271,11 @@ pub record TookMark (m : Mark) (place : ℕ) (l : Level) (base : Atom) (scripts 
   pub at : unit.place ≡ place
   pub leads : ScriptsLead l base scripts before
 
--- The uppermost element is the operand of a script of this atom, and is higher than a letter, if so.
-pub record TookScript (c : CodeCore) (scripts : CodeScripts) (on : Side) (high : Bool) (s : Start) (p : Parser) : Type 0 where
+-- The uppermost element is the operand of a script of this atom, and is this high.
+pub record TookScript (c : CodeCore) (scripts : CodeScripts) (on : Side) (height : CodeHeight) (s : Start) (p : Parser) : Type 0 where
   pub style : s.style ≡ style_of p.style
   pub leads : (class : Class) → ScriptMade (level (primes_put on scripts.primes + (script_count scripts + 2)) s p) c scripts on (drop 1 (elements_of p))
-      (Read (record { element = top (elements_of p); class = class; high = high }) (left_of p))
+      (Read (record { element = top (elements_of p); class = class; height = height_of height }) (left_of p))
 
 -- An operand that others follow was read; its element is uppermost, and below it are those of the operands before it.
 pub record FirstRead (one : First) (place : ℕ) (c : Context) (operand : CodeOperand) (s : Start) (p : Parser) : Type 0 where

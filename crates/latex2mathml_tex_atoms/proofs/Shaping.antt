@@ -12,6 +12,7 @@ use Rattle.latex2mathml_tex_grammar.specs.Atoms
 use Rattle.latex2mathml_tex_grammar.specs.Atoms.{Before, Kind}
 use Rattle.latex2mathml_tex_grammar.specs.Makes
 use Rattle.latex2mathml_tex_grammar.specs.Meaning
+use Rattle.latex2mathml_tex_grammar.specs.Heights.{Height, Low}
 use Rattle.latex2mathml_tex_grammar.specs.Rows
 use Rattle.latex2mathml_tex_grammar.specs.Symbols.{Class, Style}
 use Rattle.latex2mathml_tex_commands.specs.Meanings.{class_of}
@@ -230,12 +231,12 @@ pub length_parted : (x : Element) (xs : List Element) → length (take 1 xs ++ (
 length_parted x [] = refl
 length_parted x (y ∷ xs) = refl
 
--- it does not matter whether the atom is high
-pub put_high : (joining : Rows.Joining) (style : Style) (before : Before) (kind : Kind) (high : Bool) (x : Element) (xs : List Element) → Rows.put joining style before (Atoms.atom kind false x) xs ≡ Rows.put joining style before (Atoms.atom kind high x) xs
-put_high Rows.ToWord style before kind high x xs = refl
-put_high Rows.ToRelations style before kind high x xs = refl
-put_high Rows.Separated style before kind high x xs = refl
-put_high Rows.Apart style before kind high x xs = refl
+-- it does not matter how high the atom is
+pub put_high : (joining : Rows.Joining) (style : Style) (before : Before) (kind : Kind) (height : Height) (x : Element) (xs : List Element) → Rows.put joining style before (Atoms.atom kind Low x) xs ≡ Rows.put joining style before (Atoms.atom kind height x) xs
+put_high Rows.ToWord style before kind height x xs = refl
+put_high Rows.ToRelations style before kind height x xs = refl
+put_high Rows.Separated style before kind height x xs = refl
+put_high Rows.Apart style before kind height x xs = refl
 
 -- an atom is the first of a row that has none
 pub begins_row : (n : ℕ) (xs : List Element) → suc n ≤ length xs → Rows.is_empty (take n (drop 1 xs)) ≡ (n == 0)
@@ -245,7 +246,7 @@ begins_row (suc n) (x ∷ []) enough = absurd (omega arith)
 begins_row (suc n) (x ∷ y ∷ xs) enough = sym (eqb-suc-zero n)
 
 -- an atom that no space separates from the row
-pub put_adapted : (n : ℕ) (style : Style) (before : Before) (kind : Kind) (xs : List Element) → suc n ≤ length xs → Atoms.gap style before kind ≡ pos 0 → take (suc n) (changed_at (Atoms.element_there style (n == 0) before kind) 0 xs) ≡ Rows.put Rows.Apart style before (Atoms.atom kind false (top xs)) (take n (drop 1 xs))
+pub put_adapted : (n : ℕ) (style : Style) (before : Before) (kind : Kind) (xs : List Element) → suc n ≤ length xs → Atoms.gap style before kind ≡ pos 0 → take (suc n) (changed_at (Atoms.element_there style (n == 0) before kind) 0 xs) ≡ Rows.put Rows.Apart style before (Atoms.atom kind Low (top xs)) (take n (drop 1 xs))
 put_adapted n style before kind [] enough none = absurd (omega arith)
 put_adapted n style before kind (x ∷ xs) enough none = rw (begins_row n (x ∷ xs) enough, none)
 
@@ -256,17 +257,17 @@ some_parted (pos (suc n)) xs some = refl
 some_parted (negsuc n) xs some = refl
 
 -- an atom that a space of this width separates from the row
-pub put_parted : (n : ℕ) (style : Style) (before : Before) (kind : Kind) (width : ℤ) (xs ys : List Element) → suc n ≤ length xs → (width ≡ pos 0 → ⊥) → width ≡ Atoms.gap style before kind → ys ≡ changed_at (Atoms.element_there style (n == 0) before kind) 0 xs → take (suc (suc n)) (take 1 ys ++ (space width ∷ drop 1 ys)) ≡ Rows.put Rows.Apart style before (Atoms.atom kind false (top xs)) (take n (drop 1 xs))
+pub put_parted : (n : ℕ) (style : Style) (before : Before) (kind : Kind) (width : ℤ) (xs ys : List Element) → suc n ≤ length xs → (width ≡ pos 0 → ⊥) → width ≡ Atoms.gap style before kind → ys ≡ changed_at (Atoms.element_there style (n == 0) before kind) 0 xs → take (suc (suc n)) (take 1 ys ++ (space width ∷ drop 1 ys)) ≡ Rows.put Rows.Apart style before (Atoms.atom kind Low (top xs)) (take n (drop 1 xs))
 put_parted n style before kind width [] ys enough some gap is = absurd (omega arith)
 put_parted n style before kind width (x ∷ xs) ys enough some gap is =
     rw (is, begins_row n (x ∷ xs) enough, sym gap) (ap (λ zs. Atoms.element_there style (n == 0) before kind x ∷ zs) (some_parted width (take n xs) some))
 
 -- an atom that stays as it is, with no space before it
-pub put_as_it_is : (joining : Rows.Joining) (n : ℕ) (style : Style) (before : Before) (kind : Kind) (xs : List Element) → suc n ≤ length xs → joining ≡ Rows.Apart → Atoms.gap style before kind ≡ pos 0 → ((x : Element) → Atoms.element_there style (n == 0) before kind x ≡ x) → take (suc n) xs ≡ Rows.put joining style before (Atoms.atom kind false (top xs)) (take n (drop 1 xs))
+pub put_as_it_is : (joining : Rows.Joining) (n : ℕ) (style : Style) (before : Before) (kind : Kind) (xs : List Element) → suc n ≤ length xs → joining ≡ Rows.Apart → Atoms.gap style before kind ≡ pos 0 → ((x : Element) → Atoms.element_there style (n == 0) before kind x ≡ x) → take (suc n) xs ≡ Rows.put joining style before (Atoms.atom kind Low (top xs)) (take n (drop 1 xs))
 put_as_it_is joining n style before kind [] enough apart none stays = absurd (omega arith)
 put_as_it_is joining n style before kind (x ∷ xs) enough apart none stays = rw (apart, begins_row n (x ∷ xs) enough, none) (ap (λ y. y ∷ take n xs) (sym (stays x)))
 
-pub same_row : (xs ys : List Element) (b c : Before) (v w : Kind) (h i : Bool) (k l : Class) (e f : Option Rows.Restyled) (r u : Option Rows.Upper) → xs ≡ ys → b ≡ c → v ≡ w → h ≡ i → k ≡ l → e ≡ f → r ≡ u → ◌≡◌ {A = Rows.Row} (record { elements = xs; before = b; last = v; high = h; class = k; restyled = e; under = r }) (record { elements = ys; before = c; last = w; high = i; class = l; restyled = f; under = u })
+pub same_row : (xs ys : List Element) (b c : Before) (v w : Kind) (h i : Height) (k l : Class) (e f : Option Rows.Restyled) (r u : Option Rows.Upper) → xs ≡ ys → b ≡ c → v ≡ w → h ≡ i → k ≡ l → e ≡ f → r ≡ u → ◌≡◌ {A = Rows.Row} (record { elements = xs; before = b; last = v; height = h; class = k; restyled = e; under = r }) (record { elements = ys; before = c; last = w; height = i; class = l; restyled = f; under = u })
 same_row xs ys b c v w h i k l e f r u p q s t m n o = cc
 
 -- what is below the atoms of a row stays where it is

@@ -5,6 +5,7 @@ use Rattle.latex2mathml_elements.specs.Element.{Element}
 use Rattle.latex2mathml_attributes.specs.Arounds.{color_of}
 use Rattle.latex2mathml_builder.specs.Stacks.{no_element}
 use Rattle.latex2mathml_tex_grammar.specs.Atoms as atoms
+use Rattle.latex2mathml_tex_grammar.specs.Heights as heights
 use Rattle.latex2mathml_tex_grammar.specs.Makes as makes
 use Rattle.latex2mathml_tex_grammar.specs.Rows as rows
 use Rattle.latex2mathml_tex_grammar.specs.Rules as rules
@@ -21,10 +22,23 @@ use Rattle.latex2mathml_tex_atoms.specs.declared.atoms.Before.TheVariants as bef
 use Rattle.latex2mathml_tex_atoms.specs.declared.atoms.Joining.TheVariants as joining
 use Rattle.latex2mathml_tex_atoms.specs.declared.atoms.Kind.TheVariants as kind
 use Rattle.latex2mathml_tex_atoms.specs.declared.fonts.Font.{Font}
+use Rattle.latex2mathml_tex_atoms.specs.declared.heights.Height.{Height}
+use Rattle.latex2mathml_tex_atoms.specs.declared.heights.Height.TheVariants as height
 use Rattle.latex2mathml_tex_atoms.specs.declared.rests.{Division.Division, Look.Look}
 use Rattle.latex2mathml_tex_atoms.specs.declared.fonts.Font.TheVariants as font
 use Rattle.latex2mathml_tex_atoms.specs.declared.spaces.Entry.{Entry}
 use Rattle.latex2mathml_tex_atoms.specs.declared.spaces.Entry.TheVariants as entry
+
+abbrev pub height_of : Height → heights.Height
+height_of height.Low = heights.Low
+height_of height.Raised = heights.Raised
+height_of height.Tall = heights.Tall
+height_of height.Taller = heights.Taller
+height_of height.VeryTall = heights.VeryTall
+
+abbrev pub is_low : heights.Height → Bool
+is_low heights.Low = true
+is_low h = false
 
 abbrev pub kind_of : Kind → atoms.Kind
 kind_of (kind.SignOf class) = atoms.SignOf (class_of class)
@@ -80,10 +94,10 @@ top (x ∷ xs) = x
 
 -- an atom without scripts, whose element is this
 abbrev pub core_with : Core → Element → makes.Core
-core_with core x = record { atom = atoms.atom (kind_of core.kind) core.high x; limits = limit_place_of core.limits }
+core_with core x = record { atom = atoms.atom (kind_of core.kind) (height_of core.height) x; limits = limit_place_of core.limits }
 
 abbrev pub operand_with : Operand → Element → rows.Operand
-operand_with operand x = record { element = x; class = class_of operand.class; high = operand.high }
+operand_with operand x = record { element = x; class = class_of operand.class; height = height_of operand.height }
 
 abbrev pub look_of : Look → rows.Look
 look_of look = record {
@@ -130,7 +144,7 @@ pub record IsFinished (row : Row) : Type 0 where
 
 -- a row without atoms
 abbrev pub empty_row : Row
-empty_row = record { count = 0; before = before.Nothing; last = kind.Blank; high = false; class = class.Ordinary; restyled = None; settled = 0; under = None }
+empty_row = record { count = 0; before = before.Nothing; last = kind.Blank; height = height.Low; class = class.Ordinary; restyled = None; settled = 0; under = None }
 
 -- a row without atoms at the beginning of a formula
 abbrev pub begun : Row
@@ -141,7 +155,7 @@ row_with row xs = record {
   elements = take row.count xs;
   before = before_of row.before;
   last = kind_of row.last;
-  high = row.high;
+  height = height_of row.height;
   class = class_of row.class;
   restyled = restyled_with row.restyled row.settled (drop row.count xs);
   under = under_with row.under (drop (row.count + settled_count row.restyled row.settled) xs);
@@ -187,5 +201,5 @@ scripts_with s xs = record {
   above = element_above s.below s.above s.is_exchanged xs;
   limits = limit_place_of s.limits;
   takes_limits = s.takes_limits;
-  high = s.high;
+  height = height_of s.height;
 }

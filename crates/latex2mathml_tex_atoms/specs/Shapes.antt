@@ -4,24 +4,15 @@ use Rattle.std.specs.Str.{encode_utf8_all}
 use Rattle.latex2mathml_elements.specs.{Attributes.Attributes, Attributes.Stretch, Element.Element, Element.Mo, Element.token}
 use Rattle.latex2mathml_attributes.specs.{Arounds.element_around, declared.around.Around.Around}
 use Rattle.latex2mathml_builder.specs.Built.{Built, elements_in}
-use Rattle.latex2mathml_tex_grammar.specs.Fences
 use Rattle.latex2mathml_tex_grammar.specs.Makes
 use Rattle.latex2mathml_tex_grammar.specs.Widths.{Widths}
 use Rattle.latex2mathml_tex_atoms.specs.Models.{core_with, top}
 use Rattle.latex2mathml_tex_atoms.specs.declared.atoms.Core.{Core as CodeCore}
-use Rattle.latex2mathml_tex_atoms.specs.declared.delimiters.Height.{Height}
-use Rattle.latex2mathml_tex_atoms.specs.declared.delimiters.Height.TheVariants as height
 use Rattle.latex2mathml_tex_atoms.specs.declared.widths.Widths.{Widths as CodeWidths}
 
 -- an operator with this text
 abbrev pub delimiter_element : Attributes → List ℕ → Element
 delimiter_element a text = token Mo a text
-
-abbrev pub height_of : Height → Fences.Height
-height_of height.Low = Fences.Low
-height_of height.Tall = Fences.Tall
-height_of height.Taller = Fences.Taller
-height_of height.VeryTall = Fences.VeryTall
 
 -- the widths of a delimiter
 abbrev pub widths_with : CodeWidths → Widths

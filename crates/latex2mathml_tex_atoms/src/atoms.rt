@@ -9,8 +9,10 @@ ghost use Rattle.latex2mathml_tex_grammar.specs.Words as words;
 ghost use Rattle.latex2mathml_tex_commands.specs.Meanings.{class_of, text_size_of};
 ghost use Rattle.latex2mathml_tex_atoms.specs.Models.{IsFinished, begun, has_script, empty_row, before_of, context_of, font_of, is_relation, is_upright, joining_of, kind_of, script_count, usual_context};
 ghost use Rattle.latex2mathml_tex_atoms.specs.Adding.{IsAdded};
+ghost use Rattle.latex2mathml_tex_atoms.specs.declared.heights.Height.TheVariants as height;
 
 use crate::fonts::Font;
+use crate::heights::Height;
 use crate::rests::{Division, Look};
 use crate::signs::is_put_as_it_is;
 use latex2mathml_attributes::attributes::Side;
@@ -290,20 +292,20 @@ fn awaits_operand(class: Class) -> bool
 #[derive(Clone, Copy)]
 pub struct Core {
     pub kind: Kind,
-    /// Whether it is higher than a letter.
-    pub high: bool,
+    /// How high it is.
+    pub height: Height,
     /// Where its limits are.
     pub limits: LimitPlace,
 }
 
 impl Core {
     /// Creates an atom whose limits are next to it.
-    pub fn new(kind: Kind, high: bool) -> Core
-        ensures { result ≡ record { kind = kind; high = high; limits = LimitPlace.Beside } }
+    pub fn new(kind: Kind, height: Height) -> Core
+        ensures { result ≡ record { kind = kind; height = height; limits = LimitPlace.Beside } }
     {
         Core {
             kind,
-            high,
+            height,
             limits: LimitPlace::Beside,
         }
     }
@@ -314,8 +316,8 @@ impl Core {
 pub struct Operand {
     /// Its class as the base of a mark.
     pub class: Class,
-    /// Whether it is higher than a letter.
-    pub high: bool,
+    /// How high it is.
+    pub height: Height,
 }
 
 /// Atoms next to each other. Their elements are the top ones.
@@ -329,8 +331,8 @@ pub struct Row {
     pub before: Before,
     /// What the last atom is, or a space, which nothing joins.
     pub last: Kind,
-    /// Whether any atom is higher than a letter.
-    pub high: bool,
+    /// How high its highest atom is.
+    pub height: Height,
     /// The class of the row as the base of a mark.
     pub class: Class,
     /// The look of what follows that change, if there was one.
@@ -348,7 +350,7 @@ impl Row {
             count: 0,
             before: Before::Nothing,
             last: Kind::Blank,
-            high: false,
+            height: Height::Low,
             class: Class::Ordinary,
             restyled: None,
             settled: 0,
@@ -394,12 +396,12 @@ impl Row {
         let Some(count) = self.count.checked_add(1) else {
             return false;
         };
-        let high = self.high || core.high;
+        let height = self.height.larger(core.height);
         self.class = class_after(self.count, core.kind);
         self.count = count;
         self.before = self.before.past(core.kind);
         self.last = core.kind;
-        self.high = high;
+        self.height = height;
         true
     }
 }
@@ -428,8 +430,8 @@ pub struct Scripts {
     pub limits: LimitPlace,
     /// Whether the place of the limits can be specified.
     pub takes_limits: bool,
-    /// Whether the script below is higher than a letter.
-    pub high: bool,
+    /// How high the script below is.
+    pub height: Height,
 }
 
 impl Scripts {
@@ -442,7 +444,7 @@ impl Scripts {
           is_exchanged = false;
           limits = limits;
           takes_limits = Makes.takes_limits (kind_of kind);
-          high = false;
+          height = height.Low;
         } }
     {
         Scripts {
@@ -452,7 +454,7 @@ impl Scripts {
             is_exchanged: false,
             limits,
             takes_limits: kind.takes_limits(),
-            high: false,
+            height: Height::Low,
         }
     }
 

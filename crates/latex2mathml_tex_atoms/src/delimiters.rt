@@ -7,8 +7,9 @@ ghost use Rattle.latex2mathml_tex_grammar.specs.Fences;
 ghost use Rattle.latex2mathml_tex_grammar.specs.Makes;
 ghost use Rattle.latex2mathml_tex_commands.specs.Meanings.{class_of, style_of};
 ghost use Rattle.latex2mathml_tex_commands.specs.Delimiters.{delimiter_text};
-ghost use Rattle.latex2mathml_tex_atoms.specs.Shapes.{ChangesAt, ReplacesTop, delimiter_element, height_of, mapped_first};
+ghost use Rattle.latex2mathml_tex_atoms.specs.{Models.height_of, Shapes.ChangesAt, Shapes.ReplacesTop, Shapes.delimiter_element, Shapes.mapped_first};
 
+use crate::heights::Height;
 use crate::signs::keeps_space;
 use crate::widths::room;
 use latex2mathml_attributes::attributes::{Attributes, Form, Size, Space, Stretch};
@@ -17,34 +18,15 @@ use latex2mathml_builder::builder::Builder;
 use latex2mathml_tex_commands::meaning::{Class, Style};
 use std::alloc::AllocError;
 
-/// How high what is between delimiters is.
-#[derive(Clone, Copy)]
-pub enum Height {
-    /// No taller than a letter: they do not stretch.
-    Low,
-    /// Taller: they stretch, and have no more room than TeX's `\Big`.
-    Tall,
-    /// As tall as two rows: they have no more room than TeX's `\bigg`.
-    Taller,
-    /// Mostly so tall that they need all room.
-    VeryTall,
-}
-
 impl Height {
-    /// Returns the height of something that may be taller than a letter.
-    pub fn of(high: bool) -> Height
-        ensures { height_of result ≡ Fences.height_if high }
-    {
-        if high { Height::Tall } else { Height::Low }
-    }
-
     /// Returns whether delimiters stretch around it.
     fn stretch(self) -> Stretch
         ensures { stretch_of result ≡ Fences.stretch_around (height_of self) }
     {
         match self {
             Height::Low => Stretch::Rigid,
-            Height::Tall | Height::Taller | Height::VeryTall => Stretch::Stretching,
+            Height::Raised | Height::Tall | Height::Taller | Height::VeryTall =>
+                Stretch::Stretching,
         }
     }
 
@@ -54,6 +36,7 @@ impl Height {
             ≡ Fences.room_around (height_of self) (delimiter_text delimiter) }
     {
         match self {
+            Height::Raised => room(Size::Big, delimiter),
             Height::Tall => room(Size::Bigger, delimiter),
             Height::Taller => room(Size::VeryBig, delimiter),
             Height::Low | Height::VeryTall => None,

@@ -11,6 +11,7 @@ pub mod delimiters;
 pub mod diagrams;
 pub mod fonts;
 pub mod fractions;
+pub mod heights;
 mod operands;
 pub mod outlines;
 pub mod rests;

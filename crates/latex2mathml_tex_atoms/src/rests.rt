@@ -11,6 +11,7 @@ ghost use Rattle.latex2mathml_tex_atoms.specs.Models.{context_of, look_of, row_c
 
 use crate::atoms::{Before, Context, Kind, Row, Words};
 use crate::fractions::{put_fraction, style_attributes};
+use crate::heights::Height;
 use crate::operands::end_operand;
 use crate::shapes::{isolate, put_row};
 use latex2mathml_attributes::around::{Around, Color};
@@ -219,7 +220,7 @@ pub fn begin_anew(
     Ok(Row {
         count: 0,
         last: Kind::Blank,
-        high: true,
+        height: Height::Tall.larger(whole.height),
         restyled: Some(look),
         settled: whole.count,
         ..whole
@@ -351,7 +352,7 @@ fn close_fraction(builder: &mut Builder, row: Row) -> Result<Row, AllocError>
         count: 1,
         before: Before::After(Class::Ordinary),
         last: Kind::Plain(Class::Ordinary),
-        high: true,
+        height: Height::of_fraction(fraction.style),
         ..Row::empty()
     })
 }

@@ -1,10 +1,11 @@
 //! The elements of atoms, rows and constructs, as the top elements of the builder.
-ghost use Rattle.std.specs.Prelude.{◌≡◌, ◌+◌, ◌≤◌, ◌&&◌, ◌∷◌, List, false, true, zero, pos, IfOk, OnOk, drop, length, option_map, take};
+ghost use Rattle.std.specs.Prelude.{◌≡◌, ◌+◌, ◌≤◌, ◌&&◌, ◌∷◌, List, true, zero, pos, IfOk, OnOk, drop, length, option_map, take};
 ghost use Rattle.latex2mathml_elements.specs.{Attributes.plain, Element.Element, Element.pair, Element.space};
 ghost use Rattle.latex2mathml_elements.specs.Attributes as attributes;
 ghost use Rattle.latex2mathml_builder.specs.Built.{Puts, elements_in};
 ghost use Rattle.latex2mathml_attributes.specs.Names.{attributes_of, form_of, pair_of, side_of, space_of, stretch_of};
 ghost use Rattle.latex2mathml_tex_grammar.specs.Atoms;
+ghost use Rattle.latex2mathml_tex_grammar.specs.Heights;
 ghost use Rattle.latex2mathml_tex_grammar.specs.Makes;
 ghost use Rattle.latex2mathml_tex_grammar.specs.Meaning;
 ghost use Rattle.latex2mathml_tex_grammar.specs.Rows;
@@ -250,7 +251,7 @@ pub fn with_atom(
         count,
         before: row.before.past(core.kind),
         last: core.kind,
-        high: row.high || core.high,
+        height: row.height.larger(core.height),
         class: class_with(joining, row.class, row.count, core.kind),
         ..row
     })
@@ -283,7 +284,7 @@ fn put_adapted(
     requires { count + 1 ≤ length (elements_in builder.old) }
     ensures elements { IfOk result (λ longer. take longer (elements_in builder.new)
         ≡ Rows.put (joining_of joining) (style_of style) (before_of before)
-        (Atoms.atom (kind_of kind) false (top (elements_in builder.old)))
+        (Atoms.atom (kind_of kind) Heights.Low (top (elements_in builder.old)))
         (take count (drop 1 (elements_in builder.old)))) }
     ensures below { IfOk result (λ longer. drop longer (elements_in builder.new)
         ≡ drop (count + 1) (elements_in builder.old)) }
@@ -370,7 +371,7 @@ pub fn put_accent(
 ) -> Result<(), AllocError>
     requires { 1 ≤ length (elements_in builder.old) }
     ensures { OnOk result (ReplacesTop
-        (λ x. (Makes.accent (side_of side) mark (stretch_of stretch) x).atom.element)
+        (Makes.accented (side_of side) mark (stretch_of stretch))
         builder.old builder.new) }
 {
     let attributes = Attributes {

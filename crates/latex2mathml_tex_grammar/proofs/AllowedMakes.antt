@@ -8,7 +8,8 @@ use Rattle.latex2mathml_elements.specs.Element.{Mi, Mn, Mo, Mtext, Element, toke
 use Rattle.latex2mathml_elements.proofs.{Characters.allowed_both, Characters.allowed_char, Characters.allowed_plain, Characters.plain_is_allowed, Plain.IsPlain, Plain.is_plain}
 use Rattle.latex2mathml_tex_grammar.specs.Alphabets.{in_alphabet}
 use Rattle.latex2mathml_tex_grammar.specs.Atoms.{without_space_after, Atom, Kind, SignOf, PlusOrMinus, Plain, UprightLetters, UprightIdentifier, Unspaced, Blank, Divider, Before, begins_operand, is_ordinary, as_prefix, as_infix, without_space, without_space_before, led, leads_operator, leads_relation, tight, element_there, gap, lone_sign, element_as}
-use Rattle.latex2mathml_tex_grammar.specs.Fences.{Height, delimited_fraction, fenced, height_if}
+use Rattle.latex2mathml_tex_grammar.specs.Fences.{delimited_fraction, fenced}
+use Rattle.latex2mathml_tex_grammar.specs.Heights.{Height, Low}
 use Rattle.latex2mathml_tex_grammar.specs.Makes.{text, letter, upright_letter, number, symbol, struck, classed, on_side, accent, brace, stack, in_style, unfenced, quotient, fraction_element, fraction, lowered_divider, lowered, between_delimiters, spaced_as, Scripts, primes_text, prime_mark, behind_primes, superscript, are_stacked, fixed_base, with_scripts, before_base, base_there, scripted_atom, scripted}
 use Rattle.latex2mathml_tex_grammar.specs.Meaning.{FractionRule, Bar, NoBar, Braced, Bracketed, Bare, LimitPlace, Beside, ByStyle, Movable, Stacked}
 use Rattle.latex2mathml_tex_grammar.specs.Rows.{Row, Operand, ended, leaves_space, without_last_space, row_before, Joining, ToWord, ToRelations, Separated, Apart, as_base, is_spaced, isolated, lone, is_empty, join, parted, put, row_element, single, with_atom, empty_row}
@@ -262,8 +263,8 @@ on_side_allowed : (side : Side) (a : Attributes) (base mark : Element) → HasAl
 on_side_allowed Above a base mark h k = (h, k)
 on_side_allowed Below a base mark h k = (h, k)
 
-pub accent_allowed : (side : Side) (mark : ℕ) (width : Stretch) (x : Element) → is_forbidden mark ≡ false → HasAllowedTexts x → IsAllowedCore (accent side mark width x)
-accent_allowed side mark width x h k = on_side_allowed side _ x _ k (allowed_char mark h)
+pub accent_allowed : (side : Side) (mark : ℕ) (width : Stretch) (x : Operand) → is_forbidden mark ≡ false → HasAllowedTexts x.element → IsAllowedCore (accent side mark width x)
+accent_allowed side mark width x h k = on_side_allowed side _ x.element _ k (allowed_char mark h)
 
 pub brace_allowed : (side : Side) (mark : ℕ) (x : Element) → is_forbidden mark ≡ false → HasAllowedTexts x → IsAllowedCore (brace side mark x)
 brace_allowed side mark x h k = on_side_allowed side _ x _ k (allowed_char mark h)
@@ -312,13 +313,13 @@ each_lowered : (xs : List Element) → AreAllowedElements xs → AreAllowedEleme
 each_lowered [] h = tt
 each_lowered (x ∷ xs) h = (lowered_divider_allowed x h.0, each_lowered xs h.1)
 
-lowered_allowed : (high : Bool) (xs : List Element) → AreAllowedElements xs → AreAllowedElements (lowered high xs)
-lowered_allowed true xs h = h
-lowered_allowed false xs h = each_lowered xs h
+lowered_allowed : (height : Height) (xs : List Element) → AreAllowedElements xs → AreAllowedElements (lowered height xs)
+lowered_allowed Low xs h = each_lowered xs h
+lowered_allowed height xs h = h
 
 pub between_allowed : (opening closing : List ℕ) (row : Row) → IsAllowed opening → IsAllowed closing → IsAllowedRow row → IsAllowedCore (between_delimiters opening closing row)
 between_allowed opening closing row h k i =
-    fenced_allowed (height_if row.high) opening closing _ h k (row_element_allowed (lowered row.high row.elements) (lowered_allowed row.high row.elements i))
+    fenced_allowed row.height opening closing _ h k (row_element_allowed (lowered row.height row.elements) (lowered_allowed row.height row.elements i))
 
 -- Scripts
 

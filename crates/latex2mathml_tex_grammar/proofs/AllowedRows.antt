@@ -11,7 +11,7 @@ use Rattle.latex2mathml_tex_grammar.specs.Rules.{Context, ended_table, rows_rule
 use Rattle.latex2mathml_tex_grammar.specs.Scanning.{Argument, Name, ColumnList, RepeatedColumns, Number, ColorName, Deed, Passes, Adds, Ends, Leaves, Misses, Refuses, Spot, deed, done, may_end, found_at_end, with_character, Found, Given, Missing, scan, behind_found, past, past_break, BeforeStar, BeforeLength, BeforeRow}
 use Rattle.latex2mathml_tex_grammar.specs.RowLines.{lined}
 use Rattle.latex2mathml_tex_grammar.specs.Tables.{Lines, a_row, with_last, rows_onto, between_any, a_table}
-use Rattle.latex2mathml_tex_grammar.specs.Fences.{Height}
+use Rattle.latex2mathml_tex_grammar.specs.Heights.{Height}
 use Rattle.latex2mathml_tex_grammar.specs.Refusal.{Refusal}
 use Rattle.latex2mathml_tex_grammar.specs.Units.{Unit, Units, Next, End, Stop}
 use Rattle.latex2mathml_tex_grammar.proofs.Allowed.{AreAllowedElements, AreAllowedUnits, AreAllowedLines, IsAllowedCore, IsAllowedRule}

@@ -295,7 +295,7 @@ meaning_rule_allowed place c GeneralFraction h = general_fraction_allowed place 
 meaning_rule_allowed place c Choice h = choice_rule_allowed place c
 meaning_rule_allowed place c Root h =
     (λ bracket given degree k x i. (i, row_element_allowed degree.elements k), λ x k. (k, tt))
-meaning_rule_allowed place c (Accent side mark width) h = λ x k. accent_allowed side mark width x.element (not_forbidden mark h) k
+meaning_rule_allowed place c (Accent side mark width) h = λ x k. accent_allowed side mark width x (not_forbidden mark h) k
 meaning_rule_allowed place c (Brace side mark) h = λ x k. brace_allowed side mark x.element (not_forbidden mark h) k
 meaning_rule_allowed place c (Stack side) h = λ mark k base i. stack_allowed side (Plain base.class) mark.element _ k (as_base_allowed c.style base.class base i)
 meaning_rule_allowed place c StackedRelation h = λ mark k base i. (as_base_allowed c.style Relation base i, k)

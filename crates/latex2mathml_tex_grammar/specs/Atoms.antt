@@ -1,6 +1,7 @@
 -- Atoms, and what each is to those next to it: the space between them, prefix signs, words of upright letters.
 use Rattle.std.specs.Prelude.{ℕ, ℤ, pos, ◌+◌, ◌-ℤ◌, Bool, true, false, Option, Some, None, if◌then◌else◌}
 use Rattle.latex2mathml_elements.specs.{Attributes.Form, Attributes.Prefix, Attributes.Infix, Attributes.Space, Attributes.NoSpace, Attributes.Thick, Attributes.NoSpaceBefore, Attributes.ThinAfter, Attributes.ThickAfter, Attributes.NoSpaceAfter, Attributes.ThickBefore, Element.Element, Element.Mo, Element.token}
+use Rattle.latex2mathml_tex_grammar.specs.Heights.{Height}
 use Rattle.latex2mathml_tex_grammar.specs.SpaceTable.{space_between}
 use Rattle.latex2mathml_tex_grammar.specs.Symbols.{Class, Ordinary, Operator, Binary, Relation, Opening, Closing, Punctuation, Inner, Style, InScript}
 
@@ -23,16 +24,15 @@ pub data Kind : Type 0 where
   -- a space
   Blank : Kind
 
--- an atom: its element, and what it is to its neighbours
+-- an atom: its element, what it is to its neighbours, and how high it is
 pub record Atom : Type 0 where
   pub element : Element
   pub kind : Kind
-  -- whether it is higher than a letter
-  pub high : Bool
+  pub height : Height
 
 -- an atom of its three parts
-abbrev pub atom : Kind → Bool → Element → Atom
-atom kind high element = record { element = element; kind = kind; high = high }
+abbrev pub atom : Kind → Height → Element → Atom
+atom kind height element = record { element = element; kind = kind; height = height }
 
 -- what precedes an atom, spaces aside: nothing, or an atom of this class, which may have no space of its own
 pub data Before : Type 0 where

@@ -3,6 +3,7 @@ use Rattle.std.specs.Prelude.{ℕ, ◌%◌, ◌==◌, ◌||◌, ◌&&◌, pos, B
 use Rattle.std.specs.{Str.byte, Str.bytes_eq}
 use Rattle.latex2mathml_elements.specs.Attributes.{Above, Bigger, ScriptStyle, plain}
 use Rattle.latex2mathml_elements.specs.Element.{Mrow, Mstyle, Munderover, Element, container, children, space, triple}
+use Rattle.latex2mathml_tex_grammar.specs.Heights.{Tall}
 use Rattle.latex2mathml_tex_grammar.specs.{Atoms.Plain, Atoms.atom, Fences.sized_delimiter, Meaning.OverLeft, Meaning.OverRight, Rows.is_empty, Rows.row_element}
 use Rattle.latex2mathml_tex_grammar.specs.Makes.{Core, core, arrow_label, arrow_sign, in_box, on_side, text}
 use Rattle.latex2mathml_tex_grammar.specs.Symbols.{Ordinary, InText}
@@ -107,7 +108,7 @@ with_labels direction arrow first second = triple Munderover plain arrow second 
 
 -- an element of a diagram as an atom
 abbrev pub in_diagram : Element → Core
-in_diagram x = core (atom (Plain Ordinary) true x)
+in_diagram x = core (atom (Plain Ordinary) Tall x)
 
 -- an arrow of which the bare arrow, the first label and then the second one are made
 abbrev pub joined_arrow : Direction → Element → Element → Element → Core

@@ -1,34 +1,20 @@
 -- Delimiters: those around something, which may stretch, and those of one size.
-use Rattle.std.specs.Prelude.{ℕ, ◌==◌, ◌||◌, Bool, true, false, List, [], ◌∷◌, Option, Some, None, if◌then◌else◌}
+use Rattle.std.specs.Prelude.{ℕ, ◌==◌, ◌||◌, Bool, false, List, [], ◌∷◌, Option, Some, None, if◌then◌else◌}
 use Rattle.std.specs.Str.{chars}
 use Rattle.latex2mathml_elements.specs.Attributes.{Form, Prefix, Infix, Postfix, Stretch, Stretching, Rigid, Space, NoSpace, Thick, Size, Big, Bigger, VeryBig, Boxing, plain}
 use Rattle.latex2mathml_elements.specs.Element.{Mo, Mrow, Element, token, container, children}
+use Rattle.latex2mathml_tex_grammar.specs.Heights.{Height, Low, Raised, Tall, Taller}
 use Rattle.latex2mathml_tex_grammar.specs.Symbols.{Class, Opening, Closing, Relation, Style, InDisplay, InScript}
 use Rattle.latex2mathml_tex_grammar.specs.Widths.{room}
-
--- how high what is between delimiters is
-pub data Height : Type 0 where
-  -- no taller than a letter: they do not stretch
-  Low : Height
-  -- taller: they stretch, and have no more room than TeX's `\Big`
-  Tall : Height
-  -- as tall as two rows: they have no more room than TeX's `\bigg`
-  Taller : Height
-  -- mostly so tall that they need all room
-  VeryTall : Height
-
--- what may be taller than a letter, and what is not
-abbrev pub height_if : Bool → Height
-height_if true = Tall
-height_if false = Low
 
 -- whether delimiters stretch around something of this height
 abbrev pub stretch_around : Height → Stretch
 stretch_around Low = Rigid
 stretch_around height = Stretching
 
--- how wide a delimiter is at most around something of this height
+-- how wide a delimiter is at most around something of this height: as wide as the one of TeX that is as high
 abbrev pub room_around : Height → List ℕ → Option Boxing
+room_around Raised sign_text = room Big sign_text
 room_around Tall sign_text = room Bigger sign_text
 room_around Taller sign_text = room VeryBig sign_text
 room_around height sign_text = None

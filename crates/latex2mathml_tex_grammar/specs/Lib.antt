@@ -21,6 +21,7 @@ pub mod ExpansionExamples
 pub mod ExpansionLaws
 pub mod Fences
 pub mod Formulas
+pub mod Heights
 pub mod Laws
 pub mod Lengths
 pub mod Ligatures

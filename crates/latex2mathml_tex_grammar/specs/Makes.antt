@@ -7,7 +7,8 @@ use Rattle.latex2mathml_tex_grammar.specs.{Alphabets.in_alphabet, Rows.Row, Rows
 use Rattle.latex2mathml_elements.specs.{Extents.wide, Groups.grouped}
 use Rattle.latex2mathml_tex_grammar.specs.Atoms.{Atom, Kind, SignOf, PlusOrMinus, Plain, UprightLetters, UprightIdentifier, Unspaced, Blank, Divider, After, Before, Nothing, atom, element_there}
 use Rattle.latex2mathml_tex_grammar.specs.Meaning.{FractionRule, Bar, NoBar, Braced, Bracketed, Bare, LimitPlace, Beside, ByStyle, Movable, Stacked, Box, Phantom, PhantomWidth, PhantomHeight, Smashed, WithoutHeight, WithoutDepth, OverRight, OverLeft, OverBoth, Frame, StrikeUp, StrikeDown, StrikeTwice, Raised, Colored, OnColor}
-use Rattle.latex2mathml_tex_grammar.specs.Fences.{delimited_fraction, fenced, height_if, sized_delimiter}
+use Rattle.latex2mathml_tex_grammar.specs.Fences.{delimited_fraction, fenced, sized_delimiter}
+use Rattle.latex2mathml_tex_grammar.specs.Heights.{Height, Low, Raised, Tall, fraction_height, larger, script_height, sized_height, stacked_height}
 use Rattle.latex2mathml_tex_grammar.specs.SignAttributes.{sign_attributes}
 use Rattle.latex2mathml_tex_grammar.specs.Widths.{room}
 use Rattle.latex2mathml_tex_grammar.specs.Symbols.{Class, Ordinary, Operator, Binary, Relation, Opening, Punctuation, Inner, Style, InDisplay, InText, InScript, Alphabet, Upright, Symbol, Letter, UprightLetter, Sign, BigOperator, Integral}
@@ -37,14 +38,14 @@ upright = record plain { upright = true }
 
 -- a letter that is italic by itself
 abbrev pub letter : Option Alphabet → ℕ → Atom
-letter (Some Upright) c = atom UprightLetters false (token Mi upright (text c))
-letter (Some alphabet) c = atom (Plain Ordinary) false (token Mi plain (text (in_alphabet alphabet c)))
-letter None c = atom (Plain Ordinary) false (token Mi plain (text c))
+letter (Some Upright) c = atom UprightLetters Low (token Mi upright (text c))
+letter (Some alphabet) c = atom (Plain Ordinary) Low (token Mi plain (text (in_alphabet alphabet c)))
+letter None c = atom (Plain Ordinary) Low (token Mi plain (text c))
 
 -- a letter that is upright by itself
 abbrev pub upright_letter : Option Alphabet → ℕ → Atom
 upright_letter (Some alphabet) c = letter (Some alphabet) c
-upright_letter None c = atom UprightIdentifier false (token Mi upright (text c))
+upright_letter None c = atom UprightIdentifier Low (token Mi upright (text c))
 
 -- the digits of a number in an alphabet
 abbrev pub digits_in : Option Alphabet → List ℕ → List ℕ
@@ -53,7 +54,7 @@ digits_in (Some alphabet) digits = encode_utf8_all (map (in_alphabet alphabet) d
 
 -- a number of these digits
 abbrev pub number : Option Alphabet → List ℕ → Atom
-number alphabet digits = atom (Plain Ordinary) false (token Mn plain (digits_in alphabet digits))
+number alphabet digits = atom (Plain Ordinary) Low (token Mn plain (digits_in alphabet digits))
 
 -- plus, minus, plus-minus and minus-plus
 abbrev pub is_plus_or_minus : ℕ → Bool
@@ -66,31 +67,31 @@ sign_kind class c = SignOf class
 
 -- a sign of this class
 abbrev pub sign : Class → ℕ → Atom
-sign class c = atom (sign_kind class c) false (token Mo (sign_attributes class c) (text c))
+sign class c = atom (sign_kind class c) Low (token Mo (sign_attributes class c) (text c))
 
 -- a relation whose sign is this text
 abbrev pub relation : List ℕ → Atom
-relation sign_text = atom (SignOf Relation) false (token Mo plain sign_text)
+relation sign_text = atom (SignOf Relation) Low (token Mo plain sign_text)
 
 -- a symbol, as an element with its kind
 abbrev pub symbol : Option Alphabet → Symbol → Core
 symbol alphabet (Letter c) = core (letter alphabet c)
 symbol alphabet (UprightLetter c) = core (upright_letter alphabet c)
 symbol alphabet (Sign class c) = core (sign class c)
-symbol alphabet (BigOperator c) = operator Movable (atom (Plain Operator) true (token Mo plain (text c)))
-symbol alphabet (Integral c) = core (atom (Plain Operator) true (token Mo plain (text c)))
+symbol alphabet (BigOperator c) = operator Movable (atom (Plain Operator) Raised (token Mo plain (text c)))
+symbol alphabet (Integral c) = core (atom (Plain Operator) Tall (token Mo plain (text c)))
 
 -- the name of a function, with limits at this place
 abbrev pub function_name : LimitPlace → List ℕ → Core
-function_name limits name = operator limits (atom (Unspaced Operator) false (token Mi plain name))
+function_name limits name = operator limits (atom (Unspaced Operator) Low (token Mi plain name))
 
 -- a space of this width, in eighteenths of an em
 abbrev pub spacing : ℤ → Atom
-spacing width = atom Blank false (space width)
+spacing width = atom Blank Low (space width)
 
 -- a space of this many thousandths of an em
 abbrev pub blank : ℤ → Atom
-blank width = atom Blank false (rectangle (wide width))
+blank width = atom Blank Low (rectangle (wide width))
 
 -- a token with a stroke through it, U+0338; nothing else can have a stroke
 abbrev pub struck : Element → Option Element
@@ -105,16 +106,16 @@ ordinary_kind (token Mi a letter_text) = if a.upright then UprightIdentifier els
 ordinary_kind x = Plain Ordinary
 
 -- an element as an ordinary atom
-abbrev pub ordinary : Bool → Element → Atom
-ordinary high x = atom (ordinary_kind x) high x
+abbrev pub ordinary : Height → Element → Atom
+ordinary height x = atom (ordinary_kind x) height x
 
 -- a row in braces as an ordinary atom
 abbrev pub braced : Row → Atom
-braced row = ordinary row.high (row_element (lone row.last row.elements))
+braced row = ordinary row.height (row_element (lone row.last row.elements))
 
 -- an operand as an ordinary atom
 abbrev pub group : Operand → Atom
-group x = ordinary x.high x.element
+group x = ordinary x.height x.element
 
 -- the space of a sign that is an atom of this class, and was of the class `own`
 abbrev pub class_space : Class → Class → Option Space → Option Space
@@ -160,15 +161,15 @@ limits_of class = Beside
 -- an operand as an atom of this class
 abbrev pub classed : Class → Operand → Core
 classed class x =
-    operator (limits_of class) (atom (classed_kind class x.element) x.high (spaced_as class x.class x.element))
+    operator (limits_of class) (atom (classed_kind class x.element) x.height (spaced_as class x.class x.element))
 
 -- an operand as the name of a function, with limits at this place
 abbrev pub operator_name : LimitPlace → Operand → Core
-operator_name limits x = operator limits (atom (Unspaced Operator) x.high x.element)
+operator_name limits x = operator limits (atom (Unspaced Operator) x.height x.element)
 
 -- an operand as an atom that keeps its class
 abbrev pub shown : Operand → Core
-shown x = core (atom (Plain x.class) x.high (grouped x.element))
+shown x = core (atom (Plain x.class) x.height (grouped x.element))
 
 -- one of three operands, by the style
 abbrev pub choice : Style → Operand → Operand → Operand → Core
@@ -207,7 +208,7 @@ in_box (OnColor color) x = container Mpadded (record plain { background = Some c
 
 -- an operand in a box, as an ordinary atom
 abbrev pub boxed_atom : Box → Operand → Atom
-boxed_atom box x = atom (Plain Ordinary) x.high (in_box box x.element)
+boxed_atom box x = atom (Plain Ordinary) x.height (in_box box x.element)
 
 -- an element that a length raises, where there is one
 abbrev pub raised_by : Option ℤ → Element → Element
@@ -220,7 +221,7 @@ black width height = rectangle (record { width = width; height = height; depth =
 
 -- a black rectangle
 abbrev pub bar : Option ℤ → ℤ → ℤ → Atom
-bar raise width height = atom (Plain Ordinary) true (raised_by raise (black width height))
+bar raise width height = atom (Plain Ordinary) Tall (raised_by raise (black width height))
 
 -- Marks above and below
 
@@ -236,14 +237,17 @@ mark_attributes Stretching = record plain { stretch = Some Stretching; boxing = 
 mark_attributes Rigid = record plain { stretch = Some Rigid }
 
 -- an element with an accent above or below it
-abbrev pub accent : Side → ℕ → Stretch → Element → Core
-accent side mark width x =
-    core (atom (Plain Ordinary) true (on_side side (record plain { accent = Some side }) x (token Mo (mark_attributes width) (text mark))))
+abbrev pub accented : Side → ℕ → Stretch → Element → Element
+accented side mark width x = on_side side (record plain { accent = Some side }) x (token Mo (mark_attributes width) (text mark))
+
+-- an operand with an accent
+abbrev pub accent : Side → ℕ → Stretch → Operand → Core
+accent side mark width x = core (atom (Plain Ordinary) (larger Raised x.height) (accented side mark width x.element))
 
 -- an element with a brace above or below it is an operator; its scripts are the labels of the brace
 abbrev pub brace : Side → ℕ → Element → Core
 brace side mark x =
-    operator Stacked (atom (Unspaced Operator) true (on_side side plain x (token Mo (mark_attributes Stretching) (text mark))))
+    operator Stacked (atom (Unspaced Operator) Tall (on_side side plain x (token Mo (mark_attributes Stretching) (text mark))))
 
 -- What a relation with something above it is to its neighbours, whose base is of this class. It has the space of its base, and what
 -- is ordinary has none.
@@ -253,7 +257,7 @@ stacked_relation own = Plain Relation
 
 -- an element above or below a base; together they are this to their neighbours
 abbrev pub stack : Side → Kind → Element → Element → Core
-stack side kind mark base = core (atom kind true (on_side side plain base mark))
+stack side kind mark base = core (atom kind Tall (on_side side plain base mark))
 
 -- an arrow as long as the longer of its labels
 abbrev pub arrow_sign : ℕ → Element
@@ -271,7 +275,7 @@ arrow_element sign_character (Some below) above =
 
 -- an arrow with its labels is a relation
 abbrev pub arrow : ℕ → Option Element → Element → Core
-arrow sign_character below above = core (atom (Plain Relation) true (arrow_element sign_character below above))
+arrow sign_character below above = core (atom (Plain Relation) Tall (arrow_element sign_character below above))
 
 -- Fractions, roots, delimiters
 
@@ -318,7 +322,7 @@ fraction_element Bare style above below = unfenced (without_bar above below)
 
 -- a fraction in this style, which may be its own
 abbrev pub fraction : FractionRule → Option Style → Style → Element → Element → Core
-fraction rule own style above below = core (atom (Plain Ordinary) true (in_style own (fraction_element rule style above below)))
+fraction rule own style above below = core (atom (Plain Ordinary) (fraction_height style) (in_style own (fraction_element rule style above below)))
 
 -- how a fraction is drawn, as its author says: its delimiters, where an empty text is no delimiter, whether it has a line, and
 -- its style, where it has one of its own
@@ -341,39 +345,39 @@ between_any style opening closing x = delimited_fraction style opening closing x
 -- a fraction that is drawn as this says, in this style
 abbrev pub outlined_fraction : Outline → Style → Element → Element → Core
 outlined_fraction o style above below =
-    core (atom (Plain Ordinary) true (in_style o.own (between_any style o.opening o.closing (quotient o.has_line above below))))
+    core (atom (Plain Ordinary) (fraction_height style) (in_style o.own (between_any style o.opening o.closing (quotient o.has_line above below))))
 
--- a square root is ordinary, and high
-abbrev pub square_root : Element → Core
-square_root x = core (atom (Plain Ordinary) true (container Msqrt plain (children (x ∷ []))))
+-- a square root is ordinary, and taller than a letter
+abbrev pub square_root : Operand → Core
+square_root x = core (atom (Plain Ordinary) (larger Raised x.height) (container Msqrt plain (children (x.element ∷ []))))
 
 -- so is a root with a degree
-abbrev pub root : Element → Element → Core
-root degree x = core (atom (Plain Ordinary) true (pair Mroot plain x degree))
+abbrev pub root : Element → Operand → Core
+root degree x = core (atom (Plain Ordinary) (larger Raised x.height) (pair Mroot plain x.element degree))
 
 -- a delimiter within others
 abbrev pub divider : List ℕ → Atom
 divider sign_text =
-    atom Divider false (token Mo (record plain { stretch = Some Stretching; fence = true; space = Some Narrow; boxing = room Bigger sign_text }) sign_text)
+    atom Divider Low (token Mo (record plain { stretch = Some Stretching; fence = true; space = Some Narrow; boxing = room Bigger sign_text }) sign_text)
 
--- it does not stretch where nothing in its row is high
+-- it does not stretch where nothing in its row is taller than a letter
 abbrev pub lowered_divider : Element → Element
 lowered_divider (token t a sign_text) = token t (if a.fence then record a { stretch = Some Rigid; boxing = None } else a) sign_text
 lowered_divider x = x
 
--- dividers stay stretched if what is between is high, and are not stretched otherwise
-abbrev pub lowered : Bool → List Element → List Element
-lowered true xs = xs
-lowered false xs = map lowered_divider xs
+-- dividers stay stretched if what is between is taller than a letter, and are not stretched otherwise
+abbrev pub lowered : Height → List Element → List Element
+lowered Low xs = map lowered_divider xs
+lowered height xs = xs
 
 -- a row between delimiters
 abbrev pub between_delimiters : List ℕ → List ℕ → Row → Core
 between_delimiters opening closing row =
-    core (atom (Plain Inner) row.high (fenced (height_if row.high) opening closing (row_element (lowered row.high row.elements))))
+    core (atom (Plain Inner) row.height (fenced row.height opening closing (row_element (lowered row.height row.elements))))
 
 -- a delimiter of this size and class
 abbrev pub sized : Style → Size → Class → List ℕ → Core
-sized style size class sign_text = core (atom (Plain class) true (sized_delimiter style size class sign_text))
+sized style size class sign_text = core (atom (Plain class) (sized_height size) (sized_delimiter style size class sign_text))
 
 -- Scripts
 
@@ -385,8 +389,8 @@ pub record Scripts : Type 0 where
   pub limits : LimitPlace
   -- whether a command may say where they are to be
   pub takes_limits : Bool
-  -- whether the subscript is higher than a letter
-  pub high : Bool
+  -- how high the subscript is
+  pub height : Height
 
 -- an operator has limits
 abbrev pub takes_limits : Kind → Bool
@@ -397,7 +401,7 @@ takes_limits kind = false
 
 -- no scripts after an atom of this kind
 abbrev pub no_scripts : Kind → LimitPlace → Scripts
-no_scripts kind limits = record { primes = 0; below = None; above = None; limits = limits; takes_limits = takes_limits kind; high = false }
+no_scripts kind limits = record { primes = 0; below = None; above = None; limits = limits; takes_limits = takes_limits kind; height = Low }
 
 -- this many primes as one text
 abbrev pub primes_text : ℕ → List ℕ
@@ -464,17 +468,27 @@ before_base kind before = before
 abbrev pub base_there : Style → Before → Atom → Element
 base_there style before base = element_there style true (before_base base.kind before) base.kind base.element
 
--- Whether an atom with scripts is higher than a letter, by whether a part of it is, or is above or below it. In scripts it always is.
-abbrev pub is_high : Style → Bool → Bool
-is_high InScript part = true
-is_high style part = part
+-- how high a superscript is, if there is one
+abbrev pub height_above : Bool → Height
+height_above true = Raised
+height_above false = Low
+
+-- how high scripts are, below and above a base of this height or beside it
+abbrev pub scripts_height : Style → Bool → Height → Height → Bool → Height
+scripts_height style true base below above = stacked_height style base
+scripts_height style false base below above = larger (script_height below) (height_above above)
+
+-- How high an atom with scripts is. In scripts it is always taller than a letter.
+abbrev pub scripted_height : Style → Height → Height
+scripted_height InScript height = larger Raised height
+scripted_height style height = height
 
 -- an atom with these elements below and above it; without any, it stays as it is
 abbrev pub scripted_atom : Style → Before → Atom → Scripts → Option Element → Option Element → Atom
 scripted_atom style before base scripts None None = base
 scripted_atom style before base scripts below above =
     let stacked = are_stacked style scripts.limits in
-    atom (scripted_kind base.kind) (is_high style (stacked || base.high || scripts.high || is_some above)) (with_scripts stacked (fixed_base scripts.limits (base_there style before base)) below above)
+    atom (scripted_kind base.kind) (scripted_height style (larger base.height (scripts_height style stacked base.height scripts.height (is_some above)))) (with_scripts stacked (fixed_base scripts.limits (base_there style before base)) below above)
 
 -- an atom with what follows it, after what precedes it
 abbrev pub scripted : Style → Before → Atom → Scripts → Atom

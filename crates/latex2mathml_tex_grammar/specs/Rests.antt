@@ -2,6 +2,7 @@
 -- group is at its end.
 use Rattle.std.specs.Prelude.{ℕ, ◌||◌, Bool, true, false, List, [], ◌∷◌, reverse, Option, Some, None}
 use Rattle.latex2mathml_elements.specs.{Attributes.plain, Colors.Color, Element.Element, Element.Mstyle, Element.container, Element.children}
+use Rattle.latex2mathml_tex_grammar.specs.Heights.{Tall, larger}
 use Rattle.latex2mathml_tex_grammar.specs.{Atoms.Blank, Atoms.Kind, Colors.color_of, Makes.fraction, Makes.in_box, Makes.style_attributes, Meaning.Change, Meaning.Colored, Meaning.ToAlphabet, Meaning.ToStyle, Meaning.ToSize, Meaning.Divides, Meaning.ToColor, Meaning.FractionRule}
 use Rattle.latex2mathml_tex_grammar.specs.Refusal.{Refusal, SecondInfix, UnknownColor, refusal_at}
 use Rattle.latex2mathml_tex_grammar.specs.Rows.{Row, Look, Restyled, Upper, empty_row, lone, row_element, with_atom, with_operand_ended}
@@ -52,9 +53,9 @@ settled_after (Some change) style row = record row { elements = with_drawn chang
 abbrev pub settled : Style → Row → Row
 settled style row = settled_after row.restyled style row
 
--- a row before what follows a change and looks like this. What follows may be higher than a letter.
+-- a row before what follows a change and looks like this. What follows may be tall.
 abbrev pub begun_anew : Look → Row → Row
-begun_anew look row = record row { elements = []; last = Blank; high = true; restyled = Some (record { before = row.elements; look = look }) }
+begun_anew look row = record row { elements = []; last = Blank; height = larger Tall row.height; restyled = Some (record { before = row.elements; look = look }) }
 
 -- a row that was read in this context, after a change of style
 abbrev pub restyled : Context → Row → Row

@@ -1,8 +1,9 @@
 -- Rows: the elements of atoms that are next to each other. Here the last element comes first.
-use Rattle.std.specs.Prelude.{ℕ, zero, ℤ, pos, Bool, true, false, ◌||◌, ◌&&◌, List, [], ◌∷◌, ◌++◌, reverse, Option, None}
+use Rattle.std.specs.Prelude.{ℕ, zero, ℤ, pos, Bool, true, false, ◌&&◌, List, [], ◌∷◌, ◌++◌, reverse, Option, None}
 use Rattle.latex2mathml_elements.specs.{Attributes.Attributes, Attributes.plain, Colors.Color, Element.Element, Element.Mrow, Element.token, Element.space, Element.container, Element.children}
 use Rattle.latex2mathml_tex_grammar.specs.Atoms.{Atom, Kind, SignOf, PlusOrMinus, Plain, UprightLetters, UprightIdentifier, Blank, Before, Nothing, After, kind_ends_operand, awaits_second, gap, past, element_there, element_as, without_space, without_space_after}
 use Rattle.latex2mathml_tex_grammar.specs.{Meaning.FractionRule}
+use Rattle.latex2mathml_tex_grammar.specs.Heights.{Height, Low, larger}
 use Rattle.latex2mathml_tex_grammar.specs.Symbols.{Class, Ordinary, Operator, Binary, Relation, Punctuation, Style, TextSize}
 
 -- how what follows a change in a group looks
@@ -37,8 +38,8 @@ pub record Row : Type 0 where
   pub before : Before
   -- what its last atom is, or a space, which nothing joins
   pub last : Kind
-  -- whether any atom of it is higher than a letter
-  pub high : Bool
+  -- how high its highest atom is
+  pub height : Height
   -- its class as the base of a mark
   pub class : Class
   -- the last such change, where there was one
@@ -48,7 +49,7 @@ pub record Row : Type 0 where
 
 -- a row before its first atom
 abbrev pub empty_row : Row
-empty_row = record { elements = []; before = Nothing; last = Blank; high = false; class = Ordinary; restyled = None; under = None }
+empty_row = record { elements = []; before = Nothing; last = Blank; height = Low; class = Ordinary; restyled = None; under = None }
 
 -- these elements with a space of this width after them, where it has one
 abbrev pub parted : ℤ → List Element → List Element
@@ -141,7 +142,7 @@ appended style row x = record {
   elements = put (joining row.last x.kind) style row.before x row.elements;
   before = past row.before x.kind;
   last = x.kind;
-  high = row.high || x.high;
+  height = larger row.height x.height;
   class = class_with (joining row.last x.kind) row.class row.elements x.kind;
   restyled = row.restyled;
   under = row.under;
@@ -187,15 +188,15 @@ lone last [] = []
 lone last (x ∷ []) = isolated (is_spaced last) x ∷ []
 lone last (x ∷ y ∷ xs) = ended (leaves_space last) x ∷ y ∷ xs
 
--- What a command takes: one element, with its class as the base of a mark, and whether it is higher than a letter.
+-- What a command takes: one element, with its class as the base of a mark, and its height.
 pub record Operand : Type 0 where
   pub element : Element
   pub class : Class
-  pub high : Bool
+  pub height : Height
 
 -- a row as an operand
 abbrev pub operand_of : Row → Operand
-operand_of row = record { element = row_element row.elements; class = row.class; high = row.high }
+operand_of row = record { element = row_element row.elements; class = row.class; height = row.height }
 
 -- an operand as the base of an atom of this class
 abbrev pub as_base : Style → Class → Operand → Operand

@@ -5,6 +5,7 @@ use Rattle.std.specs.{Char.is_ascii_alphabetic, Char.is_ascii_digit, Str.byte, S
 use Rattle.latex2mathml_elements.specs.{Attributes.Above, Columns.Columns, Columns.Centered, Columns.LeftAligned, Columns.RightAligned, Columns.Dense, Columns.Usual, Columns.Alike, Columns.InDiagram, Columns.density_in, Element.Element}
 use Rattle.latex2mathml_tex_grammar.specs.{Atoms.After, Atoms.Before, Atoms.Nothing, Atoms.Plain, Atoms.atom, Commands.meaning_of, Commands.symbol_of, Delimiters.delimiter_of, Delimiters.negated_of, Dots.centered_dots, Dots.centers_dots, Dots.low_dots, Rows.Row, Rows.Operand, Rows.as_base, Rows.empty_row, Rows.row_element}
 use Rattle.latex2mathml_tex_grammar.specs.Environments.{Environment, Bracket, NoBracket, Position, Alignment, columns_of, fitted, listed, written_out, environment_of}
+use Rattle.latex2mathml_tex_grammar.specs.Heights.{Low}
 use Rattle.latex2mathml_tex_grammar.specs.Makes.{Core, core, letter, upright_letter, number, relation, symbol, function_name, spacing, braced, group, classed, no_letters, operator_name, accent, brace, stack, stacked_relation, fraction, square_root, root, between_delimiters, sized, struck, blank, boxed_atom, bar, arrow, Outline, outlined_fraction, choice}
 use Rattle.latex2mathml_tex_grammar.specs.Meaning.{Meaning, Shows, FunctionName, Dots, Spacing, Styled, Words as TakesWordsIn, Fraction, Root, Accent, Brace, Stack, StackedRelation, OperatorName, Negation, Slash, Sized, Left, Middle, Right, Limits, NoLimits, Classed, Changes, Beside, ByStyle, FractionRule, BeginTable, EndTable, LineBreak, Substack, Skip, SkipInBraces, Box, Smashed, WithoutHeight, WithoutDepth, Boxed, Smash, Raise, InColor, Highlight, Rectangle, Arrow, Raised, Colored, OnColor, ContinuedFraction, GeneralFraction, Bar, Choice}
 use Rattle.latex2mathml_tex_grammar.specs.Refusal.{UnknownCommand, MissingArgument, MissingDelimiter, ChangeAsArgument, UnopenedBrace, RightWithoutLeft, MiddleWithoutLeft, LimitsWithoutOperator, NothingToNegate, OutsideTable, MisplacedCharacter, Refusal, refusal_at, UnknownEnvironment, EndWithoutBegin, OtherName, TooManyColumns, IncompleteArrow, LengthTooLarge, UnknownColor}
@@ -190,8 +191,8 @@ a_fraction place c rule own =
 abbrev pub a_root : ℕ → Context → Rule
 a_root place c =
     takes_if (a_character (byte "[") ∷ [])
-    (λ bracket. reads_atoms (InBrackets place) (styled c InScript) (λ degree. of_one place c (λ x. root (row_element degree.elements) x.element)))
-    (of_one place c (λ x. square_root x.element))
+    (λ bracket. reads_atoms (InBrackets place) (styled c InScript) (λ degree. of_one place c (root (row_element degree.elements))))
+    (of_one place c square_root)
 
 -- the name of an operator, in upright letters; with a star it has limits
 abbrev pub an_operator_name : ℕ → Context → Rule
@@ -202,7 +203,7 @@ an_operator_name place c =
 -- an atom with a stroke through it, where it is a leaf
 abbrev pub struck_atom : ℕ → Core → Option Element → Rule
 struck_atom place x None = refuses (refusal_at NothingToNegate place)
-struck_atom place x (Some element) = gives (core (atom (no_letters x.atom.kind) x.atom.high element))
+struck_atom place x (Some element) = gives (core (atom (no_letters x.atom.kind) x.atom.height element))
 
 -- a negated relation has a character of its own, or a stroke
 abbrev pub a_negation : ℕ → Context → Rule
@@ -212,7 +213,7 @@ a_negation place c =
 -- an operand with a stroke through it, where it is a leaf
 abbrev pub slashed : Operand → Option Element → Core
 slashed x None = core (group x)
-slashed x (Some element) = core (atom (Plain Ordinary) false element)
+slashed x (Some element) = core (atom (Plain Ordinary) Low element)
 
 -- a table of rows that were read, where its end has the same name as its beginning
 abbrev pub ended_table : ℕ → Context → Environment → Columns → Lines → Bool → Rule
@@ -442,7 +443,7 @@ meaning_rule place c (Fraction rule own) = a_fraction place c rule own
 meaning_rule place c ContinuedFraction = a_continued_fraction place c
 meaning_rule place c GeneralFraction = a_general_fraction place c
 meaning_rule place c Root = a_root place c
-meaning_rule place c (Accent side mark width) = of_one place c (λ x. accent side mark width x.element)
+meaning_rule place c (Accent side mark width) = of_one place c (accent side mark width)
 meaning_rule place c (Brace side mark) = of_one place c (λ x. brace side mark x.element)
 meaning_rule place c Choice = a_choice place c
 meaning_rule place c (Stack side) = of_two place (styled c InScript) c (λ mark base. stack side (Plain base.class) mark.element (as_base c.style base.class base).element)

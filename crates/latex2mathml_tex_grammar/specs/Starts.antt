@@ -2,6 +2,7 @@
 use Rattle.std.specs.Prelude.{ℕ, suc, ◌==◌, ◌||◌, Bool, true, false, List, [], codes, Option, Some, None, if◌then◌else◌}
 use Rattle.std.specs.{Str.byte, Str.bytes_eq}
 use Rattle.latex2mathml_elements.specs.Element.{Element}
+use Rattle.latex2mathml_tex_grammar.specs.Heights.{Low}
 use Rattle.latex2mathml_tex_grammar.specs.{Atoms.Atom, Atoms.Plain, Atoms.atom, Commands.meaning_of, Makes.Scripts, Makes.behind_primes, Rows.Operand, Rows.row_element, Rules.a_digit}
 use Rattle.latex2mathml_tex_grammar.specs.Meaning.{Change, Changes, Meaning, LimitPlace, Beside, ByStyle, Stacked}
 use Rattle.latex2mathml_tex_grammar.specs.Refusal.{Kind, UnclosedBrace, UnclosedBracket, UnclosedDollar, LeftWithoutRight, LimitsWithoutOperator, SecondSubscript, SecondSuperscript, Refusal, refusal_at, BeginWithoutEnd, IncompleteArrow}
@@ -191,7 +192,7 @@ abbrev pub step_of : Scripts → Option Element → Option Element → Mark → 
 step_of scripts below (Some x) Prime = Forbidden SecondSuperscript
 step_of scripts below None Prime = GoesOn (record scripts { primes = suc scripts.primes })
 step_of scripts (Some x) above Below = Forbidden SecondSubscript
-step_of scripts None above Below = TakesOperand (λ x. record scripts { below = Some x.element; high = x.high })
+step_of scripts None above Below = TakesOperand (λ x. record scripts { below = Some x.element; height = x.height })
 step_of scripts below (Some x) Above = Forbidden SecondSuperscript
 step_of scripts below None Above = TakesOperand (λ x. record scripts { above = Some (behind_primes scripts.primes x.element) })
 step_of scripts below above (LimitsAt place) = if scripts.takes_limits then GoesOn (record scripts { limits = place }) else Forbidden LimitsWithoutOperator
@@ -209,4 +210,4 @@ step_next scripts (Stop refusal) = None
 
 -- the row that is the base of scripts where no atom precedes them
 abbrev pub empty_base : Atom
-empty_base = atom (Plain Ordinary) false (row_element [])
+empty_base = atom (Plain Ordinary) Low (row_element [])

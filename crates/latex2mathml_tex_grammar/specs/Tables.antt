@@ -1,10 +1,11 @@
 -- Tables: rows of cells. Here what was read last comes first.
-use Rattle.std.specs.Prelude.{ℕ, ℤ, pos, true, List, [], ◌∷◌, reverse, Option, Some, None}
+use Rattle.std.specs.Prelude.{ℕ, ℤ, pos, List, [], ◌∷◌, reverse, Option, Some, None}
 use Rattle.latex2mathml_elements.specs.Attributes.{plain, MathStyle}
 use Rattle.latex2mathml_elements.specs.{Columns.Alignment, Columns.Continued, Columns.Columns, Columns.column_at, Columns.density_in, Extents.Extent, Struts.strut, Struts.with_strut, Tables.attributes_in, Tables.rows_in}
 use Rattle.latex2mathml_elements.specs.Element.{Mrow, Element, Rows, container, table, children}
 use Rattle.latex2mathml_tex_grammar.specs.{Atoms.Before, Atoms.After, Atoms.Plain, Atoms.atom, Makes.Core, Makes.core, Makes.math_style, Rows.Row, Rows.empty_row, Rows.lone, Rows.row_element}
-use Rattle.latex2mathml_tex_grammar.specs.Fences.{Height, Tall, Taller, VeryTall, fenced}
+use Rattle.latex2mathml_tex_grammar.specs.Heights.{Height, Tall, Taller, VeryTall}
+use Rattle.latex2mathml_tex_grammar.specs.Fences.{fenced}
 use Rattle.latex2mathml_tex_grammar.specs.Symbols.{Class, Ordinary, Opening, Inner, Style, InDisplay, InText}
 
 -- What precedes the first atom of a cell: some cells continue something ordinary. Any other cell begins like a formula, as if after
@@ -78,5 +79,5 @@ table_class (Some delimiters) = Inner
 -- a table in these columns, whose cells have the first style, where the second is around it
 abbrev pub a_table : Option (List ℕ × List ℕ) → Columns → Style → Style → Lines → Core
 a_table delimiters columns style around lines =
-    core (atom (Plain (table_class delimiters)) true
+    core (atom (Plain (table_class delimiters)) (height_of (lines.last ∷ lines.others))
     (between_any delimiters (height_of (lines.last ∷ lines.others)) (table (attributes_in columns (record plain { style = said_style style around })) (rows_of columns lines))))

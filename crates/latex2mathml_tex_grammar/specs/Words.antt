@@ -3,6 +3,7 @@ use Rattle.std.specs.Prelude.{ℕ, ◌==◌, ◌||◌, Bool, true, false, List, 
 use Rattle.std.specs.Str.{byte}
 use Rattle.latex2mathml_elements.specs.{Attributes.Attributes, Attributes.Monospaced, Attributes.boxed, Attributes.plain, Element.Element, Element.Mtext, Element.token}
 use Rattle.latex2mathml_tex_grammar.specs.{Alphabets.in_alphabet, Atoms.Atom, Atoms.Plain, Atoms.atom, Commands.meaning_of, Delimiters.entry_of_name, Dots.low_dots, Makes.symbol, Makes.text, Rows.row_element, Rows.single, TextCommands.text_accents, TextCommands.text_commands}
+use Rattle.latex2mathml_tex_grammar.specs.Heights.{Low}
 use Rattle.latex2mathml_tex_grammar.specs.Meaning.{Meaning, Shows, Dots, Spacing, Words as TakesWordsIn, Changes, ToAlphabet, ToSize, Skip, SkipInBraces}
 use Rattle.latex2mathml_tex_grammar.specs.Refusal.{Kind, CommandInWords, CharacterInWords, UnknownCommand}
 use Rattle.latex2mathml_tex_grammar.specs.Symbols.{Alphabet, BoldItalic, Monospace, Ordinary, InText, TextSize}
@@ -194,7 +195,7 @@ words_element xs = row_element xs
 
 -- the elements of words as an ordinary atom
 abbrev pub text_atom : List Element → Atom
-text_atom elements = atom (Plain Ordinary) false (words_element elements)
+text_atom elements = atom (Plain Ordinary) Low (words_element elements)
 
 -- words as an ordinary atom
 abbrev pub words_atom : Words → Atom

@@ -17,6 +17,7 @@ use latex2mathml_attributes::attributes::{Attributes, Size};
 use latex2mathml_attributes::tag::Token;
 use latex2mathml_tex_atoms::atoms::{Context, Core, Kind, Row, Words};
 use latex2mathml_tex_atoms::delimiters::put_sized;
+use latex2mathml_tex_atoms::heights::Height;
 use latex2mathml_tex_commands::commands;
 use latex2mathml_tex_commands::meaning::{Alphabet, Class, LimitPlace, Meaning, Style};
 use latex2mathml_tex_units::dots::{CENTERED_DOTS, LOW_DOTS};
@@ -359,7 +360,7 @@ impl<'a> Parser<'a> {
         if let Some(sign) = self.input.take_negated() {
             self.builder
                 .character(Token::Mo, Attributes::plain(), sign)?;
-            *next = State::Core(Core::new(Kind::SignOf(Class::Relation), false));
+            *next = State::Core(Core::new(Kind::SignOf(Class::Relation), Height::Low));
             return Ok(());
         }
         self.open(Frame::Negation(place, context), next)
@@ -418,7 +419,7 @@ impl<'a> Parser<'a> {
             return Ok(());
         };
         put_sized(&mut self.builder, style, size, class, delimiter)?;
-        *next = State::Core(Core::new(Kind::Plain(class), true));
+        *next = State::Core(Core::new(Kind::Plain(class), Height::of_size(size)));
         Ok(())
     }
 }

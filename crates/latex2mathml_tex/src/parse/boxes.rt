@@ -11,6 +11,7 @@ use crate::parse::{Parser, State};
 use latex2mathml_attributes::extent::Extent;
 use latex2mathml_tex_atoms::atoms::{Context, Core, Kind};
 use latex2mathml_tex_atoms::boxes::put_bar;
+use latex2mathml_tex_atoms::heights::Height;
 use latex2mathml_tex_commands::meaning::{Class, OperandBox};
 use latex2mathml_tex_units::scanning::{LengthEnd, Spot};
 use std::alloc::AllocError;
@@ -35,7 +36,7 @@ impl<'a> Parser<'a> {
             return Ok(());
         };
         self.builder.rectangle(Extent::wide(width))?;
-        *next = State::Core(Core::new(Kind::Blank, false));
+        *next = State::Core(Core::new(Kind::Blank, Height::Low));
         Ok(())
     }
 
@@ -101,7 +102,7 @@ impl<'a> Parser<'a> {
             return Ok(());
         };
         put_bar(&mut self.builder, raise, width, height)?;
-        *next = State::Core(Core::new(Kind::Plain(Class::Ordinary), true));
+        *next = State::Core(Core::new(Kind::Plain(Class::Ordinary), Height::Tall));
         Ok(())
     }
 

@@ -1,5 +1,5 @@
 //! How parsing goes on after an atom without scripts, and after an operand.
-ghost use Rattle.std.specs.Prelude.{◌≡◌, ◌+◌, ◌<◌, Ok, drop};
+ghost use Rattle.std.specs.Prelude.{◌≡◌, ◌+◌, ◌<◌, Ok, drop, if◌then◌else◌};
 ghost use Rattle.latex2mathml_tex_grammar.specs.{Makes.struck, Rules.gives, Rules.struck_atom};
 ghost use Rattle.latex2mathml_tex.specs.Choices.{depth_in, in_line, in_scripts};
 ghost use Rattle.latex2mathml_tex.specs.Frames.{first_count, last_count, made_of};
@@ -18,6 +18,7 @@ use latex2mathml_tex_atoms::arrows::{put_over_and_under_arrow, put_over_arrow};
 use latex2mathml_tex_atoms::atoms::{Context, Core, Kind, Operand, Row, Scripts, Words};
 use latex2mathml_tex_atoms::boxes::put_in_box;
 use latex2mathml_tex_atoms::fractions::put_fraction;
+use latex2mathml_tex_atoms::heights::Height;
 use latex2mathml_tex_atoms::outlines::put_outlined;
 use latex2mathml_tex_atoms::shapes::{
     classed_kind, make_base, ordinary_kind, put_accent, put_brace, put_stack, space_sign, with_atom,
@@ -53,7 +54,7 @@ impl<'a> Parser<'a> {
                 let row = with_atom(&mut self.builder, context.style, Row::empty(), core)?;
                 *next = State::Operand(Operand {
                     class: row.class,
-                    high: row.high,
+                    height: row.height,
                 });
                 Ok(())
             }
@@ -70,7 +71,7 @@ impl<'a> Parser<'a> {
         ensures step { Advances 4 self.old self.new next.new result }
     {
         if self.builder.push('\u{338}')? {
-            *next = State::Core(Core::new(core.kind.without_letters(), core.high));
+            *next = State::Core(Core::new(core.kind.without_letters(), core.height));
             return Ok(());
         }
         *next = self.refuse(TexErrorKind::NothingToNegate, place);
@@ -94,7 +95,7 @@ impl<'a> Parser<'a> {
                 self.after_first(first, place, context, operand, next)
             }
             Frame::Script(core, scripts, side, _, _) => {
-                self.with_script(core, scripts, side, operand.high, next)
+                self.with_script(core, scripts, side, operand.height, next)
             }
             _ => unreachable!(),
         }
@@ -162,30 +163,30 @@ impl<'a> Parser<'a> {
     {
         match last {
             Last::Group => {
-                *next = State::Core(Core::new(ordinary_kind(&self.builder), operand.high));
+                *next = State::Core(Core::new(ordinary_kind(&self.builder), operand.height));
                 Ok(())
             }
             Last::SquareRoot => {
                 self.builder
                     .container(Container::Msqrt, Attributes::plain(), 1)?;
-                *next = State::Core(ordinary(true));
+                *next = State::Core(ordinary(Height::Raised.larger(operand.height)));
                 Ok(())
             }
             Last::Root => {
                 self.builder.pair(Pair::Mroot, Attributes::plain(), true)?;
-                *next = State::Core(ordinary(true));
+                *next = State::Core(ordinary(Height::Raised.larger(operand.height)));
                 Ok(())
             }
             Last::Accent(side, mark, stretch) => {
                 put_accent(&mut self.builder, side, mark, stretch)?;
-                *next = State::Core(ordinary(true));
+                *next = State::Core(ordinary(Height::Raised.larger(operand.height)));
                 Ok(())
             }
             Last::Brace(side, mark) => {
                 put_brace(&mut self.builder, side, mark)?;
                 *next = State::Core(Core {
                     kind: Kind::Unspaced(Class::Operator),
-                    high: true,
+                    height: Height::Tall,
                     limits: LimitPlace::Stacked,
                 });
                 Ok(())
@@ -193,14 +194,14 @@ impl<'a> Parser<'a> {
             Last::OperatorName(limits) => {
                 *next = State::Core(Core {
                     kind: Kind::Unspaced(Class::Operator),
-                    high: operand.high,
+                    height: operand.height,
                     limits,
                 });
                 Ok(())
             }
             Last::Slash => {
                 let is_token = self.builder.push('\u{338}')?;
-                *next = State::Core(ordinary(!is_token && operand.high));
+                *next = State::Core(ordinary(struck_height(is_token, operand.height)));
                 Ok(())
             }
             Last::Classed(class, style) => {
@@ -213,59 +214,66 @@ impl<'a> Parser<'a> {
             Last::Boxed(operand_box, style) => {
                 make_base(&mut self.builder, style, Class::Ordinary, operand.class);
                 put_in_box(&mut self.builder, operand_box)?;
-                *next = State::Core(ordinary(operand.high));
+                *next = State::Core(ordinary(operand.height));
                 Ok(())
             }
             Last::Fraction(rule, own, style) => {
                 put_fraction(&mut self.builder, rule, own, style)?;
-                *next = State::Core(ordinary(true));
+                *next = State::Core(ordinary(Height::of_fraction(style)));
                 Ok(())
             }
             Last::Outlined(outline, style) => {
                 put_outlined(&mut self.builder, outline, style)?;
-                *next = State::Core(ordinary(true));
+                *next = State::Core(ordinary(Height::of_fraction(style)));
                 Ok(())
             }
             Last::Stack(side, style) => {
                 make_base(&mut self.builder, style, operand.class, operand.class);
                 put_stack(&mut self.builder, side)?;
-                *next = State::Core(Core::new(Kind::Plain(operand.class), true));
+                *next = State::Core(Core::new(Kind::Plain(operand.class), Height::Tall));
                 Ok(())
             }
             Last::StackedRelation(style) => {
                 make_base(&mut self.builder, style, Class::Relation, operand.class);
                 put_stack(&mut self.builder, Side::Above)?;
-                *next = State::Core(Core::new(stacked_relation(operand.class), true));
+                *next = State::Core(Core::new(stacked_relation(operand.class), Height::Tall));
                 Ok(())
             }
             Last::OverArrow => {
                 put_over_arrow(&mut self.builder)?;
-                *next = State::Core(Core::new(Kind::Plain(Class::Relation), true));
+                *next = State::Core(Core::new(Kind::Plain(Class::Relation), Height::Tall));
                 Ok(())
             }
             Last::OverAndUnderArrow => {
                 put_over_and_under_arrow(&mut self.builder)?;
-                *next = State::Core(Core::new(Kind::Plain(Class::Relation), true));
+                *next = State::Core(Core::new(Kind::Plain(Class::Relation), Height::Tall));
                 Ok(())
             }
             Last::Choice(style, shown) => {
                 self.builder.keep(depth_in(style), 4)?;
-                *next = State::Core(Core::new(Kind::Plain(shown.class), shown.high));
+                *next = State::Core(Core::new(Kind::Plain(shown.class), shown.height));
                 Ok(())
             }
         }
     }
 }
 
-/// Returns an ordinary atom.
-fn ordinary(high: bool) -> Core
+/// Returns how high an operand of this height is with a stroke, which is part of its text if it is a token.
+fn struck_height(is_token: bool, height: Height) -> Height
+    ensures { result ≡ (if is_token then Height.Low else height) }
+{
+    if is_token { Height::Low } else { height }
+}
+
+/// Returns an ordinary atom of this height.
+fn ordinary(height: Height) -> Core
     ensures { result ≡ record {
       kind = Kind.Plain Class.Ordinary;
-      high = high;
+      height = height;
       limits = LimitPlace.Beside;
     } }
 {
-    Core::new(Kind::Plain(Class::Ordinary), high)
+    Core::new(Kind::Plain(Class::Ordinary), height)
 }
 
 /// Returns the operand that a choice shows in this style, if it is one of these: the one before that for a line of text, or
@@ -323,7 +331,7 @@ fn classed(class: Class, kind: Kind, operand: Operand) -> Core
     };
     Core {
         kind,
-        high: operand.high,
+        height: operand.height,
         limits,
     }
 }

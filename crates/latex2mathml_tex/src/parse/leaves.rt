@@ -1,6 +1,7 @@
 //! The atoms that are one element: letters, numbers, signs, names and spaces.
-ghost use Rattle.std.specs.Prelude.{◌≡◌, ◌+◌, ◌<◌, ◌∷◌, [], false, IfOk, OnOk, option_map};
+ghost use Rattle.std.specs.Prelude.{◌≡◌, ◌+◌, ◌<◌, ◌∷◌, [], IfOk, OnOk, option_map};
 ghost use Rattle.latex2mathml_builder.specs.{Built.elements_in, Stacks.lengthened};
+ghost use Rattle.latex2mathml_tex_grammar.specs.Heights.{Low};
 ghost use Rattle.latex2mathml_tex_grammar.specs.Makes;
 ghost use Rattle.latex2mathml_tex_grammar.specs.Makes.{core, digits_in};
 ghost use Rattle.latex2mathml_tex_grammar.specs.Next.{digits_next};
@@ -23,6 +24,7 @@ use latex2mathml_attributes::attributes::Attributes;
 use latex2mathml_attributes::tag::Token;
 use latex2mathml_builder::builder::Builder;
 use latex2mathml_tex_atoms::atoms::{Core, Kind};
+use latex2mathml_tex_atoms::heights::Height;
 use latex2mathml_tex_commands::alphabets::in_alphabet;
 use latex2mathml_tex_commands::meaning::{Alphabet, Class, LimitPlace, Symbol};
 use latex2mathml_tex_commands::signs::symbol_of;
@@ -99,7 +101,7 @@ impl<'a> Parser<'a> {
         self.builder.text(Token::Mi, Attributes::plain(), name)?;
         *next = State::Core(Core {
             kind: Kind::Unspaced(Class::Operator),
-            high: false,
+            height: Height::Low,
             limits,
         });
         Ok(())
@@ -114,7 +116,7 @@ impl<'a> Parser<'a> {
         ensures step { Advances 13 self.old self.new next.new result }
     {
         self.builder.space(i32::from(width))?;
-        *next = State::Core(Core::new(Kind::Blank, false));
+        *next = State::Core(Core::new(Kind::Blank, Height::Low));
         Ok(())
     }
 
@@ -187,9 +189,9 @@ impl<'a> Parser<'a> {
 
 /// Returns what a number is to its neighbours.
 pub(crate) fn number() -> Core
-    ensures { (x : Element) → core_with result x ≡ core (atom (Plain Ordinary) false x) }
+    ensures { (x : Element) → core_with result x ≡ core (atom (Plain Ordinary) Low x) }
 {
-    Core::new(Kind::Plain(Class::Ordinary), false)
+    Core::new(Kind::Plain(Class::Ordinary), Height::Low)
 }
 
 /// Puts a number of one digit.

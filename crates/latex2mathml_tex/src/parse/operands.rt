@@ -111,7 +111,7 @@ pub(crate) fn put_symbol_operand(
     let row = with_atom(builder, context.style, Row::empty(), core)?;
     Ok(Some(Operand {
         class: row.class,
-        high: row.high,
+        height: row.height,
     }))
 }
 

@@ -16,7 +16,8 @@ use latex2mathml_attributes::attributes::Attributes;
 use latex2mathml_attributes::tag::Container;
 use latex2mathml_tex_atoms::arrows::put_label_row;
 use latex2mathml_tex_atoms::atoms::{Context, Core, Kind, Operand, Row, Scripts, Words};
-use latex2mathml_tex_atoms::delimiters::{Height, enclose, lower_dividers, put_divider};
+use latex2mathml_tex_atoms::delimiters::{enclose, lower_dividers, put_divider};
+use latex2mathml_tex_atoms::heights::Height;
 use latex2mathml_tex_atoms::rests::{Division, Look, begin_anew, divide, finish};
 use latex2mathml_tex_atoms::shapes::{isolate, ordinary_kind, put_braced, put_row, with_atom};
 use latex2mathml_tex_commands::commands;
@@ -184,7 +185,7 @@ impl<'a> Parser<'a> {
     {
         self.builder
             .container(Container::Mrow, Attributes::plain(), 0)?;
-        let base = Core::new(Kind::Plain(Class::Ordinary), false);
+        let base = Core::new(Kind::Plain(Class::Ordinary), Height::Low);
         self.take_mark(
             mark,
             place,
@@ -206,7 +207,7 @@ impl<'a> Parser<'a> {
             return Ok(());
         };
         put_divider(&mut self.builder, delimiter)?;
-        self.put(Core::new(Kind::Divider, false), next)
+        self.put(Core::new(Kind::Divider, Height::Low), next)
     }
 
     /// Puts an atom, whose element is uppermost, after the others of the innermost row.
@@ -390,14 +391,14 @@ impl<'a> Parser<'a> {
         match braced {
             Braced::Group => {
                 put_braced(&mut self.builder, row.count, row.last)?;
-                *next = State::Core(Core::new(ordinary_kind(&self.builder), row.high));
+                *next = State::Core(Core::new(ordinary_kind(&self.builder), row.height));
                 Ok(())
             }
             Braced::Operand => {
                 put_row(&mut self.builder, row.count)?;
                 *next = State::Operand(Operand {
                     class: row.class,
-                    high: row.high,
+                    height: row.height,
                 });
                 Ok(())
             }
@@ -421,12 +422,12 @@ impl<'a> Parser<'a> {
             *next = self.refuse_delimiter();
             return Ok(());
         };
-        if !row.high {
+        if row.height.is_low() {
             lower_dividers(&mut self.builder, row.count);
         }
         put_row(&mut self.builder, row.count)?;
-        enclose(&mut self.builder, Height::of(row.high), opening, closing)?;
-        *next = State::Core(Core::new(Kind::Plain(Class::Inner), row.high));
+        enclose(&mut self.builder, row.height, opening, closing)?;
+        *next = State::Core(Core::new(Kind::Plain(Class::Inner), row.height));
         Ok(())
     }
 }

@@ -4,13 +4,14 @@ ghost use Rattle.latex2mathml_elements.specs.{Attributes.plain, Element.Element,
 ghost use Rattle.latex2mathml_builder.specs.Built.{elements_in};
 ghost use Rattle.latex2mathml_attributes.specs.Names.{pair_of, triple_of};
 ghost use Rattle.latex2mathml_tex_grammar.specs.Atoms;
+ghost use Rattle.latex2mathml_tex_grammar.specs.Heights.{larger};
 ghost use Rattle.latex2mathml_tex_grammar.specs.Makes;
 ghost use Rattle.latex2mathml_tex_grammar.specs.Starts;
 ghost use Rattle.latex2mathml_tex_units.specs.{Errors.second_on, Taking.piece_of};
 ghost use Rattle.latex2mathml_tex_commands.specs.Meanings.{limit_place_of, style_of};
 ghost use Rattle.latex2mathml_tex.specs.{Frames.Start, Frames.base_of, Frames.primes_put, Levels.Leads};
 ghost use Rattle.latex2mathml_tex_atoms.specs.Shapes.{changed_at};
-ghost use Rattle.latex2mathml_tex_atoms.specs.Models.{before_of, core_with, kind_of, script_count, scripts_with, top};
+ghost use Rattle.latex2mathml_tex_atoms.specs.Models.{before_of, core_with, height_of, kind_of, script_count, scripts_with, top};
 ghost use Rattle.latex2mathml_tex.specs.Steps.{CanMake, Holds, HoldsIn, Advances, LeadsOn, Ready, TookMark, TookScript, atom_made, elements_of, left_of, level, level_within, mark_model};
 
 use crate::parse::frames::Frame;
@@ -20,6 +21,7 @@ use latex2mathml_attributes::attributes::{Attributes, Side};
 use latex2mathml_attributes::tag::{Pair, Triple};
 use latex2mathml_builder::builder::Builder;
 use latex2mathml_tex_atoms::atoms::{Before, Context, Core, Kind, Scripts};
+use latex2mathml_tex_atoms::heights::Height;
 use latex2mathml_tex_atoms::shapes::{fix_limits, put_primes, put_row};
 use latex2mathml_tex_atoms::signs::adapt;
 use latex2mathml_tex_commands::meaning::{Class, LimitPlace, Style};
@@ -159,23 +161,23 @@ impl<'a> Parser<'a> {
     {
         let put = put_symbol_operand(&mut self.input, &mut self.builder, context)?;
         if let Some(operand) = put {
-            return self.with_script(core, scripts, side, operand.high, next);
+            return self.with_script(core, scripts, side, operand.height, next);
         }
         self.open(Frame::Script(core, scripts, side, place, context), next)
     }
 
-    /// Goes on after an operand that is a script, and higher than a letter, if `high` says so.
+    /// Goes on after an operand that is a script of this height.
     pub(crate) fn with_script(
         &mut self,
         core: Core,
         scripts: Scripts,
         side: Side,
-        high: bool,
+        height: Height,
         next: &mut State,
     ) -> Result<(), AllocError>
         requires { CanMake atom_made (primes_put side scripts.primes + (script_count scripts + 2))
             self.old }
-        ensures holds { LeadsOn (TookScript core scripts side high) self.old self.new next.new result }
+        ensures holds { LeadsOn (TookScript core scripts side height) self.old self.new next.new result }
         ensures step { Advances 3 self.old self.new next.new result }
     {
         *next = State::Atom(
@@ -184,7 +186,7 @@ impl<'a> Parser<'a> {
                 Side::Below => Scripts {
                     below: true,
                     is_exchanged: scripts.above,
-                    high,
+                    height,
                     ..scripts
                 },
                 Side::Above => {
@@ -241,20 +243,38 @@ fn scripted(
     put_scripts(builder, is_stacked, scripts)?;
     Ok(Core {
         kind: core.kind.with_scripts(),
-        high: is_high(style, is_stacked, core.high, scripts),
+        height: scripted_height(style, is_stacked, core.height, scripts),
         limits: core.limits,
     })
 }
 
-/// Whether an atom with these scripts is higher than a letter, by whether its base is. Within scripts it always is.
-fn is_high(style: Style, is_stacked: bool, high: bool, scripts: Scripts) -> bool
-    ensures { result ≡ Makes.is_high (style_of style)
-        (is_stacked || high || scripts.high || scripts.above) }
+/// Returns how high an atom with these scripts is, whose base is this high. Within scripts it is always taller than a letter.
+fn scripted_height(style: Style, is_stacked: bool, base: Height, scripts: Scripts) -> Height
+    ensures { height_of result ≡ Makes.scripted_height (style_of style) (larger (height_of base)
+        (Makes.scripts_height (style_of style) is_stacked (height_of base)
+        (height_of scripts.height) scripts.above)) }
 {
+    let height = base.larger(scripts_height(style, is_stacked, base, scripts));
     match style {
-        Style::InScript => true,
-        _ => is_stacked || high || scripts.high || scripts.above,
+        Style::InScript => Height::Raised.larger(height),
+        Style::InDisplay | Style::InText => height,
     }
+}
+
+/// Returns how high these scripts are, above and below a base of this height or beside it.
+fn scripts_height(style: Style, is_stacked: bool, base: Height, scripts: Scripts) -> Height
+    ensures { height_of result ≡ Makes.scripts_height (style_of style) is_stacked
+        (height_of base) (height_of scripts.height) scripts.above }
+{
+    if is_stacked {
+        return base.stacked(style);
+    }
+    let above = if scripts.above {
+        Height::Raised
+    } else {
+        Height::Low
+    };
+    scripts.height.as_script().larger(above)
 }
 
 /// Returns the scripts with a mark of the primes as the superscript, if they have no other superscript.

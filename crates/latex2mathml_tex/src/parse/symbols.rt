@@ -7,7 +7,7 @@ ghost use Rattle.latex2mathml_tex_grammar.specs.SignAttributes;
 ghost use Rattle.latex2mathml_tex_grammar.specs.Makes.{core};
 ghost use Rattle.latex2mathml_tex_grammar.specs.{Atoms.Plain, Atoms.atom, Symbols.Operator};
 ghost use Rattle.latex2mathml_tex_commands.specs.Meanings.{alphabet_of, class_of, limit_place_of};
-ghost use Rattle.latex2mathml_tex_atoms.specs.Models.{core_with, kind_of};
+ghost use Rattle.latex2mathml_tex_atoms.specs.Models.{core_with, height_of, kind_of};
 ghost use Rattle.latex2mathml_tex_commands.specs.Meanings;
 ghost use Rattle.latex2mathml_tex_atoms.specs.Shapes.{PutsCore};
 
@@ -15,6 +15,7 @@ use latex2mathml_attributes::attributes::{Attributes, Form, Space, Stretch};
 use latex2mathml_attributes::tag::Token;
 use latex2mathml_builder::builder::Builder;
 use latex2mathml_tex_atoms::atoms::{Core, Kind};
+use latex2mathml_tex_atoms::heights::Height;
 use latex2mathml_tex_commands::alphabets::in_alphabet;
 use latex2mathml_tex_commands::meaning::{Alphabet, Class, LimitPlace, Symbol};
 use std::alloc::AllocError;
@@ -34,8 +35,8 @@ pub(crate) fn put_symbol(
         Symbol::Letter(c) => put_letter(builder, alphabet, c),
         Symbol::UprightLetter(c) => put_upright_letter(builder, alphabet, c),
         Symbol::Sign(class, c) => put_sign(builder, class, c),
-        Symbol::BigOperator(c) => put_operator(builder, c, LimitPlace::Movable),
-        Symbol::Integral(c) => put_operator(builder, c, LimitPlace::Beside),
+        Symbol::BigOperator(c) => put_operator(builder, c, LimitPlace::Movable, Height::Raised),
+        Symbol::Integral(c) => put_operator(builder, c, LimitPlace::Beside, Height::Tall),
     }
 }
 
@@ -52,7 +53,7 @@ pub(crate) fn put_letter(
     match alphabet {
         Some(alphabet) => put_letter_in(builder, alphabet, c),
         None => {
-            let ordinary = Core::new(Kind::Plain(Class::Ordinary), false);
+            let ordinary = Core::new(Kind::Plain(Class::Ordinary), Height::Low);
             put_character(builder, Token::Mi, Attributes::plain(), c, ordinary)
         }
     }
@@ -65,12 +66,12 @@ fn put_letter_in(builder: &mut Builder, alphabet: Alphabet, c: char) -> Result<C
 {
     match alphabet {
         Alphabet::Upright => {
-            let letters = Core::new(Kind::UprightLetters, false);
+            let letters = Core::new(Kind::UprightLetters, Height::Low);
             put_character(builder, Token::Mi, Attributes::upright(), c, letters)
         }
         alphabet => {
             let c = in_alphabet(alphabet, c);
-            let ordinary = Core::new(Kind::Plain(Class::Ordinary), false);
+            let ordinary = Core::new(Kind::Plain(Class::Ordinary), Height::Low);
             put_character(builder, Token::Mi, Attributes::plain(), c, ordinary)
         }
     }
@@ -89,7 +90,7 @@ pub(crate) fn put_upright_letter(
     match alphabet {
         Some(_) => put_letter(builder, alphabet, c),
         None => {
-            let letter = Core::new(Kind::UprightIdentifier, false);
+            let letter = Core::new(Kind::UprightIdentifier, Height::Low);
             put_character(builder, Token::Mi, Attributes::upright(), c, letter)
         }
     }
@@ -103,7 +104,7 @@ fn put_sign(builder: &mut Builder, class: Class, c: char) -> Result<Core, AllocE
 {
     match class {
         Class::Binary | Class::Relation if is_plain(c) => {
-            let sign = Core::new(sign_kind(class, c), false);
+            let sign = Core::new(sign_kind(class, c), Height::Low);
             put_character(builder, Token::Mo, Attributes::plain(), c, sign)
         }
         class => put_other_sign(builder, class, c),
@@ -116,18 +117,24 @@ fn put_other_sign(builder: &mut Builder, class: Class, c: char) -> Result<Core, 
     ensures { IfOk result (PutsCore (core (Makes.sign (class_of class) c))
         builder.old builder.new) }
 {
-    let sign = Core::new(sign_kind(class, c), false);
+    let sign = Core::new(sign_kind(class, c), Height::Low);
     put_character(builder, Token::Mo, sign_attributes(class, c), c, sign)
 }
 
-/// Puts a high operator.
-fn put_operator(builder: &mut Builder, c: char, limits: LimitPlace) -> Result<Core, AllocError>
+/// Puts an operator of this height.
+fn put_operator(
+    builder: &mut Builder,
+    c: char,
+    limits: LimitPlace,
+    height: Height,
+) -> Result<Core, AllocError>
     ensures { IfOk result (PutsCore (Makes.operator (limit_place_of limits)
-        (atom (Plain Operator) true (token Mo plain (Makes.text c)))) builder.old builder.new) }
+        (atom (Plain Operator) (height_of height) (token Mo plain (Makes.text c))))
+        builder.old builder.new) }
 {
     let operator = Core {
         kind: Kind::Plain(Class::Operator),
-        high: true,
+        height,
         limits,
     };
     put_character(builder, Token::Mo, Attributes::plain(), c, operator)

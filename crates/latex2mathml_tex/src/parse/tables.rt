@@ -11,7 +11,7 @@ ghost use Rattle.latex2mathml_tex_grammar.specs.Separators.{columns_by, text_col
 ghost use Rattle.latex2mathml_tex_commands.specs.Meanings.{class_of, style_of};
 ghost use Rattle.latex2mathml_tex_units.specs.{Scans.spot_of, Taking.piece_of};
 ghost use Rattle.latex2mathml_tex.specs.Frames.{context_at};
-ghost use Rattle.latex2mathml_tex_atoms.specs.{Models.context_of, Models.kind_of, Shapes.height_of};
+ghost use Rattle.latex2mathml_tex_atoms.specs.{Models.context_of, Models.height_of, Models.kind_of};
 ghost use Rattle.latex2mathml_tex_units.specs.Environments.{delimiter_texts};
 ghost use Rattle.latex2mathml_tex.specs.Tables.{cell_end_of, line_count};
 ghost use Rattle.latex2mathml_tex.specs.Steps.{BeginsIn, BeginsTable, CanBegin, CanMake, Begins, ClosesCell, EndsCells, EndsRows, GoesOnTable, IsEnding, Advances, LeadsOn, left_of, MakesTable, TookText, core_made, level};
@@ -27,7 +27,8 @@ use latex2mathml_attributes::tag::Container;
 use latex2mathml_builder::builder::Builder;
 use latex2mathml_tex_atoms::atoms::{Context, Core, Kind, Row};
 use latex2mathml_tex_atoms::boxes::put_strut;
-use latex2mathml_tex_atoms::delimiters::{Height, enclose};
+use latex2mathml_tex_atoms::delimiters::enclose;
+use latex2mathml_tex_atoms::heights::Height;
 use latex2mathml_tex_atoms::shapes::put_braced;
 use latex2mathml_tex_commands::meaning::{Class, Style};
 use latex2mathml_tex_units::environments::Environment;
@@ -294,7 +295,7 @@ impl<'a> Parser<'a> {
         let said = said_style(style, around.style);
         put_table(&mut self.builder, delimiters, columns, said, rows)?;
         let class = table_class(delimiters);
-        *next = State::Core(Core::new(Kind::Plain(class), true));
+        *next = State::Core(Core::new(Kind::Plain(class), table_height(rows)));
         Ok(())
     }
 }

@@ -1,5 +1,5 @@
 //! Words: what is in `\text` and the like.
-ghost use Rattle.std.specs.Prelude.{◌≡◌, ◌≢◌, ◌==◌, ◌||◌, false, OnOk, IfSome, Option, Some, None, option_map, take};
+ghost use Rattle.std.specs.Prelude.{◌≡◌, ◌≢◌, ◌==◌, ◌||◌, OnOk, IfSome, Option, Some, None, option_map, take};
 ghost use Rattle.std.specs.Str.{byte};
 ghost use Rattle.latex2mathml_tex_grammar.specs.Makes;
 ghost use Rattle.latex2mathml_tex_grammar.specs.Makes.{core};
@@ -24,6 +24,7 @@ use latex2mathml_attributes::attributes::Attributes;
 use latex2mathml_attributes::tag::Token;
 use latex2mathml_tex_atoms::atoms::{Context, Core, Kind, Row, Words};
 use latex2mathml_tex_atoms::fonts::Font;
+use latex2mathml_tex_atoms::heights::Height;
 use latex2mathml_tex_atoms::rests::put_resized;
 use latex2mathml_tex_atoms::shapes::{put_row, with_atom};
 use latex2mathml_tex_atoms::words::{end_accent, put_character};
@@ -411,7 +412,7 @@ impl<'a> Parser<'a> {
         } else {
             put_row(&mut self.builder, count)?;
         }
-        *next = State::Core(Core::new(Kind::Plain(Class::Ordinary), false));
+        *next = State::Core(Core::new(Kind::Plain(Class::Ordinary), Height::Low));
         Ok(())
     }
 }

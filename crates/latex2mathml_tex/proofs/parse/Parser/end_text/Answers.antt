@@ -1,4 +1,5 @@
 use Rattle.std.proofs.Common.{◌≡◌, ◌∙◌, ◌∷◌, [], ◌<◌, ◌≤◌, false, length, ap, arith, drop, refl, subst, sym, take}
+use Rattle.latex2mathml_tex_grammar.specs.Heights.{Low}
 use Rattle.latex2mathml_tex_grammar.specs.Makes.{core}
 use Rattle.latex2mathml_tex_grammar.specs.Atoms.{Plain, atom}
 use Rattle.latex2mathml_tex_grammar.specs.Rows.{row_element}
@@ -30,7 +31,7 @@ returns-clause-holds c = λ s g.
           let some : 0 < n = omega (arith, w.if-count-eq0.false) in
           let enough : n ≤ length xs = omega (arith, c.requires.elements) in
           let x = row_element (take n xs) in
-          let same : core_with c.new.result x ≡ k = rw c.new.ensures (ap (λ y. core (atom (Plain Ordinary) false y)) (words_made_of n xs some enough)) in
+          let same : core_with c.new.result x ≡ k = rw c.new.ensures (ap (λ y. core (atom (Plain Ordinary) Low y)) (words_made_of n xs some enough)) in
           subst (λ q. Holds s q (state.Core c.new.result)) (sym w.self-is) (core_of_words s p w.put_row.new.builder n c.new.result x k w.in_ok-put_row.ensures same g))
     ]
 

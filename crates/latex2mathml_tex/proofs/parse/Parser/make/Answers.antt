@@ -1,4 +1,5 @@
-use Rattle.std.proofs.Common.{◌≡◌, ◌≤◌, ◌&&◌, ap, arith, ◌∷◌, [], drop, length, not, refl, sym, ◌∙◌}
+use Rattle.std.proofs.Common.{◌≡◌, ◌≤◌, Bool, ap, arith, ◌∷◌, [], drop, length, refl, ◌∙◌}
+use Rattle.std.specs.Prelude.{if◌then◌else◌}
 use Rattle.latex2mathml_elements.specs.Attributes.{plain}
 use Rattle.latex2mathml_elements.specs.Element.{Mroot, Msqrt, children, container}
 use Rattle.latex2mathml_builder.specs.{Built.elements_in, Stacks.group_at, Stacks.is_token, Stacks.pair_with}
@@ -6,8 +7,8 @@ use Rattle.latex2mathml_tex_commands.specs.declared.meaning.Class.TheVariants as
 use Rattle.latex2mathml_tex_atoms.specs.Models.{top}
 use Rattle.latex2mathml_tex.specs.Steps.{elements_of}
 use Rattle.latex2mathml_tex.proofs.Making.{base, behind_changed, behind_two_changed, choice_put, classed_put, enough, made, made_held, made_put, made_step, one_taken, ordinary, shown_core, slash_put, top_changed, top_first, two_exchanged}
+use Rattle.latex2mathml_tex_atoms.specs.declared.heights.Height.TheVariants as code_height
 use Rattle.latex2mathml_tex.proofs.parse.Parser.make.Goals as goal
-use Rattle.latex2mathml_tex.proofs.parse.Parser.make.Goals.{then-not-is_token, else-not-is_token}
 
 pub returns-in-Group : goal.returns-in-Group
 returns-in-Group c =
@@ -27,7 +28,7 @@ returns-in_ok-container-in-SquareRoot c =
     let x = container Msqrt plain (children (top xs ∷ [])) in
     let put : elements_in c.container.new.self ≡ x ∷ drop 1 xs = c.in_ok-container-in-SquareRoot.ensures.elements ∙ rw (c.plain.ensures, one_taken xs some) refl in
     record {
-      holds = λ s g. rw c.ordinary.ensures (made_put p c.args.last c.args.operand s c.container.new.self _ x (rw c.in-SquareRoot.is put) (rw c.in-SquareRoot.is refl) g);
+      holds = λ s g. rw c.ordinary.ensures (made_put p c.args.last c.args.operand s c.container.new.self _ x (rw c.in-SquareRoot.is put) (rw (c.in-SquareRoot.is, c.larger.ensures) refl) g);
       step = rw c.ordinary.ensures (made_step p c.args.last c.args.operand c.container.new.self _ x (rw c.in-SquareRoot.is put) c.requires);
     }
 
@@ -39,7 +40,7 @@ returns-in_ok-pair-in-Root c =
     let x = pair_with Mroot plain (top xs ∷ top (drop 1 xs) ∷ []) in
     let put : elements_in c.pair.new.self ≡ x ∷ drop 2 xs = c.in_ok-pair-in-Root.ensures.elements ∙ rw (c.plain-in-Root.ensures, two_exchanged xs two) refl in
     record {
-      holds = λ s g. rw c.ordinary-in-Root.ensures (made_put p c.args.last c.args.operand s c.pair.new.self _ x (rw c.in-Root.is put) (rw c.in-Root.is refl) g);
+      holds = λ s g. rw c.ordinary-in-Root.ensures (made_put p c.args.last c.args.operand s c.pair.new.self _ x (rw c.in-Root.is put) (rw (c.in-Root.is, c.larger-in-Root.ensures) refl) g);
       step = rw c.ordinary-in-Root.ensures (made_step p c.args.last c.args.operand c.pair.new.self _ x (rw c.in-Root.is put) c.requires);
     }
 
@@ -59,7 +60,7 @@ pub returns-in_ok-put_accent-in-Accent : goal.returns-in_ok-put_accent-in-Accent
 returns-in_ok-put_accent-in-Accent c =
     let p = c.args.self.now in
     record {
-      holds = λ s g. rw c.ordinary-in-Accent.ensures (made_held p c.args.last c.args.operand s c.put_accent.new.builder _ (record { element = rw c.in-Accent.is c.in_ok-put_accent-in-Accent.ensures; is = rw c.in-Accent.is refl }) g);
+      holds = λ s g. rw c.ordinary-in-Accent.ensures (made_held p c.args.last c.args.operand s c.put_accent.new.builder _ (record { element = rw c.in-Accent.is c.in_ok-put_accent-in-Accent.ensures; is = rw (c.in-Accent.is, c.larger-in-Accent.ensures) refl }) g);
       step = rw c.ordinary-in-Accent.ensures (made_step p c.args.last c.args.operand c.put_accent.new.builder _ (made p c.args.last c.args.operand).atom.element (rw c.in-Accent.is c.in_ok-put_accent-in-Accent.ensures) c.requires);
     }
 
@@ -81,20 +82,17 @@ returns-in-OperatorName c =
       step = made_step p c.args.last c.args.operand p.builder _ (top xs) (rw c.in-OperatorName.is (top_first xs some)) c.requires;
     }
 
-pub returns-after-not-is_token : goal.returns-after-not-is_token
-returns-after-not-is_token c =
+pub returns-in_ok-is_token-in-Slash : goal.returns-in_ok-is_token-in-Slash
+returns-in_ok-is_token-in-Slash c =
     let p = c.args.self.now in
     let xs = elements_of p in
     let some : 1 ≤ length xs = enough 1 p (rw c.in-Slash.is at c.requires.elements) in
-    let is = sym c.in_ok-is_token-in-Slash.ensures.is_token in
-    let high : c.if-not-is_token.ordinary ≡ (not (is_token xs) && c.args.operand.high) = elim c.if-not-is_token.branch [
-      | then-not-is_token w ↦ w.ordinary-is ∙ rw (is, w.if-not-is_token.true) refl
-      | else-not-is_token w ↦ w.ordinary-is ∙ rw (is, w.if-not-is_token.false) refl
-    ] in
-    let put = slash_put c.args.operand c.if-not-is_token.ordinary xs some high in
+    let height = c.struck_height.result in
+    let is : height ≡ (if is_token xs then code_height.Low else c.args.operand.height) = c.struck_height.ensures ∙ ap (λ (b : Bool). if b then code_height.Low else c.args.operand.height) c.in_ok-is_token-in-Slash.ensures.is_token in
+    let put = slash_put c.args.operand height xs some is in
     record {
-      holds = λ s g. rw c.ordinary-in-Slash.ensures (made_held p c.args.last c.args.operand s c.push.new.self (ordinary c.if-not-is_token.ordinary) (record { element = c.in_ok-is_token-in-Slash.ensures.elements ∙ rw c.in-Slash.is put.element; is = rw c.in-Slash.is put.is }) g);
-      step = rw c.ordinary-in-Slash.ensures (made_step p c.args.last c.args.operand c.push.new.self (ordinary c.if-not-is_token.ordinary) (made p c.args.last c.args.operand).atom.element (c.in_ok-is_token-in-Slash.ensures.elements ∙ rw c.in-Slash.is put.element) c.requires);
+      holds = λ s g. rw c.ordinary-in-Slash.ensures (made_held p c.args.last c.args.operand s c.push.new.self (ordinary height) (record { element = c.in_ok-is_token-in-Slash.ensures.elements ∙ rw c.in-Slash.is put.element; is = rw c.in-Slash.is put.is }) g);
+      step = rw c.ordinary-in-Slash.ensures (made_step p c.args.last c.args.operand c.push.new.self (ordinary height) (made p c.args.last c.args.operand).atom.element (c.in_ok-is_token-in-Slash.ensures.elements ∙ rw c.in-Slash.is put.element) c.requires);
     }
 
 pub returns-in-Classed-clause-holds : goal.returns-in-Classed-clause-holds
@@ -107,7 +105,7 @@ pub returns-in_ok-put_fraction-in-Fraction : goal.returns-in_ok-put_fraction-in-
 returns-in_ok-put_fraction-in-Fraction c =
     let p = c.args.self.now in
     record {
-      holds = λ s g. rw c.ordinary-in-Fraction.ensures (made_held p c.args.last c.args.operand s c.put_fraction.new.builder _ (record { element = rw c.in-Fraction.is c.in_ok-put_fraction-in-Fraction.ensures; is = rw c.in-Fraction.is refl }) g);
+      holds = λ s g. rw c.ordinary-in-Fraction.ensures (made_held p c.args.last c.args.operand s c.put_fraction.new.builder _ (record { element = rw c.in-Fraction.is c.in_ok-put_fraction-in-Fraction.ensures; is = rw (c.in-Fraction.is, c.of_fraction.ensures) refl }) g);
       step = rw c.ordinary-in-Fraction.ensures (made_step p c.args.last c.args.operand c.put_fraction.new.builder _ (made p c.args.last c.args.operand).atom.element (rw c.in-Fraction.is c.in_ok-put_fraction-in-Fraction.ensures) c.requires);
     }
 
@@ -115,7 +113,7 @@ pub returns-in_ok-put_outlined-in-Outlined : goal.returns-in_ok-put_outlined-in-
 returns-in_ok-put_outlined-in-Outlined c =
     let p = c.args.self.now in
     record {
-      holds = λ s g. rw c.ordinary-in-Outlined.ensures (made_held p c.args.last c.args.operand s c.put_outlined.new.builder _ (record { element = rw c.in-Outlined.is c.in_ok-put_outlined-in-Outlined.ensures; is = rw c.in-Outlined.is refl }) g);
+      holds = λ s g. rw c.ordinary-in-Outlined.ensures (made_held p c.args.last c.args.operand s c.put_outlined.new.builder _ (record { element = rw c.in-Outlined.is c.in_ok-put_outlined-in-Outlined.ensures; is = rw (c.in-Outlined.is, c.of_fraction-in-Outlined.ensures) refl }) g);
       step = rw c.ordinary-in-Outlined.ensures (made_step p c.args.last c.args.operand c.put_outlined.new.builder _ (made p c.args.last c.args.operand).atom.element (rw c.in-Outlined.is c.in_ok-put_outlined-in-Outlined.ensures) c.requires);
     }
 

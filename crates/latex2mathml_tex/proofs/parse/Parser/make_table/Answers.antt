@@ -6,7 +6,7 @@ use Rattle.latex2mathml_tex.proofs.parse.Parser.make_table.Goals as goal
 
 pub returns-clause-holds : goal.returns-clause-holds
 returns-clause-holds c = λ s g.
-    table_made s c.args.self.now c.put_table.new.builder c.args.delimiters c.args.columns c.args.style c.args.rows c.innermost.result c.context-around.result c.said_style-said.result c.new.result c.context-around.ensures c.innermost.ensures c.said_style-said.ensures c.in_ok-put_table.ensures (λ x. rw (c.new.ensures, c.table_class-class.ensures) refl) g
+    table_made s c.args.self.now c.put_table.new.builder c.args.delimiters c.args.columns c.args.style c.args.rows c.innermost.result c.context-around.result c.said_style-said.result c.new.result c.context-around.ensures c.innermost.ensures c.said_style-said.ensures c.in_ok-put_table.ensures (λ x. rw (c.new.ensures, c.table_class-class.ensures, c.table_height.ensures (elements_of c.args.self.now) c.requires.some (omega (arith, c.requires.can.elements))) refl) g
 
 pub returns-clause-step : goal.returns-clause-step
 returns-clause-step c =

@@ -56,7 +56,7 @@ returns-in-GeneralFraction-clause-holds c = λ s g. c.general_fraction.ensures.h
 
 pub returns-in-Accent-clause-holds : goal.returns-in-Accent-clause-holds
 returns-in-Accent-clause-holds c = λ s g.
-    c.open-in-Accent.ensures.holds s g.style (operand_due (λ x. gives (accent (side_of c.in-Accent.side) c.in-Accent.mark (stretch_of c.in-Accent.stretch) x.element)) (rw c.in-Accent.is at g.leads))
+    c.open-in-Accent.ensures.holds s g.style (operand_due (λ x. gives (accent (side_of c.in-Accent.side) c.in-Accent.mark (stretch_of c.in-Accent.stretch) x)) (rw c.in-Accent.is at g.leads))
 
 pub returns-in-Brace-clause-holds : goal.returns-in-Brace-clause-holds
 returns-in-Brace-clause-holds c = λ s g.

@@ -15,9 +15,9 @@ returns-then-take_character-clause-holds c = λ s g.
     let i = c.take_character.new.self in
     let place = c.args.place in
     let context = context_of c.args.context in
-    let degree = past_units s p i (λ bracket. reads_atoms (InBrackets place) (styled context InScript) (λ row. of_one place context (λ x. root (row_element row.elements) x.element))) (91 ∷ []) c.if-take_character.ensures.next (begun g) in
-    let due = subst (λ d. Begins (reads_atoms (InBrackets place) (styled context InScript) (λ row. of_one place d (λ x. root (row_element row.elements) x.element))) 0 s (record p { input = i })) g.context degree in
-    c.open.ensures.holds s g.style (rw (c.empty.ensures, c.styled.ensures) (row_due (λ row. of_one place (context_at (level 0 s p)) (λ x. root (row_element row.elements) x.element)) due.leads))
+    let degree = past_units s p i (λ bracket. reads_atoms (InBrackets place) (styled context InScript) (λ row. of_one place context (root (row_element row.elements)))) (91 ∷ []) c.if-take_character.ensures.next (begun g) in
+    let due = subst (λ d. Begins (reads_atoms (InBrackets place) (styled context InScript) (λ row. of_one place d (root (row_element row.elements)))) 0 s (record p { input = i })) g.context degree in
+    c.open.ensures.holds s g.style (rw (c.empty.ensures, c.styled.ensures) (row_due (λ row. of_one place (context_at (level 0 s p)) (root (row_element row.elements))) due.leads))
 
 pub returns-then-take_character-clause-step : goal.returns-then-take_character-clause-step
 returns-then-take_character-clause-step c =
@@ -28,5 +28,5 @@ returns-then-take_character-clause-step c =
 
 pub returns-clause-holds : goal.returns-clause-holds
 returns-clause-holds c = λ s g.
-    let radicand = past_none s c.args.self.now c.take_character.new.self (of_one c.args.place (context_of c.args.context) (λ x. square_root x.element)) c.if-take_character.ensures.next.0 c.if-take_character.ensures.next.1 (begun g) in
-    c.open-2.ensures.holds s g.style (operand_due (λ x. gives (square_root x.element)) radicand.leads)
+    let radicand = past_none s c.args.self.now c.take_character.new.self (of_one c.args.place (context_of c.args.context) square_root) c.if-take_character.ensures.next.0 c.if-take_character.ensures.next.1 (begun g) in
+    c.open-2.ensures.holds s g.style (operand_due (λ x. gives (square_root x)) radicand.leads)

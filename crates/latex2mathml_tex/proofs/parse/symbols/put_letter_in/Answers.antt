@@ -1,5 +1,6 @@
-use Rattle.std.proofs.Common.{◌≡◌, ◌≢◌, ℕ, false, Some, ap, sym, refl}
+use Rattle.std.proofs.Common.{◌≡◌, ◌≢◌, ℕ, Some, ap, sym, refl}
 use Rattle.latex2mathml_elements.specs.{Attributes.plain, Element.Mi, Element.token}
+use Rattle.latex2mathml_tex_grammar.specs.Heights.{Low}
 use Rattle.latex2mathml_tex_grammar.specs.Makes
 use Rattle.latex2mathml_tex_grammar.specs.Makes.{core}
 use Rattle.latex2mathml_tex_grammar.specs.{Alphabets.in_alphabet, Atoms.Plain, Atoms.atom, Symbols.Ordinary}
@@ -8,7 +9,7 @@ use Rattle.latex2mathml_tex_commands.specs.declared.meaning.Alphabet.{Alphabet}
 use Rattle.latex2mathml_tex_commands.specs.declared.meaning.Alphabet.TheVariants as alphabet
 use Rattle.latex2mathml_tex.proofs.parse.symbols.put_letter_in.Goals as goal
 
-letter_in : (a : Alphabet) (n : ℕ) → a ≢ alphabet.Upright → Makes.letter (Some (alphabet_of a)) n ≡ atom (Plain Ordinary) false (token Mi plain (Makes.text (in_alphabet (alphabet_of a) n)))
+letter_in : (a : Alphabet) (n : ℕ) → a ≢ alphabet.Upright → Makes.letter (Some (alphabet_of a)) n ≡ atom (Plain Ordinary) Low (token Mi plain (Makes.text (in_alphabet (alphabet_of a) n)))
 letter_in alphabet.Upright n other = absurd (other refl)
 letter_in a n other = refl
 

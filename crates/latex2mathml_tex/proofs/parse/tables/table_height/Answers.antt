@@ -1,6 +1,6 @@
 use Rattle.std.proofs.Common.{rules, ◌≡◌, ◌<◌, ◌≤◌, ℕ, List, [], ◌∷◌, arith, length, refl, suc, take, zero}
 use Rattle.latex2mathml_elements.specs.Element.{Element}
-use Rattle.latex2mathml_tex_grammar.specs.Fences.{VeryTall}
+use Rattle.latex2mathml_tex_grammar.specs.Heights.{VeryTall}
 use Rattle.latex2mathml_tex_grammar.specs.Tables.{height_of}
 use Rattle.latex2mathml_tex.proofs.parse.tables.table_height.Goals as goal
 
