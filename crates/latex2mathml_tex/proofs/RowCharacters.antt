@@ -210,7 +210,7 @@ module _ (k : rules.Context) (c place : ℕ) (no_digit : is_ascii_digit c ≡ fa
   pub letter_rule : is_ascii_alphabetic c ≡ true → character_rule k c place ≡ gives (core (Makes.letter k.alphabet c))
   letter_rule alphabetic = rw (no_digit, alphabetic) refl
 
-  pub symbol_rule : (symbol : Symbol) → is_ascii_alphabetic c ≡ false → is_symbol c ≡ true → symbol_of c ≡ Some symbol → character_rule k c place ≡ gives (Makes.symbol k.alphabet symbol)
+  pub symbol_rule : (symbol : Symbol) → is_ascii_alphabetic c ≡ false → is_symbol c ≡ true → symbol_of c ≡ Some symbol → character_rule k c place ≡ gives (Makes.symbol k.style k.alphabet symbol)
   symbol_rule symbol no_letter plain is =
       let each = symbol_tests c plain in
       rw (no_digit, no_letter, each.first, each.second, each.third, each.fourth, each.fifth, each.sixth, each.seventh, each.eighth, is) refl

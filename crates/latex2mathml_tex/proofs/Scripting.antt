@@ -4,8 +4,8 @@ use Rattle.std.proofs.lemmas.List.{length-drop}
 use Rattle.std.specs.Option.{is_some}
 use Rattle.latex2mathml_elements.specs.Element.{Element}
 use Rattle.latex2mathml_tex_grammar.specs.Atoms.{Atom, Before, Kind, atom, element_there}
-use Rattle.latex2mathml_tex_grammar.specs.Heights.{Height, larger}
-use Rattle.latex2mathml_tex_grammar.specs.Makes.{Scripts, are_stacked, base_there, before_base, fixed_base, scripted_height, scripts_height, scripted, scripted_atom, scripted_kind, superscript, with_scripts}
+use Rattle.latex2mathml_tex_grammar.specs.Heights.{Height, scripted_height}
+use Rattle.latex2mathml_tex_grammar.specs.Makes.{Scripts, are_drawn_stacked, are_stacked, base_there, before_base, fixed_base, scripted, scripted_atom, scripted_kind, superscript, with_scripts}
 use Rattle.latex2mathml_tex_grammar.specs.Meaning.{LimitPlace}
 use Rattle.latex2mathml_tex_grammar.specs.Symbols.{Style}
 use Rattle.latex2mathml_tex_atoms.proofs.Shaping.{length_changed}
@@ -82,11 +82,11 @@ has_superscript false true is_exchanged xs = refl
 has_superscript true true false xs = refl
 has_superscript true true true xs = refl
 
-with_some : (style : Style) (before : Before) (base : Atom) (scripts : Scripts) (below above : Option Element) → (below ≡ None → above ≡ None → ⊥) → atom (scripted_kind base.kind) (scripted_height style (larger base.height (scripts_height style (are_stacked style scripts.limits) base.height scripts.height (is_some above)))) (with_scripts (are_stacked style scripts.limits) (fixed_base scripts.limits (base_there style before base)) below above) ≡ scripted_atom style before base scripts below above
+with_some : (style : Style) (before : Before) (base : Atom) (scripts : Scripts) (below above : Option Element) → (below ≡ None → above ≡ None → ⊥) → atom (scripted_kind base.kind) (scripted_height style (are_drawn_stacked style scripts.limits) base.height scripts.height (is_some above)) (with_scripts (are_stacked style scripts.limits) (fixed_base scripts.limits (base_there style before base)) below above) ≡ scripted_atom style before base scripts below above
 with_some style before base scripts None None some = absurd (some refl refl)
 with_some style before base scripts below above some = refl
 
-assembled : (style : Style) (before : Before) (base : Atom) (scripts : Scripts) (kind : Kind) (limits : LimitPlace) (height : Height) (has_above : Bool) (x : Element) (below above : Option Element) → kind ≡ scripted_kind base.kind → x ≡ fixed_base limits (base_there style before base) → limits ≡ scripts.limits → below ≡ scripts.below → above ≡ superscript scripts.primes scripts.above → (below ≡ None → above ≡ None → ⊥) → height ≡ scripts.height → has_above ≡ is_some above → atom kind (scripted_height style (larger base.height (scripts_height style (are_stacked style limits) base.height height has_above))) (with_scripts (are_stacked style limits) x below above) ≡ scripted style before base scripts
+assembled : (style : Style) (before : Before) (base : Atom) (scripts : Scripts) (kind : Kind) (limits : LimitPlace) (height : Height) (has_above : Bool) (x : Element) (below above : Option Element) → kind ≡ scripted_kind base.kind → x ≡ fixed_base limits (base_there style before base) → limits ≡ scripts.limits → below ≡ scripts.below → above ≡ superscript scripts.primes scripts.above → (below ≡ None → above ≡ None → ⊥) → height ≡ scripts.height → has_above ≡ is_some above → atom kind (scripted_height style (are_drawn_stacked style limits) base.height height has_above) (with_scripts (are_stacked style limits) x below above) ≡ scripted style before base scripts
 assembled style before base scripts kind limits height has_above x below above k p q r s some e f =
     rw (k, p, e, f, q, r, s) (with_some style before base scripts scripts.below (superscript scripts.primes scripts.above) (λ b a. some (r ∙ b) (s ∙ a)))
 
@@ -118,7 +118,7 @@ module _ (scripts whole : CodeScripts) (xs ys : List Element) (same : scripts_wi
       ∙ sym (drop_next (script_count scripts) xs)
       ∙ ap (λ n. drop n xs) (sym (next (script_count scripts)))
 
-  pub made : (style : Style) (before : Before) (kind scripted_as : Kind) (height : Height) (is_stacked : Bool) (zs : List Element) → scripted_as ≡ scripted_kind kind → is_stacked ≡ are_stacked style (limit_place_of whole.limits) → zs ≡ fixed style before kind → (whole.below ≡ false → whole.above ≡ false → ⊥) → atom scripted_as (scripted_height style (larger height (scripts_height style is_stacked height (height_of whole.height) whole.above))) (with_scripts is_stacked (top (drop (script_count whole) zs)) (scripts_with whole zs).below (scripts_with whole zs).above) ≡ scripted style before (atom kind height (top (drop (script_count scripts) xs))) (scripts_with scripts xs)
+  pub made : (style : Style) (before : Before) (kind scripted_as : Kind) (height : Height) (is_stacked : Bool) (zs : List Element) → scripted_as ≡ scripted_kind kind → is_stacked ≡ are_stacked style (limit_place_of whole.limits) → zs ≡ fixed style before kind → (whole.below ≡ false → whole.above ≡ false → ⊥) → atom scripted_as (scripted_height style (are_drawn_stacked style (limit_place_of whole.limits)) height (height_of whole.height) whole.above) (with_scripts is_stacked (top (drop (script_count whole) zs)) (scripts_with whole zs).below (scripts_with whole zs).above) ≡ scripted style before (atom kind height (top (drop (script_count scripts) xs))) (scripts_with scripts xs)
   made style before kind scripted_as height is_stacked zs k t z some =
       let limits = limit_place_of whole.limits in
       let f = adapted style before kind in

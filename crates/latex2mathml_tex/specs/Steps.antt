@@ -31,7 +31,6 @@ use Rattle.latex2mathml_tex_units.specs.Left.{unit_count, units_at}
 use Rattle.latex2mathml_tex.specs.Levels.{AtomMade, CoreMade, Leads, Level, OperandMade, PartMade, RestLeads, RuleLeads, ScriptsLead, Then, WordLeads, as_atom, as_atom_in_words, as_resized, words}
 use Rattle.latex2mathml_tex_commands.specs.Meanings.{alphabet_of, limit_place_of, style_of}
 use Rattle.latex2mathml_tex_atoms.specs.Models.{context_of, core_with, height_of, kind_of, operand_with, row_count, row_with, script_count, scripts_with, top, words_with}
-use Rattle.latex2mathml_tex.specs.Numbers.{after_point}
 use Rattle.latex2mathml_tex_commands.specs.declared.{meaning.Alphabet.Alphabet as CodeAlphabet, meaning.Style.Style as CodeStyle}
 use Rattle.latex2mathml_tex_units.specs.declared.unit.Unit.{Unit}
 use Rattle.latex2mathml_tex_atoms.specs.declared.heights.Height.{Height as CodeHeight}
@@ -207,10 +206,6 @@ CanBegin = CanMake core_made
 -- a number begins with this digit, in a context of this alphabet
 abbrev pub NumberBegins : Option CodeAlphabet → ℕ → Start → Parser → Type 0
 NumberBegins a digit s p = (c : Context) × (option_map alphabet_of a ≡ (context_of c).alphabet) × Begins (a_number (context_of c) digit) 0 s p
-
--- a point was taken, in a context of this alphabet
-abbrev pub PointBegins : Option CodeAlphabet → Start → Parser → Type 0
-PointBegins a s p = (c : Context) × (option_map alphabet_of a ≡ (context_of c).alphabet) × Begins (after_point (context_of c)) 0 s p
 
 -- the frame is the innermost one
 abbrev pub InnermostIs : Frame → Parser → Type 0

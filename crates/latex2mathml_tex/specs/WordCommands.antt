@@ -18,7 +18,7 @@ abbrev pub rule_of : Font → List ℕ → WordCommand → WordRule
 rule_of font name (command.Character c) = IsWord (Shown font (text c))
 rule_of font name (command.Accent c) = IsWord (Accented c)
 rule_of font name command.Space = IsWord (word_space font)
-rule_of font name (command.Sign sign) = IsWord (Formula (single InText (symbol None (symbol_of sign)).atom).element)
+rule_of font name (command.Sign sign) = IsWord (Formula (single InText (symbol InText None (symbol_of sign)).atom).element)
 rule_of font name (command.Words alphabet) = TakesWords (option_map alphabet_of alphabet)
 rule_of font name (command.Change change) = IsWord (word_of change)
 rule_of font name (command.Atom meaning) = ShowsAtom

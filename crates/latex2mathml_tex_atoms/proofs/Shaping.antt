@@ -232,11 +232,11 @@ length_parted x [] = refl
 length_parted x (y ∷ xs) = refl
 
 -- it does not matter how high the atom is
-pub put_high : (joining : Rows.Joining) (style : Style) (before : Before) (kind : Kind) (height : Height) (x : Element) (xs : List Element) → Rows.put joining style before (Atoms.atom kind Low x) xs ≡ Rows.put joining style before (Atoms.atom kind height x) xs
-put_high Rows.ToWord style before kind height x xs = refl
-put_high Rows.ToRelations style before kind height x xs = refl
-put_high Rows.Separated style before kind height x xs = refl
-put_high Rows.Apart style before kind height x xs = refl
+pub put_at_any_height : (joining : Rows.Joining) (style : Style) (before : Before) (kind : Kind) (height : Height) (x : Element) (xs : List Element) → Rows.put joining style before (Atoms.atom kind Low x) xs ≡ Rows.put joining style before (Atoms.atom kind height x) xs
+put_at_any_height Rows.ToWord style before kind height x xs = refl
+put_at_any_height Rows.ToRelations style before kind height x xs = refl
+put_at_any_height Rows.Separated style before kind height x xs = refl
+put_at_any_height Rows.Apart style before kind height x xs = refl
 
 -- an atom is the first of a row that has none
 pub begins_row : (n : ℕ) (xs : List Element) → suc n ≤ length xs → Rows.is_empty (take n (drop 1 xs)) ≡ (n == 0)

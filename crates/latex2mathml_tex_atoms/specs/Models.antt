@@ -36,6 +36,7 @@ height_of height.Tall = heights.Tall
 height_of height.Taller = heights.Taller
 height_of height.VeryTall = heights.VeryTall
 
+-- whether something is no taller than a letter
 abbrev pub is_low : heights.Height → Bool
 is_low heights.Low = true
 is_low h = false

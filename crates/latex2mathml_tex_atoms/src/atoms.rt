@@ -1,6 +1,5 @@
 //! Atoms and rows, and what an atom is to its neighbours.
-ghost use Rattle.std.specs.Prelude.{◌≡◌, ◌≢◌, ◌+◌, ◌≤◌, false, IsTrue, List, drop, length, option_map, take};
-ghost use Rattle.latex2mathml_elements.specs.Element.{Element};
+ghost use Rattle.std.specs.Prelude.{◌≡◌, ◌≢◌, ◌+◌, false, IsTrue, option_map};
 ghost use Rattle.latex2mathml_tex_grammar.specs.Atoms;
 ghost use Rattle.latex2mathml_tex_grammar.specs.Makes;
 ghost use Rattle.latex2mathml_tex_grammar.specs.Rows;
@@ -14,6 +13,7 @@ ghost use Rattle.latex2mathml_tex_atoms.specs.declared.heights.Height.TheVariant
 use crate::fonts::Font;
 use crate::heights::Height;
 use crate::rests::{Division, Look};
+use crate::shapes::class_after;
 use crate::signs::is_put_as_it_is;
 use latex2mathml_attributes::attributes::Side;
 use latex2mathml_tex_commands::meaning::{Alphabet, Class, LimitPlace, Style, TextSize};
@@ -403,19 +403,6 @@ impl Row {
         self.last = core.kind;
         self.height = height;
         true
-    }
-}
-
-/// Returns the class of a row as the base of a mark, where an atom of this kind follows `count` elements.
-#[inline(always)]
-pub(crate) fn class_after(count: usize, kind: Kind) -> Class
-    ensures { (xs : List Element) → count + 1 ≤ length xs
-        → class_of result ≡ Rows.class_after (take count (drop 1 xs)) (kind_of kind) }
-{
-    if count == 0 {
-        kind.class()
-    } else {
-        Class::Ordinary
     }
 }
 

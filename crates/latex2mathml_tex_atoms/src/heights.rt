@@ -17,7 +17,7 @@ pub enum Height {
     Raised,
     /// Taller, as most other things are. Delimiters have no more room than TeX's `\Big`.
     Tall,
-    /// As a fraction in a block, or two rows. Delimiters have no more room than TeX's `\bigg`.
+    /// As a fraction or an integral in a block, or two rows. Delimiters have no more room than TeX's `\bigg`.
     Taller,
     /// As a sum with limits in a block, or more rows. Delimiters have all room.
     VeryTall,
@@ -46,6 +46,16 @@ impl Height {
         match style {
             Style::InDisplay => Height::Taller,
             Style::InText | Style::InScript => Height::Raised,
+        }
+    }
+
+    /// Returns the height of an integral without limits in this style.
+    pub fn of_integral(style: Style) -> Height
+        ensures { height_of result ≡ Heights.integral_height (style_of style) }
+    {
+        match style {
+            Style::InDisplay => Height::Taller,
+            Style::InText | Style::InScript => Height::Tall,
         }
     }
 

@@ -13,7 +13,7 @@ ghost use Rattle.latex2mathml_tex_commands.specs.Meanings.{class_of, style_of};
 ghost use Rattle.latex2mathml_tex_atoms.specs.Models.{before_of, core_with, joining_of, kind_of, row_rest, row_with, top};
 ghost use Rattle.latex2mathml_tex_atoms.specs.Shapes.{ChangesAt, ReplacesTop, mark_element};
 
-use crate::atoms::{Before, Core, Joining, Kind, Row, class_after};
+use crate::atoms::{Before, Core, Joining, Kind, Row};
 use crate::operands::before_atom;
 use crate::signs::{adapt, remove_space, remove_space_after};
 use latex2mathml_attributes::attributes::{Attributes, BoxStyle, Form, Side, Space, Stretch};
@@ -267,6 +267,19 @@ fn class_with(joining: Joining, class: Class, count: usize, kind: Kind) -> Class
     match joining {
         Joining::ToWord | Joining::ToRelations => class,
         Joining::Separated | Joining::Apart => class_after(count, kind),
+    }
+}
+
+/// Returns the class of a row as the base of a mark, where an atom of this kind follows `count` elements.
+#[inline(always)]
+pub(crate) fn class_after(count: usize, kind: Kind) -> Class
+    ensures { (xs : List Element) → count + 1 ≤ length xs
+        → class_of result ≡ Rows.class_after (take count (drop 1 xs)) (kind_of kind) }
+{
+    if count == 0 {
+        kind.class()
+    } else {
+        Class::Ordinary
     }
 }
 

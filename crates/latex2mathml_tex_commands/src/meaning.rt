@@ -84,6 +84,18 @@ impl Style {
             LimitPlace::Movable | LimitPlace::Stacked => true,
         }
     }
+
+    /// Whether scripts are drawn below and above an atom whose limits have this place. Except in a block, the browser moves those of a
+    /// movable sign beside it.
+    pub fn draws_stacked(self, limits: LimitPlace) -> bool
+        ensures { result ≡ Makes.are_drawn_stacked (style_of self) (limit_place_of limits) }
+    {
+        match limits {
+            LimitPlace::Beside => false,
+            LimitPlace::ByStyle | LimitPlace::Movable => self.is_display(),
+            LimitPlace::Stacked => true,
+        }
+    }
 }
 
 /// How large letters are, by TeX's names. The usual size is that of the text around the formula.

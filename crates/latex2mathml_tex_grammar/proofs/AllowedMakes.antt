@@ -36,12 +36,12 @@ pub upright_letter_allowed : (alphabet : Option Alphabet) (c : ℕ) → is_forbi
 upright_letter_allowed None c h = allowed_char c h
 upright_letter_allowed (Some alphabet) c h = letter_allowed (Some alphabet) c h
 
-pub symbol_allowed : (alphabet : Option Alphabet) (s : Symbol) → is_allowed_symbol s ≡ true → IsAllowedCore (symbol alphabet s)
-symbol_allowed alphabet (Letter c) h = letter_allowed alphabet c (not_forbidden c h)
-symbol_allowed alphabet (UprightLetter c) h = upright_letter_allowed alphabet c (not_forbidden c h)
-symbol_allowed alphabet (Sign class c) h = allowed_char c (not_forbidden c h)
-symbol_allowed alphabet (BigOperator c) h = allowed_char c (not_forbidden c h)
-symbol_allowed alphabet (Integral c) h = allowed_char c (not_forbidden c h)
+pub symbol_allowed : (style : Style) (alphabet : Option Alphabet) (s : Symbol) → is_allowed_symbol s ≡ true → IsAllowedCore (symbol style alphabet s)
+symbol_allowed style alphabet (Letter c) h = letter_allowed alphabet c (not_forbidden c h)
+symbol_allowed style alphabet (UprightLetter c) h = upright_letter_allowed alphabet c (not_forbidden c h)
+symbol_allowed style alphabet (Sign class c) h = allowed_char c (not_forbidden c h)
+symbol_allowed style alphabet (BigOperator c) h = allowed_char c (not_forbidden c h)
+symbol_allowed style alphabet (Integral c) h = allowed_char c (not_forbidden c h)
 
 digits_pass : (alphabet : Alphabet) (digits : List ℕ) → IsPlain digits → NonePass is_forbidden (map (in_alphabet alphabet) digits)
 digits_pass alphabet [] h = tt

@@ -83,7 +83,7 @@ a_number_allowed c digit h digits k = after_digits_allowed c (digit ∷ digits) 
 
 a_symbol_allowed : (c : Context) (character : ℕ) (s : Option Symbol) → is_forbidden character ≡ false → Passes is_allowed_symbol s → IsAllowedRule (a_symbol c character s)
 a_symbol_allowed c character None h k = upright_letter_allowed c.alphabet character h
-a_symbol_allowed c character (Some s) h k = symbol_allowed c.alphabet s k
+a_symbol_allowed c character (Some s) h k = symbol_allowed c.style c.alphabet s k
 
 -- the rule of a point
 abbrev point_rule : Context → ℕ → Rule
@@ -268,9 +268,9 @@ module _ (place : ℕ) (c : Context) where
       (λ closing k. line_allowed place (behind_delimiters opening closing) (outline_allowed opening closing h k)))
 
 meaning_rule_allowed : (place : ℕ) (c : Context) (meaning : Meaning) → is_allowed_meaning meaning ≡ true → IsAllowedRule (meaning_rule place c meaning)
-meaning_rule_allowed place c (Shows s) h = symbol_allowed c.alphabet s h
+meaning_rule_allowed place c (Shows s) h = symbol_allowed c.style c.alphabet s h
 meaning_rule_allowed place c (FunctionName limits name) h = allowed_text name h
-meaning_rule_allowed place c Dots h = (symbol_allowed c.alphabet centered_dots refl, symbol_allowed c.alphabet low_dots refl)
+meaning_rule_allowed place c Dots h = (symbol_allowed c.style c.alphabet centered_dots refl, symbol_allowed c.style c.alphabet low_dots refl)
 meaning_rule_allowed place c (Spacing width) h = tt
 meaning_rule_allowed place c Skip h = λ text. with_value_allowed _ _ (λ width. tt) (width_of text)
 meaning_rule_allowed place c SkipInBraces h = λ text. with_value_allowed _ _ (λ width. tt) (width_of text)
@@ -386,9 +386,9 @@ word_of_character_allowed alphabet c h =
 
 word_of_meaning_allowed : (font : Font) (name : List ℕ) (meaning : Option Meaning) → Passes is_allowed_meaning meaning → IsAllowedWordRule (word_of_meaning font name meaning)
 word_of_meaning_allowed font name None h = tt
-word_of_meaning_allowed font name (Some (Shows s)) h = single_allowed InText (symbol None s).atom (symbol_allowed None s h)
+word_of_meaning_allowed font name (Some (Shows s)) h = single_allowed InText (symbol InText None s).atom (symbol_allowed InText None s h)
 word_of_meaning_allowed font name (Some (FunctionName limits own)) h = tt
-word_of_meaning_allowed font name (Some Dots) h = single_allowed InText (symbol None low_dots).atom (symbol_allowed None low_dots refl)
+word_of_meaning_allowed font name (Some Dots) h = single_allowed InText (symbol InText None low_dots).atom (symbol_allowed InText None low_dots refl)
 word_of_meaning_allowed font name (Some (Spacing width)) h = word_space_allowed
 word_of_meaning_allowed font name (Some (Styled alphabet)) h = tt
 word_of_meaning_allowed font name (Some (TakesWordsIn alphabet)) h = tt

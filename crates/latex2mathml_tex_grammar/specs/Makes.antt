@@ -8,7 +8,7 @@ use Rattle.latex2mathml_elements.specs.{Extents.wide, Groups.grouped}
 use Rattle.latex2mathml_tex_grammar.specs.Atoms.{Atom, Kind, SignOf, PlusOrMinus, Plain, UprightLetters, UprightIdentifier, Unspaced, Blank, Divider, After, Before, Nothing, atom, element_there}
 use Rattle.latex2mathml_tex_grammar.specs.Meaning.{FractionRule, Bar, NoBar, Braced, Bracketed, Bare, LimitPlace, Beside, ByStyle, Movable, Stacked, Box, Phantom, PhantomWidth, PhantomHeight, Smashed, WithoutHeight, WithoutDepth, OverRight, OverLeft, OverBoth, Frame, StrikeUp, StrikeDown, StrikeTwice, Raised, Colored, OnColor}
 use Rattle.latex2mathml_tex_grammar.specs.Fences.{delimited_fraction, fenced, sized_delimiter}
-use Rattle.latex2mathml_tex_grammar.specs.Heights.{Height, Low, Raised, Tall, fraction_height, larger, script_height, sized_height, stacked_height}
+use Rattle.latex2mathml_tex_grammar.specs.Heights.{Height, Low, Raised, Tall, fraction_height, integral_height, larger, scripted_height, sized_height}
 use Rattle.latex2mathml_tex_grammar.specs.SignAttributes.{sign_attributes}
 use Rattle.latex2mathml_tex_grammar.specs.Widths.{room}
 use Rattle.latex2mathml_tex_grammar.specs.Symbols.{Class, Ordinary, Operator, Binary, Relation, Opening, Punctuation, Inner, Style, InDisplay, InText, InScript, Alphabet, Upright, Symbol, Letter, UprightLetter, Sign, BigOperator, Integral}
@@ -73,13 +73,13 @@ sign class c = atom (sign_kind class c) Low (token Mo (sign_attributes class c) 
 abbrev pub relation : List ℕ → Atom
 relation sign_text = atom (SignOf Relation) Low (token Mo plain sign_text)
 
--- a symbol, as an element with its kind
-abbrev pub symbol : Option Alphabet → Symbol → Core
-symbol alphabet (Letter c) = core (letter alphabet c)
-symbol alphabet (UprightLetter c) = core (upright_letter alphabet c)
-symbol alphabet (Sign class c) = core (sign class c)
-symbol alphabet (BigOperator c) = operator Movable (atom (Plain Operator) Raised (token Mo plain (text c)))
-symbol alphabet (Integral c) = core (atom (Plain Operator) Tall (token Mo plain (text c)))
+-- a symbol in this style and alphabet, as an element with its kind
+abbrev pub symbol : Style → Option Alphabet → Symbol → Core
+symbol style alphabet (Letter c) = core (letter alphabet c)
+symbol style alphabet (UprightLetter c) = core (upright_letter alphabet c)
+symbol style alphabet (Sign class c) = core (sign class c)
+symbol style alphabet (BigOperator c) = operator Movable (atom (Plain Operator) Raised (token Mo plain (text c)))
+symbol style alphabet (Integral c) = core (atom (Plain Operator) (integral_height style) (token Mo plain (text c)))
 
 -- the name of a function, with limits at this place
 abbrev pub function_name : LimitPlace → List ℕ → Core
@@ -432,6 +432,13 @@ are_stacked style ByStyle = false
 are_stacked style Movable = true
 are_stacked style Stacked = true
 
+-- whether scripts are drawn below and above: except in a block, the browser moves those of a movable sign beside it
+abbrev pub are_drawn_stacked : Style → LimitPlace → Bool
+are_drawn_stacked style Beside = false
+are_drawn_stacked InDisplay limits = true
+are_drawn_stacked style Stacked = true
+are_drawn_stacked style limits = false
+
 -- a base whose limits the browser must not move
 abbrev pub fixed_base : LimitPlace → Element → Element
 fixed_base Stacked (token Mo a sign_text) = token Mo (record a { limits_stay = true }) sign_text
@@ -468,27 +475,12 @@ before_base kind before = before
 abbrev pub base_there : Style → Before → Atom → Element
 base_there style before base = element_there style true (before_base base.kind before) base.kind base.element
 
--- how high a superscript is, if there is one
-abbrev pub height_above : Bool → Height
-height_above true = Raised
-height_above false = Low
-
--- how high scripts are, below and above a base of this height or beside it
-abbrev pub scripts_height : Style → Bool → Height → Height → Bool → Height
-scripts_height style true base below above = stacked_height style base
-scripts_height style false base below above = larger (script_height below) (height_above above)
-
--- How high an atom with scripts is. In scripts it is always taller than a letter.
-abbrev pub scripted_height : Style → Height → Height
-scripted_height InScript height = larger Raised height
-scripted_height style height = height
-
 -- an atom with these elements below and above it; without any, it stays as it is
 abbrev pub scripted_atom : Style → Before → Atom → Scripts → Option Element → Option Element → Atom
 scripted_atom style before base scripts None None = base
 scripted_atom style before base scripts below above =
-    let stacked = are_stacked style scripts.limits in
-    atom (scripted_kind base.kind) (scripted_height style (larger base.height (scripts_height style stacked base.height scripts.height (is_some above)))) (with_scripts stacked (fixed_base scripts.limits (base_there style before base)) below above)
+    let height = scripted_height style (are_drawn_stacked style scripts.limits) base.height scripts.height (is_some above) in
+    atom (scripted_kind base.kind) height (with_scripts (are_stacked style scripts.limits) (fixed_base scripts.limits (base_there style before base)) below above)
 
 -- an atom with what follows it, after what precedes it
 abbrev pub scripted : Style → Before → Atom → Scripts → Atom

@@ -153,7 +153,7 @@ a_number c digit = takes_digits (λ more. after_digits c (digit ∷ more))
 
 -- a character that is a sign or a letter, or any other
 abbrev pub a_symbol : Context → ℕ → Option Symbol → Rule
-a_symbol c character (Some s) = gives (symbol c.alphabet s)
+a_symbol c character (Some s) = gives (symbol c.style c.alphabet s)
 a_symbol c character None = gives (core (upright_letter c.alphabet character))
 
 -- a character that does not begin an atom
@@ -173,7 +173,7 @@ character_rule c character place =
 
 -- dots, in the middle of the line where what comes next asks for that
 abbrev pub some_dots : Context → Rule
-some_dots c = if_follows centers_dots (gives (symbol c.alphabet centered_dots)) (gives (symbol c.alphabet low_dots))
+some_dots c = if_follows centers_dots (gives (symbol c.style c.alphabet centered_dots)) (gives (symbol c.style c.alphabet low_dots))
 
 -- a style of its own, if there is one, or else the style around it
 abbrev pub own_style : Option Style → Style → Style
@@ -424,7 +424,7 @@ a_choice place c =
 
 -- the rule of a command with this meaning, at this place
 abbrev pub meaning_rule : ℕ → Context → Meaning → Rule
-meaning_rule place c (Shows s) = gives (symbol c.alphabet s)
+meaning_rule place c (Shows s) = gives (symbol c.style c.alphabet s)
 meaning_rule place c (FunctionName limits name) = gives (function_name limits name)
 meaning_rule place c Dots = some_dots c
 meaning_rule place c (Spacing width) = gives (core (spacing width))

@@ -80,8 +80,8 @@ character_rule alphabet c =
 -- what a command is in words in this font, by its meaning
 abbrev pub meaning_rule : Font → List ℕ → Option Meaning → WordRule
 meaning_rule font name (Some (Spacing width)) = IsWord (word_space font)
-meaning_rule font name (Some (Shows sign)) = IsWord (Formula (single InText (symbol None sign).atom).element)
-meaning_rule font name (Some Dots) = IsWord (Formula (single InText (symbol None low_dots).atom).element)
+meaning_rule font name (Some (Shows sign)) = IsWord (Formula (single InText (symbol InText None sign).atom).element)
+meaning_rule font name (Some Dots) = IsWord (Formula (single InText (symbol InText None low_dots).atom).element)
 meaning_rule font name (Some (TakesWordsIn alphabet)) = TakesWords alphabet
 meaning_rule font name (Some (Changes (ToAlphabet alphabet))) = IsWord (Changed alphabet)
 meaning_rule font name (Some (Changes (ToSize size))) = IsWord (Resized size)

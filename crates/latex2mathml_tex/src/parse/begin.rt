@@ -124,7 +124,7 @@ impl<'a> Parser<'a> {
             return self.letter(context.alphabet, c, next);
         }
         match c {
-            '.' => self.point(context.alphabet, next),
+            '.' => self.point(context, next),
             '~' => self.space(6, next),
             '&' => {
                 *next = self.refuse(TexErrorKind::OutsideTable, place);
@@ -134,7 +134,7 @@ impl<'a> Parser<'a> {
                 *next = self.refuse(TexErrorKind::MisplacedCharacter(c), place);
                 Ok(())
             }
-            _ => self.other_character(context.alphabet, c, next),
+            _ => self.other_character(context, c, next),
         }
     }
 
@@ -177,7 +177,7 @@ impl<'a> Parser<'a> {
         ensures step { Advances 13 self.old self.new next.new result }
     {
         match meaning {
-            Meaning::Shows(symbol) => self.symbol(context.alphabet, symbol, next),
+            Meaning::Shows(symbol) => self.symbol(context, symbol, next),
             Meaning::FunctionName(limits, name) => self.function_name(limits, name, next),
             Meaning::Dots => self.dots(context, next),
             Meaning::Spacing(width) => self.space(width, next),
@@ -288,7 +288,7 @@ impl<'a> Parser<'a> {
         } else {
             LOW_DOTS
         };
-        self.symbol(context.alphabet, dots, next)
+        self.symbol(context, dots, next)
     }
 
     /// Begins a root, with its degree if one comes next in square brackets.

@@ -258,7 +258,8 @@ impl<'a> Parser<'a> {
     }
 }
 
-/// Returns how high an operand of this height is with a stroke, which is part of its text if it is a token.
+/// Returns how high an operand of this height is with a stroke, which is part of its text if it is a token. A token counts as low then,
+/// as most of them are letters.
 fn struck_height(is_token: bool, height: Height) -> Height
     ensures { result ≡ (if is_token then Height.Low else height) }
 {

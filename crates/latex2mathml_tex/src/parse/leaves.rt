@@ -8,22 +8,22 @@ ghost use Rattle.latex2mathml_tex_grammar.specs.Next.{digits_next};
 ghost use Rattle.latex2mathml_tex_grammar.specs.{Atoms.Plain, Atoms.atom, Symbols.Ordinary};
 ghost use Rattle.latex2mathml_tex_grammar.specs.Rules.{a_symbol, gives};
 ghost use Rattle.latex2mathml_tex_grammar.specs.Commands.{symbol_of};
-ghost use Rattle.latex2mathml_tex_atoms.specs.{Models.context_of, declared.atoms.Context.Context};
+ghost use Rattle.latex2mathml_tex_atoms.specs.Models.{context_of};
 ghost use Rattle.latex2mathml_elements.specs.{Element.Element};
 ghost use Rattle.latex2mathml_tex_units.specs.Left.{units_at};
 ghost use Rattle.latex2mathml_tex_commands.specs.Meanings.{alphabet_of, limit_place_of};
 ghost use Rattle.latex2mathml_tex.specs.Frames.{Start};
 ghost use Rattle.latex2mathml_tex_atoms.specs.Models.{core_with};
 ghost use Rattle.latex2mathml_tex_commands.specs.Meanings;
-ghost use Rattle.latex2mathml_tex.specs.Numbers.{digit_in};
-ghost use Rattle.latex2mathml_tex.specs.Steps.{Begins, CanBegin, Follows, Holds, Advances, LeadsOn, NumberBegins, PointBegins, to_do};
+ghost use Rattle.latex2mathml_tex.specs.Numbers.{after_point, digit_in};
+ghost use Rattle.latex2mathml_tex.specs.Steps.{Begins, CanBegin, Follows, Holds, Advances, LeadsOn, NumberBegins, to_do};
 
 use crate::parse::symbols::{put_letter, put_symbol, put_upright_letter};
 use crate::parse::{Parser, State};
 use latex2mathml_attributes::attributes::Attributes;
 use latex2mathml_attributes::tag::Token;
 use latex2mathml_builder::builder::Builder;
-use latex2mathml_tex_atoms::atoms::{Core, Kind};
+use latex2mathml_tex_atoms::atoms::{Context, Core, Kind};
 use latex2mathml_tex_atoms::heights::Height;
 use latex2mathml_tex_commands::alphabets::in_alphabet;
 use latex2mathml_tex_commands::meaning::{Alphabet, Class, LimitPlace, Symbol};
@@ -32,22 +32,23 @@ use latex2mathml_tex_units::input::Input;
 use std::alloc::AllocError;
 
 impl<'a> Parser<'a> {
-    /// Puts a character as it is, or in an alphabet.
+    /// Puts a symbol. Letters are in the alphabet of the context.
     #[inline(always)]
     pub(crate) fn symbol(
         &mut self,
-        alphabet: Option<Alphabet>,
+        context: Context,
         symbol: Symbol,
         next: &mut State,
     ) -> Result<(), AllocError>
         requires { CanBegin 0 self.old }
         ensures holds { LeadsOn
             (Begins (gives
-            (Makes.symbol (option_map alphabet_of alphabet) (Meanings.symbol_of symbol))) 0)
+            (Makes.symbol (context_of context).style (context_of context).alphabet
+            (Meanings.symbol_of symbol))) 0)
             self.old self.new next.new result }
         ensures step { Advances 13 self.old self.new next.new result }
     {
-        *next = State::Core(put_symbol(&mut self.builder, alphabet, symbol)?);
+        *next = State::Core(put_symbol(&mut self.builder, context, symbol)?);
         Ok(())
     }
 
@@ -149,39 +150,34 @@ impl<'a> Parser<'a> {
     #[inline(always)]
     pub(crate) fn other_character(
         &mut self,
-        alphabet: Option<Alphabet>,
+        context: Context,
         c: char,
         next: &mut State,
     ) -> Result<(), AllocError>
         requires begin { CanBegin 0 self.old }
-        ensures holds { (s : Start) (context : Context)
-            → option_map alphabet_of alphabet ≡ (context_of context).alphabet
-            → Begins (a_symbol (context_of context) c (symbol_of c)) 0 s self.old
-            → OnOk result (Holds s self.new next.new) }
+        ensures holds { LeadsOn (Begins (a_symbol (context_of context) c (symbol_of c)) 0)
+            self.old self.new next.new result }
         ensures step { Advances 13 self.old self.new next.new result }
     {
         match symbol_of(c) {
-            Some(symbol) => self.symbol(alphabet, symbol, next),
-            None => self.upright_letter(alphabet, c, next),
+            Some(symbol) => self.symbol(context, symbol, next),
+            None => self.upright_letter(context.alphabet, c, next),
         }
     }
 
     /// Puts a point, which was taken, or the number that it begins if a digit comes next.
-    pub(crate) fn point(
-        &mut self,
-        alphabet: Option<Alphabet>,
-        next: &mut State,
-    ) -> Result<(), AllocError>
+    pub(crate) fn point(&mut self, context: Context, next: &mut State) -> Result<(), AllocError>
         requires { CanBegin 0 self.old }
-        ensures holds { LeadsOn (PointBegins alphabet) self.old self.new next.new result }
+        ensures holds { LeadsOn
+            (Begins (after_point (context_of context)) 0) self.old self.new next.new result }
         ensures step { Advances 13 self.old self.new next.new result }
     {
         let Some(digit) = self.input.take_digit() else {
-            return self.other_character(alphabet, '.', next);
+            return self.other_character(context, '.', next);
         };
-        begin_number(&mut self.builder, alphabet, '.')?;
-        append_digit(&mut self.builder, alphabet, digit)?;
-        digits(&mut self.input, &mut self.builder, alphabet)?;
+        begin_number(&mut self.builder, context.alphabet, '.')?;
+        append_digit(&mut self.builder, context.alphabet, digit)?;
+        digits(&mut self.input, &mut self.builder, context.alphabet)?;
         *next = State::Core(number());
         Ok(())
     }

@@ -79,7 +79,7 @@ impl<'a> Parser<'a> {
             && let Some(symbol) = symbol_of(c)
         {
             self.input.advance();
-            let sign = put_symbol(&mut self.builder, context.alphabet, symbol)?;
+            let sign = put_symbol(&mut self.builder, context, symbol)?;
             return Ok(InRow::Symbol(sign));
         }
         Ok(InRow::Other)
@@ -100,7 +100,7 @@ impl<'a> Parser<'a> {
             return Ok(InRow::Command(meaning));
         };
         self.input.advance();
-        let sign = put_symbol(&mut self.builder, context.alphabet, *symbol)?;
+        let sign = put_symbol(&mut self.builder, context, *symbol)?;
         Ok(InRow::Symbol(sign))
     }
 

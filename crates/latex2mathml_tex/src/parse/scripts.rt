@@ -4,7 +4,7 @@ ghost use Rattle.latex2mathml_elements.specs.{Attributes.plain, Element.Element,
 ghost use Rattle.latex2mathml_builder.specs.Built.{elements_in};
 ghost use Rattle.latex2mathml_attributes.specs.Names.{pair_of, triple_of};
 ghost use Rattle.latex2mathml_tex_grammar.specs.Atoms;
-ghost use Rattle.latex2mathml_tex_grammar.specs.Heights.{larger};
+ghost use Rattle.latex2mathml_tex_grammar.specs.Heights;
 ghost use Rattle.latex2mathml_tex_grammar.specs.Makes;
 ghost use Rattle.latex2mathml_tex_grammar.specs.Starts;
 ghost use Rattle.latex2mathml_tex_units.specs.{Errors.second_on, Taking.piece_of};
@@ -239,34 +239,34 @@ fn scripted(
         return Ok(core);
     }
     adapt_base(builder, style, before, core.kind, scripts);
-    let is_stacked = style.stacks(scripts.limits);
-    put_scripts(builder, is_stacked, scripts)?;
+    put_scripts(builder, style.stacks(scripts.limits), scripts)?;
     Ok(Core {
         kind: core.kind.with_scripts(),
-        height: scripted_height(style, is_stacked, core.height, scripts),
+        height: scripted_height(style, core.height, scripts),
         limits: core.limits,
     })
 }
 
 /// Returns how high an atom with these scripts is, whose base is this high. Within scripts it is always taller than a letter.
-fn scripted_height(style: Style, is_stacked: bool, base: Height, scripts: Scripts) -> Height
-    ensures { height_of result ≡ Makes.scripted_height (style_of style) (larger (height_of base)
-        (Makes.scripts_height (style_of style) is_stacked (height_of base)
-        (height_of scripts.height) scripts.above)) }
+fn scripted_height(style: Style, base: Height, scripts: Scripts) -> Height
+    ensures { height_of result ≡ Heights.scripted_height (style_of style)
+        (Makes.are_drawn_stacked (style_of style) (limit_place_of scripts.limits))
+        (height_of base) (height_of scripts.height) scripts.above }
 {
-    let height = base.larger(scripts_height(style, is_stacked, base, scripts));
+    let height = base.larger(scripts_height(style, base, scripts));
     match style {
         Style::InScript => Height::Raised.larger(height),
         Style::InDisplay | Style::InText => height,
     }
 }
 
-/// Returns how high these scripts are, above and below a base of this height or beside it.
-fn scripts_height(style: Style, is_stacked: bool, base: Height, scripts: Scripts) -> Height
-    ensures { height_of result ≡ Makes.scripts_height (style_of style) is_stacked
+/// Returns how high these scripts are, where they are drawn: above and below a base of this height, or beside it.
+fn scripts_height(style: Style, base: Height, scripts: Scripts) -> Height
+    ensures { height_of result ≡ Heights.scripts_height (style_of style)
+        (Makes.are_drawn_stacked (style_of style) (limit_place_of scripts.limits))
         (height_of base) (height_of scripts.height) scripts.above }
 {
-    if is_stacked {
+    if style.draws_stacked(scripts.limits) {
         return base.stacked(style);
     }
     let above = if scripts.above {

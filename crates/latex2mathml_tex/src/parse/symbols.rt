@@ -6,7 +6,7 @@ ghost use Rattle.latex2mathml_tex_grammar.specs.Makes;
 ghost use Rattle.latex2mathml_tex_grammar.specs.SignAttributes;
 ghost use Rattle.latex2mathml_tex_grammar.specs.Makes.{core};
 ghost use Rattle.latex2mathml_tex_grammar.specs.{Atoms.Plain, Atoms.atom, Symbols.Operator};
-ghost use Rattle.latex2mathml_tex_commands.specs.Meanings.{alphabet_of, class_of, limit_place_of};
+ghost use Rattle.latex2mathml_tex_commands.specs.Meanings.{alphabet_of, class_of, limit_place_of, style_of};
 ghost use Rattle.latex2mathml_tex_atoms.specs.Models.{core_with, height_of, kind_of};
 ghost use Rattle.latex2mathml_tex_commands.specs.Meanings;
 ghost use Rattle.latex2mathml_tex_atoms.specs.Shapes.{PutsCore};
@@ -14,29 +14,33 @@ ghost use Rattle.latex2mathml_tex_atoms.specs.Shapes.{PutsCore};
 use latex2mathml_attributes::attributes::{Attributes, Form, Space, Stretch};
 use latex2mathml_attributes::tag::Token;
 use latex2mathml_builder::builder::Builder;
-use latex2mathml_tex_atoms::atoms::{Core, Kind};
+use latex2mathml_tex_atoms::atoms::{Context, Core, Kind};
 use latex2mathml_tex_atoms::heights::Height;
 use latex2mathml_tex_commands::alphabets::in_alphabet;
 use latex2mathml_tex_commands::meaning::{Alphabet, Class, LimitPlace, Symbol};
 use std::alloc::AllocError;
 
-/// Puts a character as it is, or in an alphabet.
+/// Puts a symbol. Letters are in the alphabet of the context.
 #[inline(always)]
 pub(crate) fn put_symbol(
     builder: &mut Builder,
-    alphabet: Option<Alphabet>,
+    context: Context,
     symbol: Symbol,
 ) -> Result<Core, AllocError>
     ensures { IfOk result (PutsCore
-        (Makes.symbol (option_map alphabet_of alphabet) (Meanings.symbol_of symbol))
+        (Makes.symbol (style_of context.style) (option_map alphabet_of context.alphabet)
+        (Meanings.symbol_of symbol))
         builder.old builder.new) }
 {
     match symbol {
-        Symbol::Letter(c) => put_letter(builder, alphabet, c),
-        Symbol::UprightLetter(c) => put_upright_letter(builder, alphabet, c),
+        Symbol::Letter(c) => put_letter(builder, context.alphabet, c),
+        Symbol::UprightLetter(c) => put_upright_letter(builder, context.alphabet, c),
         Symbol::Sign(class, c) => put_sign(builder, class, c),
         Symbol::BigOperator(c) => put_operator(builder, c, LimitPlace::Movable, Height::Raised),
-        Symbol::Integral(c) => put_operator(builder, c, LimitPlace::Beside, Height::Tall),
+        Symbol::Integral(c) => {
+            let height = Height::of_integral(context.style);
+            put_operator(builder, c, LimitPlace::Beside, height)
+        }
     }
 }
 

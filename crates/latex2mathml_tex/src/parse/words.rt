@@ -376,12 +376,12 @@ impl<'a> Parser<'a> {
         requires { CanMake words_made words.count self.old }
         ensures holds { LeadsOn
             (WordGiven words
-            (Formula (single InText (Makes.symbol None (symbol_of symbol)).atom).element))
+            (Formula (single InText (Makes.symbol InText None (symbol_of symbol)).atom).element))
             self.old self.new next.new result }
         ensures step { Advances 13 self.old self.new next.new result }
     {
         let words = end_accent(&mut self.builder, words)?;
-        let core = put_symbol(&mut self.builder, None, symbol)?;
+        let core = put_symbol(&mut self.builder, Context::new(Style::InText, None), symbol)?;
         let row = with_atom(&mut self.builder, Style::InText, Row::empty(), core)?;
         put_row(&mut self.builder, row.count)?;
         let _ = self.builder.len();

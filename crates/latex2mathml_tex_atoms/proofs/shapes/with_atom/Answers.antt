@@ -5,7 +5,7 @@ use Rattle.latex2mathml_tex_grammar.specs.Heights.{Low}
 use Rattle.latex2mathml_tex_grammar.specs.Rows
 use Rattle.latex2mathml_tex_commands.specs.Meanings.{class_of, style_of}
 use Rattle.latex2mathml_tex_atoms.specs.Models.{before_of, core_with, height_of, kind_of, restyled_with, row_with, settled_count, top, under_with}
-use Rattle.latex2mathml_tex_atoms.proofs.Shaping.{put_high, same_below, same_far_below, same_row}
+use Rattle.latex2mathml_tex_atoms.proofs.Shaping.{put_at_any_height, same_below, same_far_below, same_row}
 use Rattle.latex2mathml_tex_atoms.proofs.shapes.with_atom.Goals as goal
 
 pub returns-clause-row : goal.returns-clause-row
@@ -21,7 +21,7 @@ returns-clause-row c =
     let count : row.count ≡ c.args.row.count = ready.count in
     let enough : row.count + 1 ≤ length xs = rw (count, ready.length) c.requires in
     same_row _ _ _ _ _ _ _ _ _ _ _ _ _ _
-    (c.in_ok-count.ensures.elements ∙ ap (λ b. Rows.put b style before (Atoms.atom kind Low (top xs)) below) c.joining-joining.ensures ∙ put_high joining style before kind (height_of c.args.core.height) (top xs) below)
+    (c.in_ok-count.ensures.elements ∙ ap (λ b. Rows.put b style before (Atoms.atom kind Low (top xs)) below) c.joining-joining.ensures ∙ put_at_any_height joining style before kind (height_of c.args.core.height) (top xs) below)
     c.past.ensures
     refl
     c.larger.ensures

@@ -11,7 +11,7 @@ use Rattle.latex2mathml_tex.proofs.parse.Parser.character.Goals as goal
 pub returns-in-46-clause-holds : goal.returns-in-46-clause-holds
 returns-in-46-clause-holds c = λ s g.
     let begins : Begins (after_point (context_of c.args.context)) 0 s c.args.self.now = begun (rw c.in-46.is at g) in
-    c.point.ensures.holds s (c.args.context, refl, begins)
+    c.point.ensures.holds s begins
 
 pub returns-in-38-clause-holds : goal.returns-in-38-clause-holds
 returns-in-38-clause-holds c = λ s g.

@@ -2,7 +2,7 @@ use Rattle.std.proofs.Common.{◌≡◌, ◌∙◌, ◌∷◌, [], arith, false,
 use Rattle.std.specs.Char.{is_ascii_alphabetic, is_ascii_digit}
 use Rattle.latex2mathml_tex_grammar.specs.Makes
 use Rattle.latex2mathml_tex_grammar.specs.Makes.{core}
-use Rattle.latex2mathml_tex_commands.specs.Meanings.{alphabet_of, symbol_of}
+use Rattle.latex2mathml_tex_commands.specs.Meanings.{alphabet_of, style_of, symbol_of}
 use Rattle.latex2mathml_tex_atoms.specs.Models.{context_of}
 use Rattle.latex2mathml_tex.specs.{RowSymbols.lone_scripts, RowCharacters.is_symbol, Steps.Begins}
 use Rattle.latex2mathml_tex.specs.declared.parse.Parser.{Parser}
@@ -67,7 +67,7 @@ returns c =
     let no_letter : is_ascii_alphabetic c.args.c ≡ false = sym c.is_ascii_alphabetic.ensures.value ∙ c.if-is_ascii_alphabetic.false in
     let plain : is_symbol c.args.c ≡ true = sym c.is_symbol.ensures ∙ c.if-is_symbol.true in
     let symbol = symbol_of c.in-Some.symbol in
-    let drawn = Makes.symbol (option_map alphabet_of k.alphabet) symbol in
+    let drawn = Makes.symbol (style_of k.style) (option_map alphabet_of k.alphabet) symbol in
     symbol_put p i c.put_symbol.new.builder k c.requires.row (one_less p i u there c.advance-2.ensures.left) c.in_ok-sign.sign drawn c.in_ok-sign.ensures
     (λ s h. subst (λ r. Begins r 0 s (record p { input = i })) (symbol_rule (context_of k) c.args.c u.place no_digit symbol no_letter plain c.in-Some.ensures) (begun (symbol_begins p i u c.args.c there is c.advance-2.ensures.left s k c.requires.row (symbol_is_plain c.args.c plain) h)))
     c.requires.ready

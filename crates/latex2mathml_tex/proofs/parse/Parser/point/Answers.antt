@@ -1,9 +1,8 @@
-use Rattle.std.proofs.Common.{◌≡◌, ◌≤◌, ◌∷◌, ◌++◌, [], List, ℕ, Option, arith, option_map}
+use Rattle.std.proofs.Common.{◌≡◌, ◌≤◌, ◌∷◌, ◌++◌, [], List, ℕ, Option, arith, refl}
 use Rattle.latex2mathml_builder.specs.Built.{elements_in}
 use Rattle.latex2mathml_tex_grammar.specs.{Commands.symbol_of, Makes.core, Makes.number, Next.digits_next, Symbols.Alphabet}
 use Rattle.latex2mathml_tex_grammar.specs.Rules.{a_digit, a_symbol, decimal, gives}
 use Rattle.latex2mathml_tex_units.specs.Left.{unit_count, units_at}
-use Rattle.latex2mathml_tex_commands.specs.Meanings.{alphabet_of}
 use Rattle.latex2mathml_tex_atoms.specs.Models.{context_of}
 use Rattle.latex2mathml_tex.specs.Steps.{elements_of, left_of}
 use Rattle.latex2mathml_tex.specs.declared.parse.Parser.{Parser}
@@ -14,10 +13,10 @@ use Rattle.latex2mathml_tex.proofs.parse.Parser.point.Goals as goal
 
 pub returns-in_default-clause-holds : goal.returns-in_default-clause-holds
 returns-in_default-clause-holds c = λ s g.
-    c.other_character.ensures.holds s g.0 g.1 (past_none s c.args.self.now c.take_digit.new.self (a_symbol (context_of g.0) 46 (symbol_of 46)) c.in_default.ensures.next.0 c.in_default.ensures.next.1 g.2)
+    c.other_character.ensures.holds s (past_none s c.args.self.now c.take_digit.new.self (a_symbol (context_of c.args.context) 46 (symbol_of 46)) c.in_default.ensures.next.0 c.in_default.ensures.next.1 g)
 
 abbrev alphabet : goal.After-number → Option Alphabet
-alphabet c = option_map alphabet_of c.args.alphabet
+alphabet c = (context_of c.args.context).alphabet
 
 abbrev before : goal.After-number → Parser
 before c = c.args.self.now
@@ -40,9 +39,9 @@ whole_put c =
 
 pub returns-clause-holds : goal.returns-clause-holds
 returns-clause-holds c = λ s g.
-    let digit_begins = past_units s (before c) c.take_digit.new.self (λ digit. decimal (context_of g.0) (46 ∷ digit)) (c.in-Some.digit ∷ []) c.in-Some.ensures.next g.2 in
-    let begins = past_digits s (behind c) c.digits.new.input (λ ds. gives (core (number (context_of g.0).alphabet (first c ++ ds)))) c.in_ok-digits.ensures.units digit_begins in
-    number_put s (record (before c) { input = c.digits.new.input }) c.digits.new.builder c.number.result (alphabet c) (context_of g.0).alphabet (first c ++ more c) c.number.ensures g.1 (whole_put c) begins
+    let digit_begins = past_units s (before c) c.take_digit.new.self (λ digit. decimal (context_of c.args.context) (46 ∷ digit)) (c.in-Some.digit ∷ []) c.in-Some.ensures.next g in
+    let begins = past_digits s (behind c) c.digits.new.input (λ ds. gives (core (number (context_of c.args.context).alphabet (first c ++ ds)))) c.in_ok-digits.ensures.units digit_begins in
+    number_put s (record (before c) { input = c.digits.new.input }) c.digits.new.builder c.number.result (alphabet c) (context_of c.args.context).alphabet (first c ++ more c) c.number.ensures refl (whole_put c) begins
 
 pub returns-clause-step : goal.returns-clause-step
 returns-clause-step c =

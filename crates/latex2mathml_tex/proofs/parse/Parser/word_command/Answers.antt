@@ -48,7 +48,7 @@ returns-in-Sign-clause-holds c = λ s g.
     let k = context_of c.args.context in
     let name = c.args.name.now in
     let rule = c.of.ensures.rule k.alphabet ∙ ap (rule_of (font_in k.alphabet) name) c.in-Sign.is in
-    let x = (single InText (Makes.symbol None (symbol_of c.in-Sign.symbol)).atom).element in
+    let x = (single InText (Makes.symbol InText None (symbol_of c.in-Sign.symbol)).atom).element in
     c.show_symbol.ensures.holds s (stands s c.args.self.now c.args.words (Command name) c.args.place k (Formula x) rule g)
 
 pub returns-in-Words-clause-holds : goal.returns-in-Words-clause-holds

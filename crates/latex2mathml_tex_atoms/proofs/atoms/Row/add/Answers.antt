@@ -4,7 +4,7 @@ use Rattle.latex2mathml_tex_grammar.specs.Atoms
 use Rattle.latex2mathml_tex_grammar.specs.Rows
 use Rattle.latex2mathml_tex_commands.specs.Meanings.{class_of, style_of}
 use Rattle.latex2mathml_tex_atoms.specs.Models.{before_of, height_of, kind_of, restyled_with, settled_count, top, under_with}
-use Rattle.latex2mathml_tex_atoms.proofs.Shaping.{put_as_it_is, put_high, same_below, same_far_below, same_row}
+use Rattle.latex2mathml_tex_atoms.proofs.Shaping.{put_as_it_is, put_at_any_height, same_below, same_far_below, same_row}
 use Rattle.latex2mathml_tex_atoms.proofs.atoms.Row.add.Goals as goal
 
 pub returns-clause-added : goal.returns-clause-added
@@ -22,7 +22,7 @@ returns-clause-added c = λ t.
     let whole : (Atoms.awaits_second (kind_of row.last) before && Atoms.kind_ends_operand kind) ≡ false = search rules in
     record {
       row = λ xs enough. rw whole (same_row _ _ _ _ _ _ _ _ _ _ _ _ _ _
-          (ap (λ n. take n xs) (longer ∙ next) ∙ put_as_it_is joining row.count style before kind xs (omega (arith, enough)) apart none stays ∙ put_high joining style before kind (height_of c.args.core.height) (top xs) (take row.count (drop 1 xs)))
+          (ap (λ n. take n xs) (longer ∙ next) ∙ put_as_it_is joining row.count style before kind xs (omega (arith, enough)) apart none stays ∙ put_at_any_height joining style before kind (height_of c.args.core.height) (top xs) (take row.count (drop 1 xs)))
           c.past-self.ensures
           refl
           c.larger-height.ensures
