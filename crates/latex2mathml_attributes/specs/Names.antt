@@ -52,6 +52,7 @@ space_of space.Narrow = attributes.Narrow
 space_of space.Medium = attributes.Medium
 space_of space.Thick = attributes.Thick
 space_of space.NoSpaceBefore = attributes.NoSpaceBefore
+space_of space.NullDelimiterAfter = attributes.NullDelimiterAfter
 space_of space.ThinAfter = attributes.ThinAfter
 space_of space.ThickAfter = attributes.ThickAfter
 space_of space.NoSpaceAfter = attributes.NoSpaceAfter

@@ -41,6 +41,8 @@ pub enum Space {
     Thick,
     /// No space before it. The browser decides what follows it.
     NoSpaceBefore,
+    /// No space before it, and the width of a null delimiter of TeX after it: twelve hundredths of an em.
+    NullDelimiterAfter,
     /// No space before it, and a thin space after it: three eighteenths of an em.
     ThinAfter,
     /// No space before it, and a thick space after it.
@@ -243,6 +245,7 @@ fn usual_tag(
     match (form, stretch, space) {
         (None, None, Some(Space::NoSpace)) => Some("<mo lspace=\"0\" rspace=\"0\">"),
         (None, None, Some(Space::NoSpaceBefore)) => Some("<mo lspace=\"0\">"),
+        (None, None, Some(Space::Medium)) => Some("<mo lspace=\"0.222em\" rspace=\"0.222em\">"),
         (None, Some(Stretch::Stretching), None) => Some("<mo stretchy=\"true\">"),
         (None, Some(Stretch::Rigid), None) => Some("<mo stretchy=\"false\">"),
         (None, Some(Stretch::Rigid), Some(Space::NoSpace)) => Some(
@@ -363,6 +366,7 @@ fn space_text(space: Option<Space>) -> &'static str
         Some(Space::Medium) => " lspace=\"0.222em\" rspace=\"0.222em\"",
         Some(Space::Thick) => " lspace=\"0.278em\" rspace=\"0.278em\"",
         Some(Space::NoSpaceBefore) => " lspace=\"0\"",
+        Some(Space::NullDelimiterAfter) => " lspace=\"0\" rspace=\"0.12em\"",
         Some(Space::ThinAfter) => " lspace=\"0\" rspace=\"0.167em\"",
         Some(Space::ThickAfter) => " lspace=\"0\" rspace=\"0.278em\"",
         Some(Space::NoSpaceAfter) => " rspace=\"0\"",

@@ -1,9 +1,9 @@
 -- The open elements, the uppermost first, where their parts change.
-use Rattle.std.proofs.Common.{◌≡◌, ℕ, suc, zero, ◌+◌, ◌<◌, ◌≤◌, List, [], ◌∷◌, ◌++◌, length, append_assoc, take, drop, map, reverse, None, refl, sym, ap, ◌∙◌, arith}
+use Rattle.std.proofs.Common.{◌≡◌, ℕ, false, suc, zero, ◌+◌, ◌<◌, ◌≤◌, List, [], ◌∷◌, ◌++◌, length, append_assoc, take, drop, map, reverse, None, refl, sym, ap, ◌∙◌, arith}
 use Rattle.std.proofs.lemmas.List.{drop-set, length-map, length-reverse, map-append, reverse-append, take-append-drop, take-set}
 use Rattle.std.proofs.Math.{ListN.get_or, ListN.set, Seq.drop-append_seam, Seq.drop-cons, Seq.take-append_seam}
-use Rattle.latex2mathml_elements.specs.{Attributes.Attributes, Element.Element}
-use Rattle.latex2mathml_builder.specs.Stacks.{given, token_at, token_of_element, with_attributes}
+use Rattle.latex2mathml_elements.specs.{Attributes.Attributes, Element.Element, Element.is_space_like}
+use Rattle.latex2mathml_builder.specs.Stacks.{given, is_space_at, token_at, token_of_element, with_attributes}
 
 -- A list of parts, at a place
 
@@ -52,6 +52,18 @@ token_at_split (z ∷ xs) ys x = token_at_split xs ys x
 pub given_split : (a : Attributes) (xs ys : List Element) (x : Element) → given (length xs) a (xs ++ (x ∷ ys)) ≡ xs ++ (with_attributes a x ∷ ys)
 given_split a [] ys x = refl
 given_split a (z ∷ xs) ys x = ap (λ l. z ∷ l) (given_split a xs ys x)
+
+-- whether the element that follows `depth` others is space
+pub space_there : (depth : ℕ) (xs rest : List Element) (x : Element) → drop depth xs ≡ x ∷ rest → is_space_at depth xs ≡ is_space_like x
+space_there zero [] rest x h = cc
+space_there (suc depth) [] rest x h = cc
+space_there zero (y ∷ xs) rest x h = (let same : y ≡ x = cc in ap is_space_like same)
+space_there (suc depth) (y ∷ xs) rest x h = space_there depth xs rest x h
+
+pub no_space_there : (depth : ℕ) (xs : List Element) → length xs ≤ depth → is_space_at depth xs ≡ false
+no_space_there depth [] h = refl
+no_space_there zero (x ∷ xs) h = absurd (omega arith)
+no_space_there (suc depth) (x ∷ xs) h = no_space_there depth xs (omega arith)
 
 -- no element has `depth` others above it
 pub none_at : (depth : ℕ) (xs : List Element) → length xs ≤ depth → token_at depth xs ≡ None

@@ -7,6 +7,7 @@ use Rattle.latex2mathml_builder.specs.Stacks.{around_first}
 use Rattle.latex2mathml_attributes.specs.{Arounds.extent_of, Columns.columns_of}
 use Rattle.latex2mathml_attributes.specs.Names.{attributes_if_any, container_of, math_style_of, pair_of, token_of, triple_of}
 use Rattle.latex2mathml_builder.specs.Stacks.{pair_with, table_with, triple_with}
+use Rattle.latex2mathml_attributes.specs.declared.tag.Token.TheVariants as tag
 use Rattle.latex2mathml_builder.specs.declared.part.Part.{Part}
 use Rattle.latex2mathml_builder.specs.declared.part.Part.TheVariants as part
 
@@ -60,6 +61,13 @@ EachFits texts n (p ∷ ps) = Fits texts n p × EachFits texts (suc n) ps
 abbrev pub is_token_part : Part → Bool
 is_token_part (part.Token t a start end) = true
 is_token_part p = false
+
+-- whether MathML takes the element of the part as space
+abbrev pub is_space_part : Part → Bool
+is_space_part (part.Token tag.Mtext a start end) = true
+is_space_part (part.Space width) = true
+is_space_part (part.Rectangle e) = true
+is_space_part p = false
 
 -- the text of the part ends at this place, if it has one
 abbrev pub EndsAt : ℕ → Part → Type 0

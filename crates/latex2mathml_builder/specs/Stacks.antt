@@ -1,8 +1,8 @@
 -- What the builder's functions make of a list of elements, in which the uppermost comes first.
-use Rattle.std.specs.Prelude.{ℕ, zero, suc, pos, Bool, true, false, List, [], ◌∷◌, ◌++◌, Option, Some, None}
+use Rattle.std.specs.Prelude.{ℕ, zero, suc, Bool, true, false, List, [], ◌∷◌, ◌++◌, Option, Some, None}
 use Rattle.latex2mathml_elements.specs.Attributes.{Attributes, plain}
 use Rattle.latex2mathml_elements.specs.Columns.{Columns}
-use Rattle.latex2mathml_elements.specs.Element.{Token, Pair, Triple, Element, token, space, pair, triple, table}
+use Rattle.latex2mathml_elements.specs.Element.{Mrow, Token, Pair, Triple, Element, token, container, pair, triple, table, children, is_space_like}
 use Rattle.latex2mathml_elements.specs.{Groups.grouped, Tables.attributes_in, Tables.rows_in}
 use Rattle.latex2mathml_attributes.specs.{Arounds.element_around, declared.around.Around.Around}
 
@@ -41,6 +41,12 @@ token_at depth [] = None
 token_at zero (x ∷ xs) = token_of_element x
 token_at (suc depth) (x ∷ xs) = token_at depth xs
 
+-- whether MathML takes the element below `depth` others as space
+abbrev pub is_space_at : ℕ → List Element → Bool
+is_space_at depth [] = false
+is_space_at zero (x ∷ xs) = is_space_like x
+is_space_at (suc depth) (x ∷ xs) = is_space_at depth xs
+
 -- an element that holds a text, with these attributes
 abbrev pub with_attributes : Attributes → Element → Element
 with_attributes a (token t b text) = token t a text
@@ -54,7 +60,7 @@ given (suc depth) a (x ∷ xs) = x ∷ given depth a xs
 
 -- what is made of too few elements for an element of two, of three, or of one or more
 abbrev pub no_element : Element
-no_element = space (pos 0)
+no_element = container Mrow plain (children [])
 
 -- the element below `depth` others, as a group
 abbrev pub group_at : ℕ → List Element → Element

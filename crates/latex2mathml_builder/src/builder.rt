@@ -8,7 +8,7 @@ ghost use Rattle.latex2mathml_builder.specs.Stacks.{around_first};
 ghost use Rattle.latex2mathml_builder.specs.Built.{Fits, HasText, Puts, Replaces, between, element_in, element_of, elements_in, is_token_part, nothing, settled_in};
 ghost use Rattle.latex2mathml_attributes.specs.Columns.{columns_of};
 ghost use Rattle.latex2mathml_attributes.specs.Names.{attributes_of, container_of, element_with_text, math_style_of, pair_of, token_of, triple_of};
-ghost use Rattle.latex2mathml_builder.specs.Stacks.{are_tokens, given, group_at, is_token, joined, lengthened, ordered, pair_with, table_with, token_at, triple_with};
+ghost use Rattle.latex2mathml_builder.specs.Stacks.{are_tokens, given, group_at, is_space_at, is_token, joined, lengthened, ordered, pair_with, table_with, token_at, triple_with};
 
 use crate::part::Part;
 use latex2mathml_attributes::around::Around;
@@ -234,6 +234,17 @@ impl Builder {
             }
             _ => None,
         }
+    }
+
+    /// Whether MathML takes the element below `depth` others as space, as it does with words and spaces.
+    pub fn is_space_at(&self, depth: usize) -> bool
+        ensures { result ≡ is_space_at depth (elements_in self.now) }
+    {
+        let len = self.stack.as_slice().len();
+        if depth >= len {
+            return false;
+        }
+        self.open_at(len - 1 - depth).is_space()
     }
 
     /// Gives these attributes to the element that has `depth` others above it, if it holds a text.

@@ -1,4 +1,6 @@
 //! An element without its children.
+ghost use Rattle.std.specs.Prelude.{◌≡◌};
+ghost use Rattle.latex2mathml_builder.specs.Built.{is_space_part};
 
 use latex2mathml_attributes::around::Around;
 use latex2mathml_attributes::attributes::{Attributes, MathStyle};
@@ -26,4 +28,16 @@ pub(crate) enum Part {
     Triple(Triple, Option<Attributes>, usize, bool),
     /// A style of its own, if any, and the columns; the first row, and how many there are.
     Table(Option<MathStyle>, Columns, usize, usize),
+}
+
+impl Part {
+    /// Whether MathML takes it as space.
+    pub(crate) fn is_space(&self) -> bool
+        ensures { result ≡ is_space_part self.now }
+    {
+        matches!(
+            self,
+            Part::Token(Token::Mtext, _, _, _) | Part::Space(_) | Part::Rectangle(_)
+        )
+    }
 }

@@ -29,6 +29,8 @@ pub data Space : Type 0 where
   Thick : Space
   -- no space before it; the browser decides what follows it
   NoSpaceBefore : Space
+  -- no space before it, and the width of a null delimiter of TeX after it, twelve hundredths of an em
+  NullDelimiterAfter : Space
   -- no space before it, and a thin space after it, three eighteenths of an em
   ThinAfter : Space
   -- no space before it, and a thick space after it

@@ -1,5 +1,5 @@
 -- Elements of MathML. Each constructor takes as many children as MathML Core requires.
-use Rattle.std.specs.Prelude.{ℕ, ℤ, List, [], ◌∷◌}
+use Rattle.std.specs.Prelude.{ℕ, ℤ, Bool, true, false, List, [], ◌∷◌}
 use Rattle.latex2mathml_elements.specs.{Attributes.Attributes, Columns.Column, Extents.Extent, Lines.RowLines}
 
 -- the elements that hold a text
@@ -57,6 +57,13 @@ mutual
   pub data Cells : Type 0 where
     one_cell : Column → Elements → Cells
     more_cells : Column → Elements → Cells → Cells
+
+-- whether MathML takes an element as space: words, and spaces
+abbrev pub is_space_like : Element → Bool
+is_space_like (token Mtext a text) = true
+is_space_like (space width) = true
+is_space_like (rectangle e) = true
+is_space_like x = false
 
 -- a list of elements as the children of an element
 abbrev pub children : List Element → Elements

@@ -1,6 +1,6 @@
 -- How elements are written.
 use Rattle.std.specs.Prelude.{ℕ, pos, Bool, true, false, ◌||◌, List, [], ◌++◌, Option, Some, None, codes}
-use Rattle.latex2mathml_elements.specs.Attributes.{Attributes, Side, Above, Below, Form, Prefix, Infix, Postfix, Stretch, Stretching, Rigid, Space, NoSpace, Narrow, Medium, Thick, NoSpaceBefore, ThinAfter, ThickAfter, NoSpaceAfter, ThickBefore, Size, Big, Bigger, VeryBig, Biggest, MathStyle, DisplayStyle, TextStyle, ScriptStyle, Boxing, NoWidth, Flat, NoHeight, NoDepth, ByItsWidth, ByHalfItsWidth, Framed, StruckUp, StruckDown, StruckTwice, NullDelimiters, ArrowLabel, Unclipped, Monospaced, JoinedLines, AtMost}
+use Rattle.latex2mathml_elements.specs.Attributes.{Attributes, Side, Above, Below, Form, Prefix, Infix, Postfix, Stretch, Stretching, Rigid, Space, NoSpace, Narrow, Medium, Thick, NoSpaceBefore, NullDelimiterAfter, ThinAfter, ThickAfter, NoSpaceAfter, ThickBefore, Size, Big, Bigger, VeryBig, Biggest, MathStyle, DisplayStyle, TextStyle, ScriptStyle, Boxing, NoWidth, Flat, NoHeight, NoDepth, ByItsWidth, ByHalfItsWidth, Framed, StruckUp, StruckDown, StruckTwice, NullDelimiters, ArrowLabel, Unclipped, Monospaced, JoinedLines, AtMost}
 use Rattle.latex2mathml_elements.specs.Columns.{Alignment, LeftAligned, RightAligned, Continued, Density, Dense, Opened, Spacing, Unspaced, SpaceBefore, SpaceAround, Column}
 use Rattle.latex2mathml_elements.specs.Element.{Token, Mi, Mn, Mo, Mtext, Container, Mrow, Msqrt, Mstyle, Mpadded, Mphantom, Pair, Mfrac, Mroot, Msub, Msup, Munder, Mover, Triple, Msubsup, Munderover, Element, Elements, Rows, Cells, token, space, rectangle, container, pair, triple, table, none, more, one_row, more_rows, one_cell, more_cells}
 use Rattle.latex2mathml_elements.specs.Lines.{Line, NoLine, OneLine, TwoLines, Dashes, RowLines, is_lined}
@@ -75,6 +75,7 @@ space_text (Some Narrow) = codes " lspace=\"0.05em\" rspace=\"0.05em\""
 space_text (Some Medium) = codes " lspace=\"0.222em\" rspace=\"0.222em\""
 space_text (Some Thick) = codes " lspace=\"0.278em\" rspace=\"0.278em\""
 space_text (Some NoSpaceBefore) = codes " lspace=\"0\""
+space_text (Some NullDelimiterAfter) = codes " lspace=\"0\" rspace=\"0.12em\""
 space_text (Some ThinAfter) = codes " lspace=\"0\" rspace=\"0.167em\""
 space_text (Some ThickAfter) = codes " lspace=\"0\" rspace=\"0.278em\""
 space_text (Some NoSpaceAfter) = codes " rspace=\"0\""

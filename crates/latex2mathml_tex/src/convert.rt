@@ -17,7 +17,7 @@ use crate::annotation::{append_alternative, append_annotation};
 use crate::parse::{Form, Parser};
 use latex2mathml_builder::builder::Builder;
 use latex2mathml_builder::works::Works;
-use latex2mathml_tex_atoms::shapes::put_row;
+use latex2mathml_tex_atoms::rows::put_row;
 use latex2mathml_tex_commands::meaning::Style;
 use latex2mathml_tex_units::error::{TexError, TexErrorKind};
 use latex2mathml_tex_units::macros::table::Macros;

@@ -1,11 +1,11 @@
 -- Changes of the top elements.
-use Rattle.std.specs.Prelude.{◌≡◌, ℕ, zero, suc, List, [], ◌∷◌, Option, None, Some, drop}
+use Rattle.std.specs.Prelude.{◌≡◌, ℕ, zero, suc, Bool, false, List, [], ◌∷◌, Option, None, Some, drop}
 use Rattle.std.specs.Str.{encode_utf8_all}
 use Rattle.latex2mathml_elements.specs.{Attributes.Attributes, Attributes.Stretch, Element.Element, Element.Mo, Element.token}
 use Rattle.latex2mathml_attributes.specs.{Arounds.element_around, declared.around.Around.Around}
 use Rattle.latex2mathml_builder.specs.Built.{Built, elements_in}
 use Rattle.latex2mathml_tex_grammar.specs.Makes
-use Rattle.latex2mathml_tex_grammar.specs.Widths.{Widths}
+use Rattle.latex2mathml_tex_grammar.specs.{Rows.is_spaced_sign, Widths.Widths}
 use Rattle.latex2mathml_tex_atoms.specs.Models.{core_with, top}
 use Rattle.latex2mathml_tex_atoms.specs.declared.atoms.Core.{Core as CodeCore}
 use Rattle.latex2mathml_tex_atoms.specs.declared.widths.Widths.{Widths as CodeWidths}
@@ -26,6 +26,12 @@ mark_element mark stretch = token Mo (Makes.mark_attributes stretch) (encode_utf
 abbrev pub within_any : Option Around → Element → Element
 within_any None x = x
 within_any (Some a) x = element_around a x
+
+-- whether the element below `depth` others is a sign with space at its sides
+abbrev pub is_spaced_sign_at : ℕ → List Element → Bool
+is_spaced_sign_at depth [] = false
+is_spaced_sign_at zero (x ∷ xs) = is_spaced_sign x
+is_spaced_sign_at (suc depth) (x ∷ xs) = is_spaced_sign_at depth xs
 
 -- the elements, with the one below `depth` others changed
 abbrev pub changed_at : (Element → Element) → ℕ → List Element → List Element

@@ -1,13 +1,15 @@
-//! The elements of arrows with labels, as the top elements of the builder.
+//! The elements of arrows with labels or spaces, as the top elements of the builder.
 ghost use Rattle.std.specs.Prelude.{◌≡◌, ◌≤◌, ◌∷◌, OnOk, drop, length, take};
 ghost use Rattle.latex2mathml_elements.specs.{Attributes.plain, Element.Mover, Element.Munderover, Element.pair, Element.triple};
 ghost use Rattle.latex2mathml_builder.specs.Built.{Puts, elements_in};
 ghost use Rattle.latex2mathml_tex_grammar.specs.Makes;
+ghost use Rattle.latex2mathml_tex_grammar.specs.SpacedSigns;
 ghost use Rattle.latex2mathml_tex_grammar.specs.Rows;
 ghost use Rattle.latex2mathml_tex_atoms.specs.{Models.top, Shapes.ReplacesTop};
 
-use crate::shapes::{mark_attributes, put_row};
-use latex2mathml_attributes::attributes::{Attributes, BoxStyle, Stretch};
+use crate::rows::put_row;
+use crate::shapes::mark_attributes;
+use latex2mathml_attributes::attributes::{Attributes, BoxStyle, Space, Stretch};
 use latex2mathml_attributes::tag::{Container, Pair, Token, Triple};
 use latex2mathml_builder::builder::Builder;
 use std::alloc::AllocError;
@@ -17,6 +19,21 @@ pub fn put_arrow(builder: &mut Builder, sign: char) -> Result<(), AllocError>
     ensures { OnOk result (Puts (Makes.arrow_sign sign) builder.old builder.new) }
 {
     builder.character(Token::Mo, mark_attributes(Stretch::Stretching), sign)
+}
+
+/// Puts a long arrow with a thick space at each side.
+pub fn put_implication(builder: &mut Builder, sign: char) -> Result<(), AllocError>
+    ensures { OnOk result (Puts (SpacedSigns.implication sign).atom.element builder.old builder.new) }
+{
+    let attributes = Attributes {
+        stretch: Some(Stretch::Rigid),
+        space: Some(Space::NoSpace),
+        ..Attributes::plain()
+    };
+    builder.space(5)?;
+    builder.character(Token::Mo, attributes, sign)?;
+    builder.space(5)?;
+    builder.container(Container::Mrow, Attributes::plain(), 3)
 }
 
 /// Makes the top element the label of an arrow.

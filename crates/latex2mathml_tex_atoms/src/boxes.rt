@@ -1,16 +1,17 @@
-//! Boxes around the top element, black rectangles, and struts.
+//! Boxes around the top element, rectangles, and struts.
 ghost use Rattle.std.specs.Prelude.{◌≡◌, ◌≤◌, OnOk, length};
 ghost use Rattle.latex2mathml_elements.specs.{Element.Element, Struts.with_strut};
 ghost use Rattle.latex2mathml_attributes.specs.Arounds.{element_around, extent_of};
 ghost use Rattle.latex2mathml_builder.specs.Built.{Puts, elements_in};
 ghost use Rattle.latex2mathml_tex_grammar.specs.Makes;
+ghost use Rattle.latex2mathml_tex_grammar.specs.SpacedSigns;
 ghost use Rattle.latex2mathml_tex_commands.specs.Meanings.{box_of};
 ghost use Rattle.latex2mathml_tex_atoms.specs.Shapes.{ReplacesTop, within_any};
 
 use latex2mathml_attributes::around::{Around, Boxing};
-use latex2mathml_attributes::attributes::Attributes;
+use latex2mathml_attributes::attributes::{Attributes, Space, Stretch};
 use latex2mathml_attributes::extent::Extent;
-use latex2mathml_attributes::tag::Container;
+use latex2mathml_attributes::tag::{Container, Token};
 use latex2mathml_builder::builder::Builder;
 use latex2mathml_tex_commands::meaning::OperandBox;
 use std::alloc::AllocError;
@@ -78,6 +79,25 @@ pub fn put_bar(
         builder.surround(Around::Raised(height))?;
     }
     Ok(())
+}
+
+/// Puts the dots of a column, with space above them.
+pub fn put_vertical_dots(builder: &mut Builder) -> Result<(), AllocError>
+    ensures { OnOk result (Puts SpacedSigns.vertical_dots.atom.element builder.old builder.new) }
+{
+    let attributes = Attributes {
+        space: Some(Space::NoSpace),
+        stretch: Some(Stretch::Rigid),
+        ..Attributes::plain()
+    };
+    builder.character(Token::Mo, attributes, '⋮')?;
+    builder.rectangle(Extent {
+        width: 0,
+        height: 1500,
+        depth: 0,
+        is_black: false,
+    })?;
+    builder.container(Container::Mrow, Attributes::plain(), 2)
 }
 
 /// Puts a strut behind the top element.

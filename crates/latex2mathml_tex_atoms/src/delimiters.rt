@@ -13,7 +13,7 @@ use crate::heights::Height;
 use crate::signs::keeps_space;
 use crate::widths::room;
 use latex2mathml_attributes::attributes::{Attributes, Form, Size, Space, Stretch};
-use latex2mathml_attributes::tag::Token;
+use latex2mathml_attributes::tag::{Container, Token};
 use latex2mathml_builder::builder::Builder;
 use latex2mathml_tex_commands::meaning::{Class, Style};
 use std::alloc::AllocError;
@@ -74,8 +74,9 @@ pub fn put_divider(builder: &mut Builder, delimiter: Option<char>) -> Result<(),
     put_delimiter(builder, attributes, delimiter)
 }
 
-/// Puts a delimiter of this size. A relation has space around it, except in scripts.
-pub fn put_sized(
+/// Puts a delimiter of this size as an element that can be the base of scripts. As their base itself, some browsers would not draw it in
+/// its size.
+pub fn put_big(
     builder: &mut Builder,
     style: Style,
     size: Size,
@@ -85,6 +86,26 @@ pub fn put_sized(
     ensures { OnOk result (Puts
         (Makes.sized (style_of style) (size_of size) (class_of class)
         (delimiter_text delimiter)).atom.element
+        builder.old builder.new) }
+{
+    put_sized(builder, style, size, class, delimiter)?;
+    match class {
+        Class::Relation => Ok(()),
+        _ => builder.container(Container::Mrow, Attributes::plain(), 1),
+    }
+}
+
+/// Puts a delimiter of this size. A relation has space around it, except in scripts.
+pub fn put_sized(
+    builder: &mut Builder,
+    style: Style,
+    size: Size,
+    class: Class,
+    delimiter: Option<char>,
+) -> Result<(), AllocError>
+    ensures { OnOk result (Puts
+        (Fences.sized_delimiter (style_of style) (size_of size) (class_of class)
+        (delimiter_text delimiter))
         builder.old builder.new) }
 {
     let (form, space) = match class {
@@ -143,13 +164,13 @@ fn put_fence(
 }
 
 /// Returns the space of a delimiter in this form, if it is not the one that browsers give it.
-#[tactic(auto, using(crate::proofs::Rooms::no_space, crate::proofs::Rooms::space_is))]
+#[tactic(auto, using(crate::proofs::Rooms::empty_space, crate::proofs::Rooms::space_is))]
 fn fence_space(form: Form, delimiter: Option<char>) -> Option<Space>
     ensures { option_map space_of result
         ≡ Fences.fence_space (form_of form) (delimiter_text delimiter) }
 {
     let Some(c) = delimiter else {
-        return Some(Space::NoSpace);
+        return Some(Space::NullDelimiterAfter);
     };
     if is_known(form, c) {
         None

@@ -11,7 +11,7 @@ ghost use Rattle.latex2mathml_tex_atoms.specs.{Models.top, Shapes.ReplacesTop};
 use crate::arrows::{put_arrow, put_label, put_label_row};
 use crate::boxes::put_in_box;
 use crate::delimiters::put_sized;
-use crate::shapes::put_row;
+use crate::rows::put_row;
 use latex2mathml_attributes::attributes::{Attributes, MathStyle, Side, Size};
 use latex2mathml_attributes::tag::{Container, Pair, Triple};
 use latex2mathml_builder::builder::Builder;

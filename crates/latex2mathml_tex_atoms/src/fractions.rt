@@ -8,6 +8,7 @@ ghost use Rattle.latex2mathml_tex_commands.specs.{Delimiters.delimiter_text, Mea
 ghost use Rattle.latex2mathml_tex_atoms.specs.{Models.top, Shapes.ReplacesTop};
 
 use crate::delimiters::put_sized;
+use crate::rows::put_empty_operator;
 use latex2mathml_attributes::attributes::{Attributes, BoxStyle, Size, Space};
 use latex2mathml_attributes::tag::{Container, Pair, Token};
 use latex2mathml_builder::builder::Builder;
@@ -129,11 +130,7 @@ pub(crate) fn put_null_delimiters(builder: &mut Builder) -> Result<(), AllocErro
     requires { 1 ≤ length (elements_in builder.old) }
     ensures { OnOk result (ReplacesTop Makes.unfenced builder.old builder.new) }
 {
-    let empty = Attributes {
-        space: Some(Space::NoSpace),
-        ..Attributes::plain()
-    };
-    builder.token(Token::Mo, empty)?;
+    put_empty_operator(builder)?;
     let attributes = Attributes {
         box_style: Some(BoxStyle::NullDelimiters),
         ..Attributes::plain()

@@ -15,6 +15,7 @@ pub mod heights;
 mod operands;
 pub mod outlines;
 pub mod rests;
+pub mod rows;
 pub mod shapes;
 pub mod signs;
 mod spaces;

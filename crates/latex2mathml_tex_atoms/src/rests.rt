@@ -13,7 +13,7 @@ use crate::atoms::{Before, Context, Kind, Row, Words};
 use crate::fractions::{put_fraction, style_attributes};
 use crate::heights::Height;
 use crate::operands::end_operand;
-use crate::shapes::{isolate, put_row};
+use crate::rows::{isolate, put_row};
 use latex2mathml_attributes::around::{Around, Color};
 use latex2mathml_attributes::tag::Container;
 use latex2mathml_builder::builder::Builder;

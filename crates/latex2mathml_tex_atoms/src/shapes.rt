@@ -15,52 +15,12 @@ ghost use Rattle.latex2mathml_tex_atoms.specs.Shapes.{ChangesAt, ReplacesTop, ma
 
 use crate::atoms::{Before, Core, Joining, Kind, Row};
 use crate::operands::before_atom;
-use crate::signs::{adapt, remove_space, remove_space_after};
+use crate::signs::adapt;
 use latex2mathml_attributes::attributes::{Attributes, BoxStyle, Form, Side, Space, Stretch};
 use latex2mathml_attributes::tag::{Container, Pair, Token};
 use latex2mathml_builder::builder::Builder;
 use latex2mathml_tex_commands::meaning::{Class, Style};
 use std::alloc::AllocError;
-
-/// Makes one element of the top `count` elements.
-pub fn put_row(builder: &mut Builder, count: usize) -> Result<(), AllocError>
-    requires { count ≤ length (elements_in builder.old) }
-    ensures { OnOk result (elements_in builder.new
-        ≡ Rows.row_element (take count (elements_in builder.old))
-        ∷ drop count (elements_in builder.old)) }
-{
-    if count == 1 {
-        return Ok(());
-    }
-    builder.container(Container::Mrow, Attributes::plain(), count)
-}
-
-/// Removes the space around a sign that is all of a row in braces, a cell or a formula, and the space after a relation or a comma at
-/// its end. The last atom of the row is of this kind.
-pub fn isolate(builder: &mut Builder, count: usize, last: Kind)
-    requires { count ≤ length (elements_in builder.old) }
-    ensures row { take count (elements_in builder.new)
-        ≡ Rows.lone (kind_of last) (take count (elements_in builder.old)) }
-    ensures below { drop count (elements_in builder.new) ≡ drop count (elements_in builder.old) }
-    ensures length { length (elements_in builder.new) ≡ length (elements_in builder.old) }
-{
-    if count == 1 && last.is_spaced() {
-        remove_space(builder, 0);
-    } else if count > 1 && last.leaves_space() {
-        remove_space_after(builder, 0);
-    }
-}
-
-/// Makes one element of the top ones, which are those of a row in braces. A sign that is all of it has no space.
-pub fn put_braced(builder: &mut Builder, count: usize, last: Kind) -> Result<(), AllocError>
-    requires { count ≤ length (elements_in builder.old) }
-    ensures { OnOk result (elements_in builder.new
-        ≡ Rows.row_element (Rows.lone (kind_of last) (take count (elements_in builder.old)))
-        ∷ drop count (elements_in builder.old)) }
-{
-    isolate(builder, count, last);
-    put_row(builder, count)
-}
 
 /// Returns what the top element is to its neighbours as an ordinary atom.
 pub fn ordinary_kind(builder: &Builder) -> Kind

@@ -56,6 +56,7 @@ text_size_of code_size.VeryHuge = symbol.VeryHuge
 
 abbrev pub alphabet_of : Alphabet → symbol.Alphabet
 alphabet_of code_alphabet.Upright = symbol.Upright
+alphabet_of code_alphabet.Named = symbol.Named
 alphabet_of code_alphabet.Italic = symbol.Italic
 alphabet_of code_alphabet.Bold = symbol.Bold
 alphabet_of code_alphabet.BoldItalic = symbol.BoldItalic
@@ -114,6 +115,8 @@ abbrev pub meaning_of : Meaning → meant.Meaning
 meaning_of (code_meaning.Shows x) = meant.Shows (symbol_of x)
 meaning_of (code_meaning.FunctionName x y) = meant.FunctionName (limit_place_of x) y.now
 meaning_of code_meaning.Dots = meant.Dots
+meaning_of code_meaning.VerticalDots = meant.VerticalDots
+meaning_of (code_meaning.Implication x) = meant.Implication x
 meaning_of (code_meaning.Spacing x) = meant.Spacing x
 meaning_of code_meaning.Skip = meant.Skip
 meaning_of code_meaning.SkipInBraces = meant.SkipInBraces

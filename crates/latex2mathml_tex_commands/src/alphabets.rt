@@ -82,7 +82,7 @@ fn blocks_for(alphabet: Alphabet) -> Option<Blocks>
     ensures high { IfSome result (λ b. AreHigh (blocks_of b)) }
 {
     match alphabet {
-        Alphabet::Upright => None,
+        Alphabet::Upright | Alphabet::Named => None,
         Alphabet::Italic => Some(Blocks {
             capital: '𝐴',
             small: '𝑎',

@@ -153,6 +153,8 @@ impl TextSize {
 #[derive(Clone, Copy)]
 pub enum Alphabet {
     Upright,
+    /// Upright as well, in the name of an operator.
+    Named,
     Italic,
     Bold,
     BoldItalic,
@@ -259,6 +261,10 @@ pub enum Meaning {
     FunctionName(LimitPlace, &'static str),
     /// Dots, in the middle of the line before an operator or a relation, otherwise on the line.
     Dots,
+    /// The dots of a column, with space above them.
+    VerticalDots,
+    /// A long arrow with a thick space at each side.
+    Implication(char),
     /// A space, in eighteenths of an em.
     Spacing(i8),
     /// A space as wide as the length that comes next.

@@ -1,7 +1,7 @@
 -- Atoms whose parts hold no character that XML forbids hold none.
 use Rattle.std.proofs.Common.{◌≡◌, ℕ, zero, suc, ℤ, pos, negsuc, Bool, true, false, ◌==◌, List, [], ◌∷◌, ◌++◌, map, reverse, Option, Some, None, refl, sym, subst, codes}
 use Rattle.std.proofs.{lemmas.Bool.and_parts, lemmas.Grind.reverse_onto}
-use Rattle.std.specs.{List.list_all, Str.NonePass}
+use Rattle.std.specs.{List.list_all, Str.NonePass, Str.byte}
 use Rattle.latex2mathml_elements.specs.Attributes.{Attributes, Side, Above, Below, Stretch}
 use Rattle.latex2mathml_elements.specs.Characters.{is_forbidden, IsAllowed, HasAllowedTexts, EachTextOf}
 use Rattle.latex2mathml_elements.specs.Element.{Mi, Mn, Mo, Mtext, Element, token, space, rectangle, container, pair, triple, table, children}
@@ -10,10 +10,10 @@ use Rattle.latex2mathml_tex_grammar.specs.Alphabets.{in_alphabet}
 use Rattle.latex2mathml_tex_grammar.specs.Atoms.{without_space_after, Atom, Kind, SignOf, PlusOrMinus, Plain, UprightLetters, UprightIdentifier, Unspaced, Blank, Divider, Before, begins_operand, is_ordinary, as_prefix, as_infix, without_space, without_space_before, led, leads_operator, leads_relation, tight, element_there, gap, lone_sign, element_as}
 use Rattle.latex2mathml_tex_grammar.specs.Fences.{delimited_fraction, fenced}
 use Rattle.latex2mathml_tex_grammar.specs.Heights.{Height, Low}
-use Rattle.latex2mathml_tex_grammar.specs.Makes.{text, letter, upright_letter, number, symbol, struck, classed, on_side, accent, brace, stack, in_style, unfenced, quotient, fraction_element, fraction, lowered_divider, lowered, between_delimiters, spaced_as, Scripts, primes_text, prime_mark, behind_primes, superscript, are_stacked, fixed_base, with_scripts, before_base, base_there, scripted_atom, scripted}
+use Rattle.latex2mathml_tex_grammar.specs.Makes.{text, letter, upright_letter, number, sign_in, symbol, struck, classed, on_side, accent, brace, stack, in_style, unfenced, quotient, fraction_element, fraction, lowered_divider, lowered, between_delimiters, spaced_as, Scripts, primes_text, prime_mark, behind_primes, superscript, are_stacked, fixed_base, with_scripts, before_base, base_there, scripted_atom, scripted}
 use Rattle.latex2mathml_tex_grammar.specs.Meaning.{FractionRule, Bar, NoBar, Braced, Bracketed, Bare, LimitPlace, Beside, ByStyle, Movable, Stacked}
-use Rattle.latex2mathml_tex_grammar.specs.Rows.{Row, Operand, ended, leaves_space, without_last_space, row_before, Joining, ToWord, ToRelations, Separated, Apart, as_base, is_spaced, isolated, lone, is_empty, join, parted, put, row_element, single, with_atom, empty_row}
-use Rattle.latex2mathml_tex_grammar.specs.Symbols.{Class, Ordinary, Operator, Binary, Relation, Opening, Closing, Punctuation, Inner, Style, InDisplay, InText, InScript, Alphabet, Upright, Italic, Bold, BoldItalic, DoubleStruck, Fraktur, Calligraphic, SansSerif, Monospace, Symbol, Letter, UprightLetter, Sign, BigOperator, Integral}
+use Rattle.latex2mathml_tex_grammar.specs.Rows.{Row, Operand, are_like_sign, ended, leaves_space, without_last_space, row_before, Joining, ToWord, ToRelations, Separated, Apart, as_base, is_spaced, isolated, lone, is_empty, join, parted, put, row_element, row_elements, single, with_atom, empty_row}
+use Rattle.latex2mathml_tex_grammar.specs.Symbols.{Class, Ordinary, Operator, Binary, Relation, Opening, Closing, Punctuation, Inner, Style, InDisplay, InText, InScript, Alphabet, Upright, Named, Italic, Bold, BoldItalic, DoubleStruck, Fraktur, Calligraphic, SansSerif, Monospace, Symbol, Letter, UprightLetter, Sign, BigOperator, Integral}
 use Rattle.latex2mathml_tex_grammar.proofs.Allowed.{AreAllowedElements, IsAllowedElement, IsAllowedCore, IsAllowedAtom, IsAllowedOperand, IsAllowedRow, AreAllowedScripts}
 use Rattle.latex2mathml_tex_grammar.proofs.AllowedTables.{in_alphabet_allowed, is_allowed_symbol, not_forbidden}
 use Rattle.latex2mathml_tex_grammar.proofs.Choices.{of_either}
@@ -23,6 +23,7 @@ use Rattle.latex2mathml_tex_grammar.proofs.Choices.{of_either}
 pub letter_allowed : (alphabet : Option Alphabet) (c : ℕ) → is_forbidden c ≡ false → IsAllowedAtom (letter alphabet c)
 letter_allowed None c h = allowed_char c h
 letter_allowed (Some Upright) c h = allowed_char c h
+letter_allowed (Some Named) c h = allowed_char c h
 letter_allowed (Some Italic) c h = allowed_char _ (in_alphabet_allowed Italic c h)
 letter_allowed (Some Bold) c h = allowed_char _ (in_alphabet_allowed Bold c h)
 letter_allowed (Some BoldItalic) c h = allowed_char _ (in_alphabet_allowed BoldItalic c h)
@@ -36,10 +37,16 @@ pub upright_letter_allowed : (alphabet : Option Alphabet) (c : ℕ) → is_forbi
 upright_letter_allowed None c h = allowed_char c h
 upright_letter_allowed (Some alphabet) c h = letter_allowed (Some alphabet) c h
 
+sign_in_allowed : (alphabet : Option Alphabet) (class : Class) (c : ℕ) → is_forbidden c ≡ false → IsAllowedAtom (sign_in alphabet class c)
+sign_in_allowed (Some Named) class c h =
+    of_either IsAllowedAtom (c == 0x2212) (allowed_char (byte "-") refl)
+    (of_either IsAllowedAtom (c == 0x2217) (allowed_char (byte "*") refl) (allowed_char c h))
+sign_in_allowed alphabet class c h = allowed_char c h
+
 pub symbol_allowed : (style : Style) (alphabet : Option Alphabet) (s : Symbol) → is_allowed_symbol s ≡ true → IsAllowedCore (symbol style alphabet s)
 symbol_allowed style alphabet (Letter c) h = letter_allowed alphabet c (not_forbidden c h)
 symbol_allowed style alphabet (UprightLetter c) h = upright_letter_allowed alphabet c (not_forbidden c h)
-symbol_allowed style alphabet (Sign class c) h = allowed_char c (not_forbidden c h)
+symbol_allowed style alphabet (Sign class c) h = sign_in_allowed alphabet class c (not_forbidden c h)
 symbol_allowed style alphabet (BigOperator c) h = allowed_char c (not_forbidden c h)
 symbol_allowed style alphabet (Integral c) h = allowed_char c (not_forbidden c h)
 
@@ -73,7 +80,7 @@ row_children_allowed xs h = children_allowed (reverse xs) (reversed xs h)
 pub row_element_allowed : (xs : List Element) → AreAllowedElements xs → HasAllowedTexts (row_element xs)
 row_element_allowed [] h = tt
 row_element_allowed (x ∷ []) h = h.0
-row_element_allowed (x ∷ y ∷ xs) h = row_children_allowed (x ∷ y ∷ xs) h
+row_element_allowed (x ∷ y ∷ xs) h = row_children_allowed (row_elements (x ∷ y ∷ xs)) (of_either AreAllowedElements (are_like_sign (x ∷ y ∷ xs)) (([], refl, tt), h) h)
 
 -- A row with an atom after it
 

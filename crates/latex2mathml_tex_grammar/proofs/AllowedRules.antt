@@ -4,16 +4,17 @@ use Rattle.std.specs.{Bool.⊤, Char.is_ascii_digit, Str.byte}
 use Rattle.latex2mathml_elements.specs.{Attributes.Attributes, Element.Element, Element.token, Element.space, Element.rectangle, Element.container, Element.pair, Element.triple, Element.table}
 use Rattle.latex2mathml_elements.specs.Characters.{is_forbidden, IsAllowed, HasAllowedTexts}
 use Rattle.latex2mathml_elements.proofs.{Characters.allowed_both, Characters.allowed_char, Characters.allowed_plain, Plain.IsPlain}
-use Rattle.latex2mathml_tex_grammar.specs.{Commands.meaning_of, Commands.symbol_of, Delimiters.entry_of_name, Delimiters.negated_of, Delimiters.delimiter_of, TextCommands.text_accents, TextCommands.text_commands, Dots.centered_dots, Dots.low_dots}
-use Rattle.latex2mathml_tex_grammar.specs.Makes.{Core, core, Scripts, letter, symbol, spacing, struck, text, in_box, raised_by, black, arrow, Outline, quotient, between_any, outlined_fraction, choice}
+use Rattle.latex2mathml_tex_grammar.specs.{Commands.meaning_of, Commands.symbol_of, Delimiters.entry_of_name, Delimiters.negated_of, Delimiters.delimiter_of, TextCommands.text_accents, TextCommands.text_commands, Dots.centered_dots, Dots.column_dots, Dots.low_dots}
+use Rattle.latex2mathml_tex_grammar.specs.Makes.{Core, core, Scripts, letter, symbol, spacing, struck, text, in_box, raised_by, black, arrow, Outline, quotient, between_any, outlined_fraction, choice, sized_element}
 use Rattle.latex2mathml_tex_grammar.specs.Refusal.{Refusal, OutsideTable, MisplacedCharacter, CharacterInWords, refusal_at}
-use Rattle.latex2mathml_tex_grammar.specs.Meaning.{Meaning, Shows, FunctionName, Dots, Spacing, Styled, Words as TakesWordsIn, Fraction, Root, Accent, Brace, Stack, StackedRelation, OperatorName, Negation, Slash, Sized, Left, Middle, Right, Limits, NoLimits, Classed, Changes, ToAlphabet, ToStyle, ToSize, Divides, ToColor, BeginTable, EndTable, LineBreak, Substack, Skip, SkipInBraces, Boxed, Smash, ContinuedFraction, GeneralFraction, Choice, Bar, FractionRule, Box, Phantom, PhantomWidth, PhantomHeight, Smashed, WithoutHeight, WithoutDepth, OverRight, OverLeft, OverBoth, Frame, StrikeUp, StrikeDown, StrikeTwice, Raise, InColor, Highlight, Rectangle, Arrow, Raised, Colored, OnColor}
+use Rattle.latex2mathml_tex_grammar.specs.Meaning.{Meaning, Shows, FunctionName, Dots, VerticalDots, Implication, Spacing, Styled, Words as TakesWordsIn, Fraction, Root, Accent, Brace, Stack, StackedRelation, OperatorName, Negation, Slash, Sized, Left, Middle, Right, Limits, NoLimits, Classed, Changes, ToAlphabet, ToStyle, ToSize, Divides, ToColor, BeginTable, EndTable, LineBreak, Substack, Skip, SkipInBraces, Boxed, Smash, ContinuedFraction, GeneralFraction, Choice, Bar, FractionRule, Box, Phantom, PhantomWidth, PhantomHeight, Smashed, WithoutHeight, WithoutDepth, OverRight, OverLeft, OverBoth, Frame, StrikeUp, StrikeDown, StrikeTwice, Raise, InColor, Highlight, Rectangle, Arrow, Raised, Colored, OnColor}
 use Rattle.latex2mathml_tex_grammar.specs.{Colors.color_of, Lengths.width_of}
 use Rattle.latex2mathml_tex_grammar.specs.Atoms.{Plain}
 use Rattle.latex2mathml_tex_grammar.specs.Rows.{as_base, lone, Operand, row_element}
 use Rattle.latex2mathml_tex_grammar.specs.Rules.{Context, Rule, gives, refuses, takes_if, a_character, a_digit, decimal, after_digits, a_number, a_symbol, begins_none, character_rule, struck_atom, slashed, a_box, a_fraction, meaning_rule, command_rule, rule, with_value, a_bar, a_left_brace, a_right_brace, empty_braces, an_outer_delimiter, has_width, a_line, numbered_style, a_style, an_outlined_fraction, a_general_fraction, a_choice, own_style}
 use Rattle.latex2mathml_tex_grammar.specs.Starts.{OperandStart, NoStart, GroupStart, DigitStart, operand_start, start_of_digit, Mark, Prime, Below, Above as AboveMark, LimitsAt, step_of, step_of_mark}
-use Rattle.latex2mathml_tex_grammar.specs.Symbols.{InDisplay, InText, InScript, Ordinary, Relation, Alphabet, BoldItalic, Monospace, Style, Symbol}
+use Rattle.latex2mathml_tex_grammar.specs.Fences.{sized_delimiter}
+use Rattle.latex2mathml_tex_grammar.specs.Symbols.{Class, InDisplay, InText, InScript, Ordinary, Relation, Alphabet, BoldItalic, Monospace, Sign, Style, Symbol}
 use Rattle.latex2mathml_tex_grammar.specs.Units.{Piece, Space, Open, Close, Command, Character}
 use Rattle.latex2mathml_tex_grammar.specs.Words.{Font, Word, font_attributes, font_in, is_in, last_font, letter_in, Shown, Formula, Accented, Changed, Resized, WordRule, IsWord, BeginsFormula, NoWord, Words, word_space, word_character, with_text, accented, with_character, end_accent, with_accent_ended, with_word, words_element, word_rule, character_rule as word_of_character, meaning_rule as word_of_meaning, accent_rule as word_of_accent, command_rule as word_of_command, shown_character}
 use Rattle.latex2mathml_tex_grammar.proofs.Allowed.{IsAllowedPiece, AreAllowedElements, IsAllowedAccent, IsAllowedElement, IsAllowedCore, IsAllowedOperand, AreAllowedScripts, AreAllowedWords, IsAllowedWord, IsAllowedWordRule, IsAllowedStep, IsAllowedRule, AreGiven}
@@ -199,6 +200,10 @@ grouped_allowed (pair p a x y) h = h
 grouped_allowed (triple t a x y z) h = h
 grouped_allowed (table a rows) h = h
 
+sized_element_allowed : (class : Class) (x : Element) → HasAllowedTexts x → HasAllowedTexts (sized_element class x)
+sized_element_allowed Relation x h = h
+sized_element_allowed class x h = grouped_allowed x h
+
 choice_allowed : (style : Style) (display text script : Operand) → IsAllowedOperand display → IsAllowedOperand text → IsAllowedOperand script → IsAllowedCore (choice style display text script)
 choice_allowed InDisplay display text script h k i = grouped_allowed display.element h
 choice_allowed InText display text script h k i = grouped_allowed text.element k
@@ -271,6 +276,8 @@ meaning_rule_allowed : (place : ℕ) (c : Context) (meaning : Meaning) → is_al
 meaning_rule_allowed place c (Shows s) h = symbol_allowed c.style c.alphabet s h
 meaning_rule_allowed place c (FunctionName limits name) h = allowed_text name h
 meaning_rule_allowed place c Dots h = (symbol_allowed c.style c.alphabet centered_dots refl, symbol_allowed c.style c.alphabet low_dots refl)
+meaning_rule_allowed place c VerticalDots h = (allowed_char 0x22EE refl, (tt, tt))
+meaning_rule_allowed place c (Implication sign_character) h = (tt, (allowed_char sign_character (not_forbidden sign_character h), (tt, tt)))
 meaning_rule_allowed place c (Spacing width) h = tt
 meaning_rule_allowed place c Skip h = λ text. with_value_allowed _ _ (λ width. tt) (width_of text)
 meaning_rule_allowed place c SkipInBraces h = λ text. with_value_allowed _ _ (λ width. tt) (width_of text)
@@ -303,7 +310,9 @@ meaning_rule_allowed place c OperatorName h = (λ star given x k. k, λ x k. k)
 meaning_rule_allowed place c Negation h =
     (λ sign_text given. text_given negated_of negated_allowed sign_text given, λ x k. struck_atom_allowed place x (struck x.atom.element) (struck_allowed x.atom.element k))
 meaning_rule_allowed place c Slash h = λ x k. slashed_allowed x (struck x.element) k (struck_allowed x.element k)
-meaning_rule_allowed place c (Sized size class) h = (λ text given. braced_given text given, λ sign_text k. k)
+meaning_rule_allowed place c (Sized size class) h =
+    let allowed = λ (sign_text : List ℕ) (k : IsAllowed sign_text). sized_element_allowed class (sized_delimiter c.style size class sign_text) k in
+    (λ sign_text given. allowed sign_text (braced_given sign_text given), allowed)
 meaning_rule_allowed place c Left h = λ opening k row i closing j. between_allowed opening closing row k j i
 meaning_rule_allowed place c Middle h = tt
 meaning_rule_allowed place c Right h = tt
@@ -389,6 +398,8 @@ word_of_meaning_allowed font name None h = tt
 word_of_meaning_allowed font name (Some (Shows s)) h = single_allowed InText (symbol InText None s).atom (symbol_allowed InText None s h)
 word_of_meaning_allowed font name (Some (FunctionName limits own)) h = tt
 word_of_meaning_allowed font name (Some Dots) h = single_allowed InText (symbol InText None low_dots).atom (symbol_allowed InText None low_dots refl)
+word_of_meaning_allowed font name (Some VerticalDots) h = single_allowed InText (symbol InText None column_dots).atom (symbol_allowed InText None column_dots refl)
+word_of_meaning_allowed font name (Some (Implication c)) h = single_allowed InText (symbol InText None (Sign Relation c)).atom (symbol_allowed InText None (Sign Relation c) h)
 word_of_meaning_allowed font name (Some (Spacing width)) h = word_space_allowed
 word_of_meaning_allowed font name (Some (Styled alphabet)) h = tt
 word_of_meaning_allowed font name (Some (TakesWordsIn alphabet)) h = tt

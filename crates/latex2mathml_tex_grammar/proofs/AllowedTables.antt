@@ -7,8 +7,8 @@ use Rattle.latex2mathml_tex_grammar.specs.Alphabets.{Blocks, blocks, in_alphabet
 use Rattle.latex2mathml_tex_grammar.specs.Commands.{command_entries, entry_meaning, entry_symbol, meaning_of, symbol_of}
 use Rattle.latex2mathml_tex_grammar.specs.{CommandsUpToL.commands_up_to_l, CommandsFromM.commands_from_m, Signs.sign_entries, TextCommands.text_accents, TextCommands.text_commands}
 use Rattle.latex2mathml_tex_grammar.specs.Delimiters.{delimiter_characters, delimiter_commands, delimiter_of, entry_of_character, entry_of_name, negated_characters, negated_commands, negated_of, text_of}
-use Rattle.latex2mathml_tex_grammar.specs.Meaning.{Meaning, Shows, FunctionName, Accent, Brace, Arrow}
-use Rattle.latex2mathml_tex_grammar.specs.Symbols.{Alphabet, Upright, Italic, Bold, BoldItalic, DoubleStruck, Fraktur, Calligraphic, SansSerif, Monospace, Symbol, Letter, UprightLetter, Sign, BigOperator, Integral}
+use Rattle.latex2mathml_tex_grammar.specs.Meaning.{Meaning, Implication, Shows, FunctionName, Accent, Brace, Arrow}
+use Rattle.latex2mathml_tex_grammar.specs.Symbols.{Alphabet, Upright, Named, Italic, Bold, BoldItalic, DoubleStruck, Fraktur, Calligraphic, SansSerif, Monospace, Symbol, Letter, UprightLetter, Sign, BigOperator, Integral}
 use Rattle.latex2mathml_tex_grammar.specs.Units.{Piece, Space, Open, Close, Command, Character}
 use Rattle.latex2mathml_tex_grammar.proofs.Choices.{of_either}
 
@@ -33,6 +33,7 @@ is_allowed_meaning (FunctionName limits name) = is_allowed_text name
 is_allowed_meaning (Accent side mark width) = is_allowed mark
 is_allowed_meaning (Brace side mark) = is_allowed mark
 is_allowed_meaning (Arrow sign_character) = is_allowed sign_character
+is_allowed_meaning (Implication sign_character) = is_allowed sign_character
 is_allowed_meaning meaning = true
 
 pub not_forbidden : (c : ℕ) → is_allowed c ≡ true → is_forbidden c ≡ false
@@ -204,6 +205,7 @@ AreHighIfAny (Some b) = AreHigh b
 
 blocks_high : (alphabet : Alphabet) → AreHighIfAny (blocks alphabet)
 blocks_high Upright = refl
+blocks_high Named = refl
 blocks_high Italic = record { capital = refl; small = refl; digit = refl; greek_capital = refl; greek_small = refl; elsewhere = refl }
 blocks_high Bold = record { capital = refl; small = refl; digit = refl; greek_capital = refl; greek_small = refl; elsewhere = refl }
 blocks_high BoldItalic = record { capital = refl; small = refl; digit = refl; greek_capital = refl; greek_small = refl; elsewhere = refl }

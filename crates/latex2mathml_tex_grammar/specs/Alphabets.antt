@@ -1,6 +1,6 @@
 -- The alphabets: letters and digits as the mathematical characters of Unicode, so that no style sheet is needed.
 use Rattle.std.specs.Prelude.{ℕ, ◌+◌, ◌-◌, ◌==◌, ◌&&◌, Bool, nat_le, List, [], ◌∷◌, Option, Some, None, if◌then◌else◌}
-use Rattle.latex2mathml_tex_grammar.specs.Symbols.{Alphabet, Upright, Italic, Bold, BoldItalic, DoubleStruck, Fraktur, Calligraphic, SansSerif, Monospace}
+use Rattle.latex2mathml_tex_grammar.specs.Symbols.{Alphabet, Upright, Named, Italic, Bold, BoldItalic, DoubleStruck, Fraktur, Calligraphic, SansSerif, Monospace}
 
 -- where an alphabet is: its first capital, small letter, digit, Greek capital and Greek small letter, where it has them
 pub record Blocks : Type 0 where
@@ -15,6 +15,7 @@ pub record Blocks : Type 0 where
 -- where the letters and digits of an alphabet are among Unicode's mathematical characters. Upright ones are ordinary characters.
 abbrev pub blocks : Alphabet → Option Blocks
 blocks Upright = None
+blocks Named = None
 blocks Italic = Some (record {
   capital = 0x1D434;
   small = 0x1D44E;

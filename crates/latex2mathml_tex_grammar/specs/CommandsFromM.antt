@@ -1,7 +1,7 @@
 -- The commands from those that begin with m, in the order of their names' bytes. A name is its bytes, without the
 -- backslash; a character is its code point, and is also shown after its line.
 use Rattle.std.specs.Prelude.{ℕ, pos, negsuc, List, [], ◌∷◌, Some, None, codes}
-use Rattle.latex2mathml_tex_grammar.specs.Meaning.{Meaning, Shows, FunctionName, Spacing, Skip, SkipInBraces, Boxed, Smash, Styled, Words, Fraction, Root, Accent, Brace, Stack, StackedRelation, OperatorName, Negation, Slash, Middle, Right, NoLimits, Classed, Changes, ToAlphabet, ToStyle, ToSize, Divides, words_apart, LineBreak, Substack, Raise, InColor, Highlight, Rectangle, Arrow, Choice}
+use Rattle.latex2mathml_tex_grammar.specs.Meaning.{Meaning, Shows, VerticalDots, FunctionName, Spacing, Skip, SkipInBraces, Boxed, Smash, Styled, Words, Fraction, Root, Accent, Brace, Stack, StackedRelation, OperatorName, Negation, Slash, Middle, Right, NoLimits, Classed, Changes, ToAlphabet, ToStyle, ToSize, Divides, words_apart, LineBreak, Substack, Raise, InColor, Highlight, Rectangle, Arrow, Choice}
 use Rattle.latex2mathml_tex_grammar.specs.Symbols.{Letter, UprightLetter, Sign, BigOperator, Integral, Ordinary, Operator, Binary, Relation, Opening, Closing, Punctuation, Inner, Upright, Italic, Bold, BoldItalic, DoubleStruck, Fraktur, Calligraphic, SansSerif, Monospace, InText, InScript, Tiny, ScriptSize, SixPoint, Small, NormalSize}
 use Rattle.latex2mathml_elements.specs.Attributes.{Above, Below, Stretching, Rigid}
 use Rattle.latex2mathml_tex_grammar.specs.Meaning.{Phantom, PhantomHeight, OverRight, OverLeft, OverBoth, StrikeTwice, Beside, ByStyle, Stacked, Bar, NoBar}
@@ -425,7 +425,7 @@ commands_from_m =
     (codes "varvdots", Shows (Sign Ordinary 0x22EE)) ∷  -- ⋮
     (codes "vcentcolon", Shows (Sign Relation 0x3A)) ∷  -- :
     (codes "vdash", Shows (Sign Relation 0x22A2)) ∷  -- ⊢
-    (codes "vdots", Shows (Sign Ordinary 0x22EE)) ∷  -- ⋮
+    (codes "vdots", VerticalDots) ∷
     (codes "vec", Accent Above 0x20D7 Stretching) ∷
     (codes "vee", Shows (Sign Binary 0x2228)) ∷  -- ∨
     (codes "veebar", Shows (Sign Binary 0x22BB)) ∷  -- ⊻

@@ -1,7 +1,7 @@
 -- The commands up to those that begin with l, in the order of their names' bytes. A name is its bytes, without the
 -- backslash; a character is its code point, and is also shown after its line.
 use Rattle.std.specs.Prelude.{ℕ, pos, negsuc, List, [], ◌∷◌, Some, None, codes}
-use Rattle.latex2mathml_tex_grammar.specs.Meaning.{Meaning, Dots, Shows, FunctionName, Spacing, Styled, Words, Fraction, Accent, Sized, Left, Limits, Changes, ToAlphabet, ToStyle, ToSize, Divides, words_apart, BeginTable, EndTable, LineBreak, Skip, SkipInBraces, ContinuedFraction, GeneralFraction, Boxed, PhantomWidth, StrikeUp, StrikeDown, Beside, ByStyle, Bar, NoBar, Braced, Bracketed, Bare, Frame, ToColor}
+use Rattle.latex2mathml_tex_grammar.specs.Meaning.{Meaning, Dots, Implication, Shows, FunctionName, Spacing, Styled, Words, Fraction, Accent, Sized, Left, Limits, Changes, ToAlphabet, ToStyle, ToSize, Divides, words_apart, BeginTable, EndTable, LineBreak, Skip, SkipInBraces, ContinuedFraction, GeneralFraction, Boxed, PhantomWidth, StrikeUp, StrikeDown, Beside, ByStyle, Bar, NoBar, Braced, Bracketed, Bare, Frame, ToColor}
 use Rattle.latex2mathml_tex_grammar.specs.Symbols.{Letter, UprightLetter, Sign, BigOperator, Integral, Ordinary, Binary, Relation, Opening, Closing, Punctuation, Inner, Italic, Bold, BoldItalic, DoubleStruck, Fraktur, Calligraphic, InDisplay, FootnoteSize, Large, VeryLarge, ExtraLarge, Huge, VeryHuge}
 use Rattle.latex2mathml_elements.specs.Attributes.{Above, Rigid, Big, Bigger, VeryBig, Biggest, Stretching}
 
@@ -390,15 +390,15 @@ commands_up_to_l =
     (codes "hspace", SkipInBraces) ∷
     (codes "huge", Changes (ToSize Huge)) ∷
     (codes "iddots", Shows (Sign Inner 0x22F0)) ∷  -- ⋰
-    (codes "iff", Shows (Sign Relation 0x27FA)) ∷  -- ⟺
+    (codes "iff", Implication 0x27FA) ∷  -- ⟺
     (codes "iiiint", Shows (Integral 0x2A0C)) ∷  -- ⨌
     (codes "iiint", Shows (Integral 0x222D)) ∷  -- ∭
     (codes "iint", Shows (Integral 0x222C)) ∷  -- ∬
     (codes "image", Shows (UprightLetter 0x2111)) ∷  -- ℑ
     (codes "imageof", Shows (Sign Relation 0x22B7)) ∷  -- ⊷
     (codes "imath", Shows (Letter 0x0131)) ∷  -- ı
-    (codes "impliedby", Shows (Sign Relation 0x27F8)) ∷  -- ⟸
-    (codes "implies", Shows (Sign Relation 0x27F9)) ∷  -- ⟹
+    (codes "impliedby", Implication 0x27F8) ∷  -- ⟸
+    (codes "implies", Implication 0x27F9) ∷  -- ⟹
     (codes "in", Shows (Sign Relation 0x2208)) ∷  -- ∈
     (codes "inf", FunctionName ByStyle (codes "inf")) ∷
     (codes "infin", Shows (Sign Ordinary 0x221E)) ∷  -- ∞

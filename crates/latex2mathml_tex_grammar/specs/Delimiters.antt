@@ -105,6 +105,9 @@ negated_commands =
     (codes "gtrsim", 0x2275) ∷  -- ≵
     (codes "hArr", 0x21CE) ∷  -- ⇎
     (codes "harr", 0x21AE) ∷  -- ↮
+    (codes "iff", 0x21CE) ∷  -- ⇎
+    (codes "impliedby", 0x21CD) ∷  -- ⇍
+    (codes "implies", 0x21CF) ∷  -- ⇏
     (codes "in", 0x2209) ∷  -- ∉
     (codes "isin", 0x2209) ∷  -- ∉
     (codes "lArr", 0x21CD) ∷  -- ⇍

@@ -1,8 +1,8 @@
 -- Dots: in the middle of the line before an operator or a relation, as in `a + \dots + b`, otherwise on the line.
 use Rattle.std.specs.Prelude.{Bool, true, false, Option, Some, None}
 use Rattle.latex2mathml_tex_grammar.specs.{Commands.meaning_of, Commands.symbol_of}
-use Rattle.latex2mathml_tex_grammar.specs.Meaning.{Meaning, Shows, StackedRelation, Negation, Arrow, Classed}
-use Rattle.latex2mathml_tex_grammar.specs.Symbols.{Class, Binary, Relation, Inner, Symbol, Sign, BigOperator, Integral}
+use Rattle.latex2mathml_tex_grammar.specs.Meaning.{Meaning, Shows, StackedRelation, Negation, Arrow, Implication, Classed}
+use Rattle.latex2mathml_tex_grammar.specs.Symbols.{Class, Ordinary, Binary, Relation, Inner, Symbol, Sign, BigOperator, Integral}
 use Rattle.latex2mathml_tex_grammar.specs.Units.{Piece, Character, Command}
 
 -- dots on the line
@@ -12,6 +12,10 @@ low_dots = Sign Inner 0x2026  -- …
 -- dots in the middle of the line
 abbrev pub centered_dots : Symbol
 centered_dots = Sign Inner 0x22EF  -- ⋯
+
+-- dots in a column
+abbrev pub column_dots : Symbol
+column_dots = Sign Ordinary 0x22EE  -- ⋮
 
 -- whether dots before an atom of this class are in the middle of the line
 abbrev pub class_centers : Class → Bool
@@ -32,6 +36,7 @@ meaning_centers (Shows symbol) = symbol_centers symbol
 meaning_centers StackedRelation = true
 meaning_centers Negation = true
 meaning_centers (Arrow c) = true
+meaning_centers (Implication c) = true
 meaning_centers (Classed class) = class_centers class
 meaning_centers meaning = false
 

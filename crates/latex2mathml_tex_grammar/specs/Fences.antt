@@ -1,7 +1,7 @@
 -- Delimiters: those around something, which may stretch, and those of one size.
 use Rattle.std.specs.Prelude.{ℕ, ◌==◌, ◌||◌, Bool, false, List, [], ◌∷◌, Option, Some, None, if◌then◌else◌}
 use Rattle.std.specs.Str.{chars}
-use Rattle.latex2mathml_elements.specs.Attributes.{Form, Prefix, Infix, Postfix, Stretch, Stretching, Rigid, Space, NoSpace, Thick, Size, Big, Bigger, VeryBig, Boxing, plain}
+use Rattle.latex2mathml_elements.specs.Attributes.{Form, Prefix, Infix, Postfix, Stretch, Stretching, Rigid, Space, NoSpace, NullDelimiterAfter, Thick, Size, Big, Bigger, VeryBig, Boxing, plain}
 use Rattle.latex2mathml_elements.specs.Element.{Mo, Mrow, Element, token, container, children}
 use Rattle.latex2mathml_tex_grammar.specs.Heights.{Height, Low, Raised, Tall, Taller}
 use Rattle.latex2mathml_tex_grammar.specs.Symbols.{Class, Opening, Closing, Relation, Style, InDisplay, InScript}
@@ -35,8 +35,9 @@ is_known Prefix c = opens c
 is_known Infix c = false
 is_known Postfix c = closes c
 
--- at any other one, and at an empty one, some browsers would leave a space
+-- at any other one some browsers would leave a space, and an empty one is as wide as TeX's null delimiter
 abbrev pub space_of : Form → List ℕ → Option Space
+space_of form [] = Some NullDelimiterAfter
 space_of form (c ∷ []) = if is_known form c then None else Some NoSpace
 space_of form characters = Some NoSpace
 

@@ -42,6 +42,7 @@ pub mod SignAttributes
 pub mod Signs
 pub mod Sorted
 pub mod SpaceTable
+pub mod SpacedSigns
 pub mod Spacing
 pub mod SpacingExamples
 pub mod Starts

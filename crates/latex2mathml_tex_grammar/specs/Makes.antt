@@ -1,9 +1,9 @@
 -- The atoms of each construct.
 use Rattle.std.specs.Prelude.{ℕ, zero, suc, ◌==◌, ◌||◌, ℤ, pos, Bool, true, false, List, [], ◌∷◌, ◌++◌, map, Option, Some, None, codes, if◌then◌else◌}
-use Rattle.std.specs.{Char.encode_utf8, Option.is_some, Str.encode_utf8_all}
+use Rattle.std.specs.{Char.encode_utf8, Option.is_some, Str.byte, Str.encode_utf8_all}
 use Rattle.latex2mathml_elements.specs.Attributes.{Attributes, Side, Above, Below, Stretch, Stretching, Rigid, Space, NoSpace, Narrow, Medium, Thick, ThinAfter, Size, Bigger, Boxing, NoWidth, Flat, NoHeight, NoDepth, ByItsWidth, ByHalfItsWidth, Framed, StruckUp, StruckDown, StruckTwice, NullDelimiters, ArrowLabel, Unclipped, boxed, MathStyle, DisplayStyle, TextStyle, ScriptStyle, plain}
 use Rattle.latex2mathml_elements.specs.Element.{Mi, Mn, Mo, Mrow, Msqrt, Mstyle, Mpadded, Mphantom, Mfrac, Mroot, Msub, Msup, Munder, Mover, Msubsup, Munderover, Element, token, space, rectangle, container, pair, triple, children}
-use Rattle.latex2mathml_tex_grammar.specs.{Alphabets.in_alphabet, Rows.Row, Rows.Operand, Rows.lone, Rows.row_element}
+use Rattle.latex2mathml_tex_grammar.specs.{Alphabets.in_alphabet, Rows.Row, Rows.Operand, Rows.empty_operator, Rows.lone, Rows.row_element}
 use Rattle.latex2mathml_elements.specs.{Extents.wide, Groups.grouped}
 use Rattle.latex2mathml_tex_grammar.specs.Atoms.{Atom, Kind, SignOf, PlusOrMinus, Plain, UprightLetters, UprightIdentifier, Unspaced, Blank, Divider, After, Before, Nothing, atom, element_there}
 use Rattle.latex2mathml_tex_grammar.specs.Meaning.{FractionRule, Bar, NoBar, Braced, Bracketed, Bare, LimitPlace, Beside, ByStyle, Movable, Stacked, Box, Phantom, PhantomWidth, PhantomHeight, Smashed, WithoutHeight, WithoutDepth, OverRight, OverLeft, OverBoth, Frame, StrikeUp, StrikeDown, StrikeTwice, Raised, Colored, OnColor}
@@ -11,7 +11,7 @@ use Rattle.latex2mathml_tex_grammar.specs.Fences.{delimited_fraction, fenced, si
 use Rattle.latex2mathml_tex_grammar.specs.Heights.{Height, Low, Raised, Tall, fraction_height, integral_height, larger, scripted_height, sized_height}
 use Rattle.latex2mathml_tex_grammar.specs.SignAttributes.{sign_attributes}
 use Rattle.latex2mathml_tex_grammar.specs.Widths.{room}
-use Rattle.latex2mathml_tex_grammar.specs.Symbols.{Class, Ordinary, Operator, Binary, Relation, Opening, Punctuation, Inner, Style, InDisplay, InText, InScript, Alphabet, Upright, Symbol, Letter, UprightLetter, Sign, BigOperator, Integral}
+use Rattle.latex2mathml_tex_grammar.specs.Symbols.{Class, Ordinary, Operator, Binary, Relation, Opening, Punctuation, Inner, Style, InDisplay, InText, InScript, Alphabet, Upright, Named, Symbol, Letter, UprightLetter, Sign, BigOperator, Integral}
 
 -- an atom, and where its limits are
 pub record Core : Type 0 where
@@ -39,6 +39,7 @@ upright = record plain { upright = true }
 -- a letter that is italic by itself
 abbrev pub letter : Option Alphabet → ℕ → Atom
 letter (Some Upright) c = atom UprightLetters Low (token Mi upright (text c))
+letter (Some Named) c = atom UprightLetters Low (token Mi upright (text c))
 letter (Some alphabet) c = atom (Plain Ordinary) Low (token Mi plain (text (in_alphabet alphabet c)))
 letter None c = atom (Plain Ordinary) Low (token Mi plain (text c))
 
@@ -69,6 +70,16 @@ sign_kind class c = SignOf class
 abbrev pub sign : Class → ℕ → Atom
 sign class c = atom (sign_kind class c) Low (token Mo (sign_attributes class c) (text c))
 
+-- a sign in the name of an operator: a minus is a hyphen there, and the sign of a product an asterisk
+abbrev pub sign_of_name : Class → ℕ → Atom
+sign_of_name class c =
+    if c == 0x2212 then letter (Some Named) (byte "-") else if c == 0x2217 then letter (Some Named) (byte "*") else sign class c
+
+-- a sign among letters of this alphabet
+abbrev pub sign_in : Option Alphabet → Class → ℕ → Atom
+sign_in (Some Named) class c = sign_of_name class c
+sign_in alphabet class c = sign class c
+
 -- a relation whose sign is this text
 abbrev pub relation : List ℕ → Atom
 relation sign_text = atom (SignOf Relation) Low (token Mo plain sign_text)
@@ -77,7 +88,7 @@ relation sign_text = atom (SignOf Relation) Low (token Mo plain sign_text)
 abbrev pub symbol : Style → Option Alphabet → Symbol → Core
 symbol style alphabet (Letter c) = core (letter alphabet c)
 symbol style alphabet (UprightLetter c) = core (upright_letter alphabet c)
-symbol style alphabet (Sign class c) = core (sign class c)
+symbol style alphabet (Sign class c) = core (sign_in alphabet class c)
 symbol style alphabet (BigOperator c) = operator Movable (atom (Plain Operator) Raised (token Mo plain (text c)))
 symbol style alphabet (Integral c) = core (atom (Plain Operator) (integral_height style) (token Mo plain (text c)))
 
@@ -299,10 +310,6 @@ abbrev pub in_style : Option Style → Element → Element
 in_style None x = x
 in_style (Some style) x = container Mstyle (style_attributes style) (children (x ∷ []))
 
--- an operator that is empty and has no space
-abbrev pub empty_operator : Element
-empty_operator = token Mo (record plain { space = Some NoSpace }) []
-
 -- Null delimiters are around a fraction that has no others. With an empty operator in its row it is ordinary in Firefox too, which
 -- leaves more space next to a fraction.
 abbrev pub unfenced : Element → Element
@@ -375,9 +382,14 @@ abbrev pub between_delimiters : List ℕ → List ℕ → Row → Core
 between_delimiters opening closing row =
     core (atom (Plain Inner) row.height (fenced row.height opening closing (row_element (lowered row.height row.elements))))
 
+-- a delimiter of one size as an element: a group, unless it is a relation, since some browsers draw no base of scripts in its size
+abbrev pub sized_element : Class → Element → Element
+sized_element Relation x = x
+sized_element class x = grouped x
+
 -- a delimiter of this size and class
 abbrev pub sized : Style → Size → Class → List ℕ → Core
-sized style size class sign_text = core (atom (Plain class) (sized_height size) (sized_delimiter style size class sign_text))
+sized style size class sign_text = core (atom (Plain class) (sized_height size) (sized_element class (sized_delimiter style size class sign_text)))
 
 -- Scripts
 

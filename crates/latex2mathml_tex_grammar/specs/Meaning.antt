@@ -67,6 +67,10 @@ pub data Meaning : Type 0 where
   FunctionName : LimitPlace → List ℕ → Meaning
   -- dots, in the middle of the line before an operator or a relation, otherwise on the line
   Dots : Meaning
+  -- the dots of a column, with space above them
+  VerticalDots : Meaning
+  -- a long arrow with a thick space at each side
+  Implication : ℕ → Meaning
   -- a space, in eighteenths of an em
   Spacing : ℤ → Meaning
   -- a space as wide as the length that comes next, or that comes next in braces

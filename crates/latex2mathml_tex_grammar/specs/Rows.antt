@@ -1,6 +1,7 @@
 -- Rows: the elements of atoms that are next to each other. Here the last element comes first.
-use Rattle.std.specs.Prelude.{ℕ, zero, ℤ, pos, Bool, true, false, ◌&&◌, List, [], ◌∷◌, ◌++◌, reverse, Option, None}
-use Rattle.latex2mathml_elements.specs.{Attributes.Attributes, Attributes.plain, Colors.Color, Element.Element, Element.Mrow, Element.token, Element.space, Element.container, Element.children}
+use Rattle.std.specs.Prelude.{ℕ, zero, ℤ, pos, Bool, true, false, ◌&&◌, List, [], ◌∷◌, ◌++◌, reverse, Option, None, Some, if◌then◌else◌}
+use Rattle.latex2mathml_elements.specs.Attributes.{Attributes, Form, Prefix, Postfix, Space, NoSpace, plain}
+use Rattle.latex2mathml_elements.specs.{Colors.Color, Element.Element, Element.Mo, Element.Mrow, Element.token, Element.space, Element.container, Element.children, Element.is_space_like}
 use Rattle.latex2mathml_tex_grammar.specs.Atoms.{Atom, Kind, SignOf, PlusOrMinus, Plain, UprightLetters, UprightIdentifier, Blank, Before, Nothing, After, kind_ends_operand, awaits_second, gap, past, element_there, element_as, without_space, without_space_after}
 use Rattle.latex2mathml_tex_grammar.specs.{Meaning.FractionRule}
 use Rattle.latex2mathml_tex_grammar.specs.Heights.{Height, Low, larger}
@@ -152,10 +153,39 @@ appended style row x = record {
 abbrev pub with_atom : Style → Row → Atom → Row
 with_atom style row x = appended style (row_before x.kind row) x
 
+-- an operator that is empty and has no space
+abbrev pub empty_operator : Element
+empty_operator = token Mo (record plain { space = Some NoSpace }) []
+
+-- whether a sign of this form and space has space at its sides
+abbrev pub has_space : Option Form → Option Space → Bool
+has_space (Some Prefix) width = false
+has_space (Some Postfix) width = false
+has_space form (Some NoSpace) = false
+has_space form width = true
+
+-- whether an element is a sign with space at its sides
+abbrev pub is_spaced_sign : Element → Bool
+is_spaced_sign (token Mo a text) = has_space a.form a.space
+is_spaced_sign x = false
+
+abbrev pub are_space_like : List Element → Bool
+are_space_like [] = true
+are_space_like (x ∷ xs) = is_space_like x && are_space_like xs
+
+-- whether MathML takes a row of these elements for a sign, since the others are words and spaces
+abbrev pub are_like_sign : List Element → Bool
+are_like_sign [] = false
+are_like_sign (x ∷ xs) = if is_spaced_sign x then are_space_like xs else is_space_like x && are_like_sign xs
+
+-- the elements of a row: with a second operator, a browser leaves the space of a sign next to the sign, and not around the row
+abbrev pub row_elements : List Element → List Element
+row_elements xs = if are_like_sign xs then empty_operator ∷ xs else xs
+
 -- elements that are next to each other, as one
 abbrev pub row_element : List Element → Element
 row_element (x ∷ []) = x
-row_element xs = container Mrow plain (children (reverse xs))
+row_element xs = container Mrow plain (children (reverse (row_elements xs)))
 
 -- whether an element of this kind loses its space where nothing is next to it
 abbrev pub is_spaced : Kind → Bool

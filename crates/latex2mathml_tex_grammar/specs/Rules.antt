@@ -7,13 +7,14 @@ use Rattle.latex2mathml_tex_grammar.specs.{Atoms.After, Atoms.Before, Atoms.Noth
 use Rattle.latex2mathml_tex_grammar.specs.Environments.{Environment, Bracket, NoBracket, Position, Alignment, columns_of, fitted, listed, written_out, environment_of}
 use Rattle.latex2mathml_tex_grammar.specs.Heights.{Low}
 use Rattle.latex2mathml_tex_grammar.specs.Makes.{Core, core, letter, upright_letter, number, relation, symbol, function_name, spacing, braced, group, classed, no_letters, operator_name, accent, brace, stack, stacked_relation, fraction, square_root, root, between_delimiters, sized, struck, blank, boxed_atom, bar, arrow, Outline, outlined_fraction, choice}
-use Rattle.latex2mathml_tex_grammar.specs.Meaning.{Meaning, Shows, FunctionName, Dots, Spacing, Styled, Words as TakesWordsIn, Fraction, Root, Accent, Brace, Stack, StackedRelation, OperatorName, Negation, Slash, Sized, Left, Middle, Right, Limits, NoLimits, Classed, Changes, Beside, ByStyle, FractionRule, BeginTable, EndTable, LineBreak, Substack, Skip, SkipInBraces, Box, Smashed, WithoutHeight, WithoutDepth, Boxed, Smash, Raise, InColor, Highlight, Rectangle, Arrow, Raised, Colored, OnColor, ContinuedFraction, GeneralFraction, Bar, Choice}
+use Rattle.latex2mathml_tex_grammar.specs.Meaning.{Meaning, Shows, FunctionName, Dots, VerticalDots, Implication, Spacing, Styled, Words as TakesWordsIn, Fraction, Root, Accent, Brace, Stack, StackedRelation, OperatorName, Negation, Slash, Sized, Left, Middle, Right, Limits, NoLimits, Classed, Changes, Beside, ByStyle, FractionRule, BeginTable, EndTable, LineBreak, Substack, Skip, SkipInBraces, Box, Smashed, WithoutHeight, WithoutDepth, Boxed, Smash, Raise, InColor, Highlight, Rectangle, Arrow, Raised, Colored, OnColor, ContinuedFraction, GeneralFraction, Bar, Choice}
 use Rattle.latex2mathml_tex_grammar.specs.Refusal.{UnknownCommand, MissingArgument, MissingDelimiter, ChangeAsArgument, UnopenedBrace, RightWithoutLeft, MiddleWithoutLeft, LimitsWithoutOperator, NothingToNegate, OutsideTable, MisplacedCharacter, Refusal, refusal_at, UnknownEnvironment, EndWithoutBegin, OtherName, TooManyColumns, IncompleteArrow, LengthTooLarge, UnknownColor}
 use Rattle.latex2mathml_tex_grammar.specs.Scanning.{Spot, Argument, Name, ColumnList, RepeatedColumns, Number, BeforeArgument, BeforeBrace, BeforePosition, AtUnit, BeforeLengthInBraces, BeforeStar, InLength, AtBracket, ColorName, BeforeColor}
 use Rattle.latex2mathml_tex_grammar.specs.{Colors.color_of, Lengths.width_of}
 use Rattle.latex2mathml_tex_grammar.specs.Diagrams.{Direction, DiagramArrow, Labeled, LongEquals, HighBars, NoArrow, direction_sign, in_diagram, labeled_arrow, long_equals, high_bars}
 use Rattle.latex2mathml_elements.specs.Colors.{Color}
-use Rattle.latex2mathml_tex_grammar.specs.Symbols.{Style, InDisplay, InText, InScript, smaller, TextSize, NormalSize, at_full_size, Alphabet, Upright, Opening, Ordinary, Relation, Symbol}
+use Rattle.latex2mathml_tex_grammar.specs.SpacedSigns.{implication, vertical_dots}
+use Rattle.latex2mathml_tex_grammar.specs.Symbols.{Style, InDisplay, InText, InScript, smaller, TextSize, NormalSize, at_full_size, Alphabet, Named, Opening, Ordinary, Relation, Symbol}
 use Rattle.latex2mathml_tex_grammar.specs.Tables.{Lines, a_table}
 use Rattle.latex2mathml_tex_grammar.specs.Units.{Piece, Space, Open, Close, Command, Character}
 use Rattle.latex2mathml_tex_grammar.specs.Words.{Words, formula_alphabet, words_atom}
@@ -197,8 +198,8 @@ a_root place c =
 -- the name of an operator, in upright letters; with a star it has limits
 abbrev pub an_operator_name : ℕ → Context → Rule
 an_operator_name place c =
-    let upright = lettered c Upright in
-    takes_if (a_character (byte "*") ∷ []) (λ star. of_one place upright (operator_name ByStyle)) (of_one place upright (operator_name Beside))
+    let named = lettered c Named in
+    takes_if (a_character (byte "*") ∷ []) (λ star. of_one place named (operator_name ByStyle)) (of_one place named (operator_name Beside))
 
 -- an atom with a stroke through it, where it is a leaf
 abbrev pub struck_atom : ℕ → Core → Option Element → Rule
@@ -427,6 +428,8 @@ abbrev pub meaning_rule : ℕ → Context → Meaning → Rule
 meaning_rule place c (Shows s) = gives (symbol c.style c.alphabet s)
 meaning_rule place c (FunctionName limits name) = gives (function_name limits name)
 meaning_rule place c Dots = some_dots c
+meaning_rule place c VerticalDots = gives vertical_dots
+meaning_rule place c (Implication arrow_sign) = gives (implication arrow_sign)
 meaning_rule place c (Spacing width) = gives (core (spacing width))
 meaning_rule place c Skip = a_skip place (InLength AtUnit)
 meaning_rule place c SkipInBraces = passes_over BeforeStar (a_skip place BeforeLengthInBraces)

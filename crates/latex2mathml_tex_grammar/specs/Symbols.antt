@@ -73,6 +73,8 @@ at_full_size style = style
 -- an alphabet for letters and digits
 pub data Alphabet : Type 0 where
   Upright : Alphabet
+  -- upright as well, in the name of an operator
+  Named : Alphabet
   Italic : Alphabet
   Bold : Alphabet
   BoldItalic : Alphabet

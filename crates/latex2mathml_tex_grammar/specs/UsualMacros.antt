@@ -98,10 +98,7 @@ usual_entries =
     (codes "htmlId", 2, codes "#2") ∷
     (codes "htmlStyle", 2, codes "#2") ∷
     (codes "idotsint", 0, codes "\\int\\cdots\\int") ∷
-    (codes "iff", 0, codes "\\;\\Longleftrightarrow\\;") ∷
     (codes "ignorespaces", 0, codes "") ∷
-    (codes "impliedby", 0, codes "\\;\\Longleftarrow\\;") ∷
-    (codes "implies", 0, codes "\\;\\Longrightarrow\\;") ∷
     (codes "index", 1, codes "") ∷
     (codes "intertext", 1, codes "\\\\\\mathrlap{\\text{#1}}\\\\") ∷
     (codes "itshape", 0, codes "\\it") ∷

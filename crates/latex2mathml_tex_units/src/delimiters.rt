@@ -166,7 +166,7 @@ static DELIMITERS: [Named; 48] = [
 ];
 
 #[rattlefmt::skip]
-static NEGATED: [Named; 69] = [
+static NEGATED: [Named; 72] = [
     Named { name: "Harr", character: '⇎' },
     Named { name: "Larr", character: '⇍' },
     Named { name: "Leftarrow", character: '⇍' },
@@ -189,6 +189,9 @@ static NEGATED: [Named; 69] = [
     Named { name: "gtrsim", character: '≵' },
     Named { name: "hArr", character: '⇎' },
     Named { name: "harr", character: '↮' },
+    Named { name: "iff", character: '⇎' },
+    Named { name: "impliedby", character: '⇍' },
+    Named { name: "implies", character: '⇏' },
     Named { name: "in", character: '∉' },
     Named { name: "isin", character: '∉' },
     Named { name: "lArr", character: '⇍' },

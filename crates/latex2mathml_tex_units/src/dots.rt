@@ -14,6 +14,9 @@ pub const LOW_DOTS: Symbol = Symbol::Sign(Class::Inner, '…');
 /// Dots in the middle of the line.
 pub const CENTERED_DOTS: Symbol = Symbol::Sign(Class::Inner, '⋯');
 
+/// Dots in a column.
+pub const COLUMN_DOTS: Symbol = Symbol::Sign(Class::Ordinary, '⋮');
+
 /// Whether dots before this piece are in the middle of the line.
 pub fn centers_dots(piece: Piece) -> bool
     ensures { result ≡ Dots.centers_dots (piece_of piece.entry) }
@@ -37,7 +40,10 @@ fn meaning_centers(meaning: Meaning) -> bool
     match meaning {
         Meaning::Shows(symbol) => symbol_centers(symbol),
         Meaning::Classed(class) => class_centers(class),
-        Meaning::StackedRelation | Meaning::Negation | Meaning::Arrow(_) => true,
+        Meaning::StackedRelation
+        | Meaning::Negation
+        | Meaning::Arrow(_)
+        | Meaning::Implication(_) => true,
         _ => false,
     }
 }

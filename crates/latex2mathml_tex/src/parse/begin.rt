@@ -16,7 +16,7 @@ use crate::parse::{Parser, State};
 use latex2mathml_attributes::attributes::{Attributes, Size};
 use latex2mathml_attributes::tag::Token;
 use latex2mathml_tex_atoms::atoms::{Context, Core, Kind, Row, Words};
-use latex2mathml_tex_atoms::delimiters::put_sized;
+use latex2mathml_tex_atoms::delimiters::put_big;
 use latex2mathml_tex_atoms::heights::Height;
 use latex2mathml_tex_commands::commands;
 use latex2mathml_tex_commands::meaning::{Alphabet, Class, LimitPlace, Meaning, Style};
@@ -180,6 +180,8 @@ impl<'a> Parser<'a> {
             Meaning::Shows(symbol) => self.symbol(context, symbol, next),
             Meaning::FunctionName(limits, name) => self.function_name(limits, name, next),
             Meaning::Dots => self.dots(context, next),
+            Meaning::VerticalDots => self.vertical_dots(next),
+            Meaning::Implication(sign) => self.implication(sign, next),
             Meaning::Spacing(width) => self.space(width, next),
             Meaning::Skip => self.skip(Spot::InLength(LengthEnd::AtUnit), place, context, next),
             Meaning::SkipInBraces => self.skip_in_braces(place, context, next),
@@ -336,7 +338,7 @@ impl<'a> Parser<'a> {
                 Last::OperatorName(limits),
                 place,
                 Context {
-                    alphabet: Some(Alphabet::Upright),
+                    alphabet: Some(Alphabet::Named),
                     ..context
                 },
             ),
@@ -418,7 +420,7 @@ impl<'a> Parser<'a> {
             *next = self.refuse_delimiter();
             return Ok(());
         };
-        put_sized(&mut self.builder, style, size, class, delimiter)?;
+        put_big(&mut self.builder, style, size, class, delimiter)?;
         *next = State::Core(Core::new(Kind::Plain(class), Height::of_size(size)));
         Ok(())
     }

@@ -16,7 +16,7 @@ use latex2mathml_tex_atoms::atoms::Row;
 use latex2mathml_tex_atoms::diagrams::{
     put_bare_arrow, put_first_label, put_high_bars, put_labeled_arrow, put_long_equals,
 };
-use latex2mathml_tex_atoms::shapes::{put_braced, put_row};
+use latex2mathml_tex_atoms::rows::{put_braced, put_row};
 use latex2mathml_tex_commands::diagrams::DiagramArrow;
 use latex2mathml_tex_commands::meaning::Style;
 use latex2mathml_tex_units::error::TexErrorKind;

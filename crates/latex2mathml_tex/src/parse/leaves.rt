@@ -3,6 +3,7 @@ ghost use Rattle.std.specs.Prelude.{◌≡◌, ◌+◌, ◌<◌, ◌∷◌, [], 
 ghost use Rattle.latex2mathml_builder.specs.{Built.elements_in, Stacks.lengthened};
 ghost use Rattle.latex2mathml_tex_grammar.specs.Heights.{Low};
 ghost use Rattle.latex2mathml_tex_grammar.specs.Makes;
+ghost use Rattle.latex2mathml_tex_grammar.specs.SpacedSigns;
 ghost use Rattle.latex2mathml_tex_grammar.specs.Makes.{core, digits_in};
 ghost use Rattle.latex2mathml_tex_grammar.specs.Next.{digits_next};
 ghost use Rattle.latex2mathml_tex_grammar.specs.{Atoms.Plain, Atoms.atom, Symbols.Ordinary};
@@ -23,7 +24,9 @@ use crate::parse::{Parser, State};
 use latex2mathml_attributes::attributes::Attributes;
 use latex2mathml_attributes::tag::Token;
 use latex2mathml_builder::builder::Builder;
+use latex2mathml_tex_atoms::arrows::put_implication;
 use latex2mathml_tex_atoms::atoms::{Context, Core, Kind};
+use latex2mathml_tex_atoms::boxes::put_vertical_dots;
 use latex2mathml_tex_atoms::heights::Height;
 use latex2mathml_tex_commands::alphabets::in_alphabet;
 use latex2mathml_tex_commands::meaning::{Alphabet, Class, LimitPlace, Symbol};
@@ -144,6 +147,30 @@ impl<'a> Parser<'a> {
             digits(&mut self.input, &mut self.builder, alphabet)?;
         }
         Ok(number())
+    }
+
+    /// Puts the dots of a column.
+    pub(crate) fn vertical_dots(&mut self, next: &mut State) -> Result<(), AllocError>
+        requires { CanBegin 0 self.old }
+        ensures holds { LeadsOn (Begins (gives SpacedSigns.vertical_dots) 0)
+            self.old self.new next.new result }
+        ensures step { Advances 13 self.old self.new next.new result }
+    {
+        put_vertical_dots(&mut self.builder)?;
+        *next = State::Core(Core::new(Kind::Plain(Class::Ordinary), Height::VeryTall));
+        Ok(())
+    }
+
+    /// Puts a long arrow with a thick space at each side.
+    pub(crate) fn implication(&mut self, sign: char, next: &mut State) -> Result<(), AllocError>
+        requires { CanBegin 0 self.old }
+        ensures holds { LeadsOn (Begins (gives (SpacedSigns.implication sign)) 0)
+            self.old self.new next.new result }
+        ensures step { Advances 13 self.old self.new next.new result }
+    {
+        put_implication(&mut self.builder, sign)?;
+        *next = State::Core(Core::new(Kind::Unspaced(Class::Relation), Height::Low));
+        Ok(())
     }
 
     /// Puts a character that is a sign or a letter. Any other character is put as a letter.

@@ -15,7 +15,7 @@ use crate::parse::scripts::mark_of;
 use crate::parse::symbols::{put_letter, put_symbol};
 use crate::parse::{Parser, State};
 use latex2mathml_tex_atoms::atoms::{Context, Core, Row};
-use latex2mathml_tex_atoms::shapes::isolate;
+use latex2mathml_tex_atoms::rows::isolate;
 use latex2mathml_tex_commands::commands;
 use latex2mathml_tex_commands::meaning::Meaning;
 use latex2mathml_tex_commands::signs::symbol_of;

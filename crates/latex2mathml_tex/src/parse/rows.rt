@@ -19,7 +19,8 @@ use latex2mathml_tex_atoms::atoms::{Context, Core, Kind, Operand, Row, Scripts, 
 use latex2mathml_tex_atoms::delimiters::{enclose, lower_dividers, put_divider};
 use latex2mathml_tex_atoms::heights::Height;
 use latex2mathml_tex_atoms::rests::{Division, Look, begin_anew, divide, finish};
-use latex2mathml_tex_atoms::shapes::{isolate, ordinary_kind, put_braced, put_row, with_atom};
+use latex2mathml_tex_atoms::rows::{isolate, put_braced, put_row};
+use latex2mathml_tex_atoms::shapes::{ordinary_kind, with_atom};
 use latex2mathml_tex_commands::commands;
 use latex2mathml_tex_commands::meaning::{Change, Class, LimitPlace, Meaning, Style};
 use latex2mathml_tex_units::error::TexErrorKind;

@@ -35,7 +35,7 @@ pub(crate) fn put_symbol(
     match symbol {
         Symbol::Letter(c) => put_letter(builder, context.alphabet, c),
         Symbol::UprightLetter(c) => put_upright_letter(builder, context.alphabet, c),
-        Symbol::Sign(class, c) => put_sign(builder, class, c),
+        Symbol::Sign(class, c) => put_sign_in(builder, context.alphabet, class, c),
         Symbol::BigOperator(c) => put_operator(builder, c, LimitPlace::Movable, Height::Raised),
         Symbol::Integral(c) => {
             let height = Height::of_integral(context.style);
@@ -69,7 +69,7 @@ fn put_letter_in(builder: &mut Builder, alphabet: Alphabet, c: char) -> Result<C
         builder.old builder.new) }
 {
     match alphabet {
-        Alphabet::Upright => {
+        Alphabet::Upright | Alphabet::Named => {
             let letters = Core::new(Kind::UprightLetters, Height::Low);
             put_character(builder, Token::Mi, Attributes::upright(), c, letters)
         }
@@ -100,19 +100,48 @@ pub(crate) fn put_upright_letter(
     }
 }
 
+/// Puts a sign of this class among letters of this alphabet.
+#[inline(always)]
+fn put_sign_in(
+    builder: &mut Builder,
+    alphabet: Option<Alphabet>,
+    class: Class,
+    c: char,
+) -> Result<Core, AllocError>
+    ensures { IfOk result (PutsCore
+        (core (Makes.sign_in (option_map alphabet_of alphabet) (class_of class) c))
+        builder.old builder.new) }
+{
+    match alphabet {
+        Some(Alphabet::Named) => put_sign_of_name(builder, class, c),
+        _ => put_sign(builder, class, c),
+    }
+}
+
+/// Puts a sign in the name of an operator. A minus is a hyphen there, and the sign of a product an asterisk.
+#[inline(never)]
+fn put_sign_of_name(builder: &mut Builder, class: Class, c: char) -> Result<Core, AllocError>
+    ensures { IfOk result (PutsCore (core (Makes.sign_of_name (class_of class) c))
+        builder.old builder.new) }
+{
+    match c {
+        '−' => put_letter_in(builder, Alphabet::Named, '-'),
+        '∗' => put_letter_in(builder, Alphabet::Named, '*'),
+        _ => put_sign(builder, class, c),
+    }
+}
+
 /// Puts a sign of this class. Most signs have no attributes.
 #[inline(always)]
 fn put_sign(builder: &mut Builder, class: Class, c: char) -> Result<Core, AllocError>
     ensures { IfOk result (PutsCore (core (Makes.sign (class_of class) c))
         builder.old builder.new) }
 {
-    match class {
-        Class::Binary | Class::Relation if is_plain(c) => {
-            let sign = Core::new(sign_kind(class, c), Height::Low);
-            put_character(builder, Token::Mo, Attributes::plain(), c, sign)
-        }
-        class => put_other_sign(builder, class, c),
+    if !is_plain(class, c) {
+        return put_other_sign(builder, class, c);
     }
+    let sign = Core::new(sign_kind(class, c), Height::Low);
+    put_character(builder, Token::Mo, Attributes::plain(), c, sign)
 }
 
 /// Puts a sign of this class, which may have attributes.
@@ -181,24 +210,36 @@ fn sign_attributes(class: Class, c: char) -> Attributes
             ..Attributes::plain()
         },
         Class::Operator => Attributes::plain(),
-        Class::Binary if grows(c) => Attributes {
-            keeps_size: true,
-            ..Attributes::plain()
-        },
-        Class::Binary => rigid(c),
-        Class::Relation if lacks_space(c) => Attributes {
-            space: Some(Space::Thick),
-            ..Attributes::plain()
-        },
-        Class::Relation => rigid(c),
+        Class::Binary => binary_attributes(c),
+        Class::Relation => relation_attributes(c),
     }
 }
 
-/// Returns the attributes of a sign that must not be stretched.
-fn rigid(c: char) -> Attributes
-    ensures { attributes_of result ≡ SignAttributes.rigid c }
+/// Returns the attributes of a binary sign.
+fn binary_attributes(c: char) -> Attributes
+    ensures { attributes_of result ≡ SignAttributes.binary_attributes c }
 {
-    if stretches(c) {
+    Attributes {
+        space: if lacks_medium_space(c) {
+            Some(Space::Medium)
+        } else {
+            None
+        },
+        keeps_size: grows(c),
+        ..Attributes::plain()
+    }
+}
+
+/// Returns the attributes of a relation.
+fn relation_attributes(c: char) -> Attributes
+    ensures { attributes_of result ≡ SignAttributes.relation_attributes c }
+{
+    if lacks_thick_space(c) {
+        Attributes {
+            space: Some(Space::Thick),
+            ..Attributes::plain()
+        }
+    } else if stretches(c) {
         Attributes {
             stretch: Some(Stretch::Rigid),
             ..Attributes::plain()
@@ -255,17 +296,76 @@ fn is_plus_or_minus(c: char) -> bool
     matches!(c, '+' | '−' | '±' | '∓')
 }
 
-/// Whether a binary sign or a relation has no attributes. In ASCII, all but two do not, and most signs are in ASCII.
+/// Whether a sign has no attributes, as most binary signs and relations have none.
 #[inline(always)]
-fn is_plain(c: char) -> bool
+fn is_plain(class: Class, c: char) -> bool
+    ensures { IsTrue result → SignAttributes.sign_attributes (class_of class) c ≡ plain }
+{
+    match class {
+        Class::Binary => !lacks_medium_space(c) && !grows(c),
+        Class::Relation => is_plain_relation(c),
+        _ => false,
+    }
+}
+
+/// Whether a relation has no attributes. In ASCII, all but two have none, and most relations are in ASCII.
+#[inline(always)]
+fn is_plain_relation(c: char) -> bool
     ensures stretches { IsTrue result → SignAttributes.stretches c ≡ false }
-    ensures space { IsTrue result → SignAttributes.lacks_space c ≡ false }
-    ensures size { IsTrue result → SignAttributes.grows c ≡ false }
+    ensures space { IsTrue result → SignAttributes.lacks_thick_space c ≡ false }
 {
     if c.is_ascii() {
         return c != '|' && c != ':';
     }
-    !stretches(c) && !lacks_space(c) && !grows(c)
+    !stretches(c) && !lacks_thick_space(c)
+}
+
+/// Whether browsers leave another space around the binary sign than TeX.
+fn lacks_medium_space(c: char) -> bool
+    ensures { result ≡ SignAttributes.lacks_medium_space c }
+{
+    matches!(
+        c,
+        '&' | '·'
+            | '×'
+            | '†'
+            | '‡'
+            | '∗'
+            | '∘'
+            | '∙'
+            | '≀'
+            | '⊗'
+            | '⊙'
+            | '⊚'
+            | '⊛'
+            | '⊠'
+            | '⊡'
+            | '⊲'
+            | '⊳'
+            | '⊴'
+            | '⊵'
+            | '⊺'
+            | '⋄'
+            | '⋅'
+            | '⋆'
+            | '⋇'
+            | '⋉'
+            | '⋊'
+            | '⋋'
+            | '⋌'
+            | '⋖'
+            | '⋗'
+            | '△'
+            | '▷'
+            | '▹'
+            | '▽'
+            | '◁'
+            | '◃'
+            | '◯'
+            | '⦵'
+            | '⨿'
+            | '﹨'
+    )
 }
 
 /// Whether some browsers draw the binary sign larger in the style of a block.
@@ -275,11 +375,14 @@ fn grows(c: char) -> bool
     matches!(c, '⊎' | '⊕' | '⊖' | '⊗' | '⊙')
 }
 
-/// Whether browsers leave another space around the relation than TeX.
-fn lacks_space(c: char) -> bool
-    ensures { result ≡ SignAttributes.lacks_space c }
+/// Whether browsers leave another space around the relation than TeX, in the middle of a row or at its beginning.
+fn lacks_thick_space(c: char) -> bool
+    ensures { result ≡ SignAttributes.lacks_thick_space c }
 {
-    matches!(c, ':' | '∴' | '∵' | '⌢' | '⌣')
+    matches!(
+        c,
+        ':' | '−' | '∴' | '∵' | '∼' | '⌢' | '⌣' | '△' | '▶' | '◀' | '⧄' | '⧅' | '⧈'
+    )
 }
 
 /// Whether MathML stretches the sign but TeX does not.

@@ -29,7 +29,7 @@ use latex2mathml_tex_atoms::atoms::{Context, Core, Kind, Row};
 use latex2mathml_tex_atoms::boxes::put_strut;
 use latex2mathml_tex_atoms::delimiters::enclose;
 use latex2mathml_tex_atoms::heights::Height;
-use latex2mathml_tex_atoms::shapes::put_braced;
+use latex2mathml_tex_atoms::rows::put_braced;
 use latex2mathml_tex_commands::meaning::{Class, Style};
 use latex2mathml_tex_units::environments::Environment;
 use latex2mathml_tex_units::error::TexErrorKind;

@@ -108,15 +108,15 @@ pub(crate) fn letter_i() -> &'static [Entry]
 #[rattlefmt::skip]
 static LETTER_I: [Entry; 21] = [
     Entry { name: "iddots", key: 0x6964646f74730000, meaning: Meaning::Shows(Symbol::Sign(Class::Inner, '⋰')) },
-    Entry { name: "iff", key: 0x6966660000000000, meaning: Meaning::Shows(Symbol::Sign(Class::Relation, '⟺')) },
+    Entry { name: "iff", key: 0x6966660000000000, meaning: Meaning::Implication('⟺') },
     Entry { name: "iiiint", key: 0x696969696e740000, meaning: Meaning::Shows(Symbol::Integral('⨌')) },
     Entry { name: "iiint", key: 0x6969696e74000000, meaning: Meaning::Shows(Symbol::Integral('∭')) },
     Entry { name: "iint", key: 0x69696e7400000000, meaning: Meaning::Shows(Symbol::Integral('∬')) },
     Entry { name: "image", key: 0x696d616765000000, meaning: Meaning::Shows(Symbol::UprightLetter('ℑ')) },
     Entry { name: "imageof", key: 0x696d6167656f6600, meaning: Meaning::Shows(Symbol::Sign(Class::Relation, '⊷')) },
     Entry { name: "imath", key: 0x696d617468000000, meaning: Meaning::Shows(Symbol::Letter('ı')) },
-    Entry { name: "impliedby", key: 0x696d706c69656462, meaning: Meaning::Shows(Symbol::Sign(Class::Relation, '⟸')) },
-    Entry { name: "implies", key: 0x696d706c69657300, meaning: Meaning::Shows(Symbol::Sign(Class::Relation, '⟹')) },
+    Entry { name: "impliedby", key: 0x696d706c69656462, meaning: Meaning::Implication('⟸') },
+    Entry { name: "implies", key: 0x696d706c69657300, meaning: Meaning::Implication('⟹') },
     Entry { name: "in", key: 0x696e000000000000, meaning: Meaning::Shows(Symbol::Sign(Class::Relation, '∈')) },
     Entry { name: "inf", key: 0x696e660000000000, meaning: Meaning::FunctionName(LimitPlace::ByStyle, "inf") },
     Entry { name: "infin", key: 0x696e66696e000000, meaning: Meaning::Shows(Symbol::Sign(Class::Ordinary, '∞')) },

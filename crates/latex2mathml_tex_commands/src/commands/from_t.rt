@@ -165,7 +165,7 @@ static LETTER_V: [Entry; 28] = [
     Entry { name: "varvdots", key: 0x76617276646f7473, meaning: Meaning::Shows(Symbol::Sign(Class::Ordinary, '⋮')) },
     Entry { name: "vcentcolon", key: 0x7663656e74636f6c, meaning: Meaning::Shows(Symbol::Sign(Class::Relation, ':')) },
     Entry { name: "vdash", key: 0x7664617368000000, meaning: Meaning::Shows(Symbol::Sign(Class::Relation, '⊢')) },
-    Entry { name: "vdots", key: 0x76646f7473000000, meaning: Meaning::Shows(Symbol::Sign(Class::Ordinary, '⋮')) },
+    Entry { name: "vdots", key: 0x76646f7473000000, meaning: Meaning::VerticalDots },
     Entry { name: "vec", key: 0x7665630000000000, meaning: Meaning::Accent(Side::Above, '\u{20D7}', Stretch::Stretching) },
     Entry { name: "vee", key: 0x7665650000000000, meaning: Meaning::Shows(Symbol::Sign(Class::Binary, '∨')) },
     Entry { name: "veebar", key: 0x7665656261720000, meaning: Meaning::Shows(Symbol::Sign(Class::Binary, '⊻')) },

@@ -31,7 +31,7 @@ fn entries() -> &'static [Usual]
 
 /// An entry for each macro, in the order of their names' bytes.
 #[rattlefmt::skip]
-static ENTRIES: [Usual; 185] = [
+static ENTRIES: [Usual; 182] = [
     Usual { name: "(", arity: 0, body: "$" },
     Usual { name: ")", arity: 0, body: "$" },
     Usual { name: "*", arity: 0, body: "" },
@@ -121,10 +121,7 @@ static ENTRIES: [Usual; 185] = [
     Usual { name: "htmlId", arity: 2, body: "#2" },
     Usual { name: "htmlStyle", arity: 2, body: "#2" },
     Usual { name: "idotsint", arity: 0, body: "\\int\\cdots\\int" },
-    Usual { name: "iff", arity: 0, body: "\\;\\Longleftrightarrow\\;" },
     Usual { name: "ignorespaces", arity: 0, body: "" },
-    Usual { name: "impliedby", arity: 0, body: "\\;\\Longleftarrow\\;" },
-    Usual { name: "implies", arity: 0, body: "\\;\\Longrightarrow\\;" },
     Usual { name: "index", arity: 1, body: "" },
     Usual { name: "intertext", arity: 1, body: "\\\\\\mathrlap{\\text{#1}}\\\\" },
     Usual { name: "itshape", arity: 0, body: "\\it" },

@@ -1,5 +1,5 @@
 use Rattle.std.proofs.Common.{[], ◌∷◌, arith}
-use Rattle.latex2mathml_tex_grammar.specs.{Makes.operator_name, Meaning.Beside, Meaning.ByStyle, Symbols.Upright}
+use Rattle.latex2mathml_tex_grammar.specs.{Makes.operator_name, Meaning.Beside, Meaning.ByStyle, Symbols.Named}
 use Rattle.latex2mathml_tex_grammar.specs.Rules.{a_character, gives, lettered, of_one}
 use Rattle.latex2mathml_tex_units.specs.Left.{units_at}
 use Rattle.latex2mathml_tex_commands.specs.Meanings.{limit_place_of}
@@ -14,10 +14,10 @@ pub returns-clause-holds : goal.returns-clause-holds
 returns-clause-holds c = λ s g.
     let p = c.args.self.now in
     let i = c.take_character.new.self in
-    let upright = lettered (context_of c.args.context) Upright in
-    let due : Begins (of_one c.args.place upright (operator_name (limit_place_of c.if-take_character.limits))) 0 s (record p { input = i }) = elim c.if-take_character.branch [
-      | then-take_character w ↦ rw w.limits-is (past_units s p i (λ star. of_one c.args.place upright (operator_name ByStyle)) (42 ∷ []) w.if-take_character.ensures.next (begun g))
-      | else-take_character w ↦ rw w.limits-is (past_none s p i (of_one c.args.place upright (operator_name Beside)) w.if-take_character.ensures.next.0 w.if-take_character.ensures.next.1 (begun g))
+    let named = lettered (context_of c.args.context) Named in
+    let due : Begins (of_one c.args.place named (operator_name (limit_place_of c.if-take_character.limits))) 0 s (record p { input = i }) = elim c.if-take_character.branch [
+      | then-take_character w ↦ rw w.limits-is (past_units s p i (λ star. of_one c.args.place named (operator_name ByStyle)) (42 ∷ []) w.if-take_character.ensures.next (begun g))
+      | else-take_character w ↦ rw w.limits-is (past_none s p i (of_one c.args.place named (operator_name Beside)) w.if-take_character.ensures.next.0 w.if-take_character.ensures.next.1 (begun g))
     ] in
     c.open.ensures.holds s g.style (operand_due (λ x. gives (operator_name (limit_place_of c.if-take_character.limits) x)) due.leads)
 

@@ -23,7 +23,7 @@ returns-clause-holds c = λ s g.
     let i = c.take_sized_delimiter.new.self in
     let text = delimiter_text c.in-Some.delimiter in
     let k = Makes.sized (style_of c.args.style) (size_of c.args.size) (class_of c.args.class) text in
-    core_put s (record p { input = i }) c.put_sized.new.builder c.new.result k.atom.element k c.in_ok-put_sized.ensures (rw (c.new.ensures, c.of_size.ensures) refl) (past_part s p i a_sized_delimiter (λ text. gives (Makes.sized (style_of c.args.style) (size_of c.args.size) (class_of c.args.class) text)) text c.in-Some.ensures.1 g)
+    core_put s (record p { input = i }) c.put_big.new.builder c.new.result k.atom.element k c.in_ok-put_big.ensures (rw (c.new.ensures, c.of_size.ensures) refl) (past_part s p i a_sized_delimiter (λ text. gives (Makes.sized (style_of c.args.style) (size_of c.args.size) (class_of c.args.class) text)) text c.in-Some.ensures.1 g)
 
 pub returns-clause-step : goal.returns-clause-step
 returns-clause-step c =
@@ -31,4 +31,4 @@ returns-clause-step c =
     let i = c.take_sized_delimiter.new.self in
     let text = delimiter_text c.in-Some.delimiter in
     let k = Makes.sized (style_of c.args.style) (size_of c.args.size) (class_of c.args.class) text in
-    core_step p i c.put_sized.new.builder c.new.result k.atom.element c.requires.begin c.in_ok-put_sized.ensures c.in-Some.ensures.0
+    core_step p i c.put_big.new.builder c.new.result k.atom.element c.requires.begin c.in_ok-put_big.ensures c.in-Some.ensures.0

@@ -4,9 +4,9 @@ use Rattle.latex2mathml_tex_grammar.specs.Atoms
 use Rattle.latex2mathml_tex_grammar.specs.Rows
 use Rattle.latex2mathml_tex_atoms.specs.Models.{kind_of}
 use Rattle.latex2mathml_tex_atoms.proofs.Shaping.{last_sign, length_changed, no_lone_sign}
-use Rattle.latex2mathml_tex_atoms.proofs.shapes.isolate.Goals as goal
-use Rattle.latex2mathml_tex_atoms.proofs.shapes.isolate.Goals.{else-count-eq1-via-then-count-eq1+else-is_spaced, else-count-eq1-via-else-count-eq1}
-use Rattle.latex2mathml_tex_atoms.proofs.shapes.isolate.Goals.{else-count-gt1-via-then-count-gt1+else-leaves_space, else-count-gt1-via-else-count-gt1}
+use Rattle.latex2mathml_tex_atoms.proofs.rows.isolate.Goals as goal
+use Rattle.latex2mathml_tex_atoms.proofs.rows.isolate.Goals.{else-count-eq1-via-then-count-eq1+else-is_spaced, else-count-eq1-via-else-count-eq1}
+use Rattle.latex2mathml_tex_atoms.proofs.rows.isolate.Goals.{else-count-gt1-via-then-count-gt1+else-leaves_space, else-count-gt1-via-else-count-gt1}
 
 pub returns-then-is_spaced-clause-length : goal.returns-then-is_spaced-clause-length
 returns-then-is_spaced-clause-length c = ap length c.remove_space.ensures ∙ length_changed Atoms.without_space 0 (elements_in c.args.builder.now)
