@@ -16,7 +16,6 @@ use Rattle.latex2mathml_tex_units.specs.Errors.{refusal_of}
 use Rattle.latex2mathml_tex_grammar.specs.Rules.{Context, formula_in_words}
 use Rattle.latex2mathml_tex.specs.{Frames.Start, Levels.Leads, Levels.PartMade}
 use Rattle.latex2mathml_tex_atoms.specs.Models.{begun, context_of, words_with}
-use Rattle.latex2mathml_tex_commands.specs.Meanings
 use Rattle.latex2mathml_tex.specs.Steps.{BeginsWordOf, GoesOnInBraces, HasElements, Holds, Advances, elements_of, left_of, level, level_within}
 use Rattle.latex2mathml_tex_atoms.specs.declared.{atoms.Context.Context as CodeContext, atoms.Row.Row as CodeRow, atoms.Words.Words as CodeWords}
 use Rattle.latex2mathml_tex.specs.declared.{parse.Parser.Parser, parse.State.State, parse.frames.Frames.Frames}

@@ -1,4 +1,4 @@
-//! Boxes around the top element, rectangles, and struts.
+//! Boxes around the top element, rectangles, struts, and dots with space.
 ghost use Rattle.std.specs.Prelude.{◌≡◌, ◌≤◌, OnOk, length};
 ghost use Rattle.latex2mathml_elements.specs.{Element.Element, Struts.with_strut};
 ghost use Rattle.latex2mathml_attributes.specs.Arounds.{element_around, extent_of};
@@ -79,6 +79,18 @@ pub fn put_bar(
         builder.surround(Around::Raised(height))?;
     }
     Ok(())
+}
+
+/// Puts dots with a thin space after them.
+pub fn put_spaced_dots(builder: &mut Builder, dots: char) -> Result<(), AllocError>
+    ensures { OnOk result (Puts (SpacedSigns.spaced_dots dots).atom.element
+        builder.old builder.new) }
+{
+    let attributes = Attributes {
+        space: Some(Space::ThinAfter),
+        ..Attributes::plain()
+    };
+    builder.character(Token::Mo, attributes, dots)
 }
 
 /// Puts the dots of a column, with space above them.

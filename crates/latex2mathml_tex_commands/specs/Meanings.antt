@@ -115,6 +115,7 @@ abbrev pub meaning_of : Meaning → meant.Meaning
 meaning_of (code_meaning.Shows x) = meant.Shows (symbol_of x)
 meaning_of (code_meaning.FunctionName x y) = meant.FunctionName (limit_place_of x) y.now
 meaning_of code_meaning.Dots = meant.Dots
+meaning_of code_meaning.CenteredDots = meant.CenteredDots
 meaning_of code_meaning.VerticalDots = meant.VerticalDots
 meaning_of (code_meaning.Implication x) = meant.Implication x
 meaning_of (code_meaning.Spacing x) = meant.Spacing x

@@ -261,6 +261,8 @@ pub enum Meaning {
     FunctionName(LimitPlace, &'static str),
     /// Dots, in the middle of the line before an operator or a relation, otherwise on the line.
     Dots,
+    /// Dots in the middle of the line.
+    CenteredDots,
     /// The dots of a column, with space above them.
     VerticalDots,
     /// A long arrow with a thick space at each side.

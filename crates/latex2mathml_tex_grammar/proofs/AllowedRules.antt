@@ -7,14 +7,14 @@ use Rattle.latex2mathml_elements.proofs.{Characters.allowed_both, Characters.all
 use Rattle.latex2mathml_tex_grammar.specs.{Commands.meaning_of, Commands.symbol_of, Delimiters.entry_of_name, Delimiters.negated_of, Delimiters.delimiter_of, TextCommands.text_accents, TextCommands.text_commands, Dots.centered_dots, Dots.column_dots, Dots.low_dots}
 use Rattle.latex2mathml_tex_grammar.specs.Makes.{Core, core, Scripts, letter, symbol, spacing, struck, text, in_box, raised_by, black, arrow, Outline, quotient, between_any, outlined_fraction, choice, sized_element}
 use Rattle.latex2mathml_tex_grammar.specs.Refusal.{Refusal, OutsideTable, MisplacedCharacter, CharacterInWords, refusal_at}
-use Rattle.latex2mathml_tex_grammar.specs.Meaning.{Meaning, Shows, FunctionName, Dots, VerticalDots, Implication, Spacing, Styled, Words as TakesWordsIn, Fraction, Root, Accent, Brace, Stack, StackedRelation, OperatorName, Negation, Slash, Sized, Left, Middle, Right, Limits, NoLimits, Classed, Changes, ToAlphabet, ToStyle, ToSize, Divides, ToColor, BeginTable, EndTable, LineBreak, Substack, Skip, SkipInBraces, Boxed, Smash, ContinuedFraction, GeneralFraction, Choice, Bar, FractionRule, Box, Phantom, PhantomWidth, PhantomHeight, Smashed, WithoutHeight, WithoutDepth, OverRight, OverLeft, OverBoth, Frame, StrikeUp, StrikeDown, StrikeTwice, Raise, InColor, Highlight, Rectangle, Arrow, Raised, Colored, OnColor}
+use Rattle.latex2mathml_tex_grammar.specs.Meaning.{Meaning, Shows, FunctionName, Dots, CenteredDots, VerticalDots, Implication, Spacing, Styled, Words as TakesWordsIn, Fraction, Root, Accent, Brace, Stack, StackedRelation, OperatorName, Negation, Slash, Sized, Left, Middle, Right, Limits, NoLimits, Classed, Changes, ToAlphabet, ToStyle, ToSize, Divides, ToColor, BeginTable, EndTable, LineBreak, Substack, Skip, SkipInBraces, Boxed, Smash, ContinuedFraction, GeneralFraction, Choice, Bar, FractionRule, Box, Phantom, PhantomWidth, PhantomHeight, Smashed, WithoutHeight, WithoutDepth, OverRight, OverLeft, OverBoth, Frame, StrikeUp, StrikeDown, StrikeTwice, Raise, InColor, Highlight, Rectangle, Arrow, Raised, Colored, OnColor}
 use Rattle.latex2mathml_tex_grammar.specs.{Colors.color_of, Lengths.width_of}
 use Rattle.latex2mathml_tex_grammar.specs.Atoms.{Plain}
 use Rattle.latex2mathml_tex_grammar.specs.Rows.{as_base, lone, Operand, row_element}
-use Rattle.latex2mathml_tex_grammar.specs.Rules.{Context, Rule, gives, refuses, takes_if, a_character, a_digit, decimal, after_digits, a_number, a_symbol, begins_none, character_rule, struck_atom, slashed, a_box, a_fraction, meaning_rule, command_rule, rule, with_value, a_bar, a_left_brace, a_right_brace, empty_braces, an_outer_delimiter, has_width, a_line, numbered_style, a_style, an_outlined_fraction, a_general_fraction, a_choice, own_style}
+use Rattle.latex2mathml_tex_grammar.specs.Rules.{Context, Rule, dots_before, gives, refuses, takes_if, a_character, a_digit, decimal, after_digits, a_number, a_symbol, begins_none, character_rule, struck_atom, slashed, a_box, a_fraction, meaning_rule, command_rule, rule, with_value, a_bar, a_left_brace, a_right_brace, empty_braces, an_outer_delimiter, has_width, a_line, numbered_style, a_style, an_outlined_fraction, a_general_fraction, a_choice, own_style}
 use Rattle.latex2mathml_tex_grammar.specs.Starts.{OperandStart, NoStart, GroupStart, DigitStart, operand_start, start_of_digit, Mark, Prime, Below, Above as AboveMark, LimitsAt, step_of, step_of_mark}
 use Rattle.latex2mathml_tex_grammar.specs.Fences.{sized_delimiter}
-use Rattle.latex2mathml_tex_grammar.specs.Symbols.{Class, InDisplay, InText, InScript, Ordinary, Relation, Alphabet, BoldItalic, Monospace, Sign, Style, Symbol}
+use Rattle.latex2mathml_tex_grammar.specs.Symbols.{Class, InDisplay, InText, InScript, Inner, Ordinary, Relation, Alphabet, BoldItalic, Monospace, Sign, Style, Symbol}
 use Rattle.latex2mathml_tex_grammar.specs.Units.{Piece, Space, Open, Close, Command, Character}
 use Rattle.latex2mathml_tex_grammar.specs.Words.{Font, Word, font_attributes, font_in, is_in, last_font, letter_in, Shown, Formula, Accented, Changed, Resized, WordRule, IsWord, BeginsFormula, NoWord, Words, word_space, word_character, with_text, accented, with_character, end_accent, with_accent_ended, with_word, words_element, word_rule, character_rule as word_of_character, meaning_rule as word_of_meaning, accent_rule as word_of_accent, command_rule as word_of_command, shown_character}
 use Rattle.latex2mathml_tex_grammar.proofs.Allowed.{IsAllowedPiece, AreAllowedElements, IsAllowedAccent, IsAllowedElement, IsAllowedCore, IsAllowedOperand, AreAllowedScripts, AreAllowedWords, IsAllowedWord, IsAllowedWordRule, IsAllowedStep, IsAllowedRule, AreGiven}
@@ -272,10 +272,14 @@ module _ (place : ℕ) (c : Context) where
       (λ opening h. outer_delimiter_allowed place (behind_opening opening)
       (λ closing k. line_allowed place (behind_delimiters opening closing) (outline_allowed opening closing h k)))
 
+dots_before_allowed : (c : Context) (dots : ℕ) → is_allowed dots ≡ true → IsAllowedRule (dots_before c dots)
+dots_before_allowed c dots h = (allowed_char dots (not_forbidden dots h), symbol_allowed c.style c.alphabet (Sign Inner dots) h)
+
 meaning_rule_allowed : (place : ℕ) (c : Context) (meaning : Meaning) → is_allowed_meaning meaning ≡ true → IsAllowedRule (meaning_rule place c meaning)
 meaning_rule_allowed place c (Shows s) h = symbol_allowed c.style c.alphabet s h
 meaning_rule_allowed place c (FunctionName limits name) h = allowed_text name h
-meaning_rule_allowed place c Dots h = (symbol_allowed c.style c.alphabet centered_dots refl, symbol_allowed c.style c.alphabet low_dots refl)
+meaning_rule_allowed place c Dots h = (symbol_allowed c.style c.alphabet centered_dots refl, dots_before_allowed c 0x2026 refl)
+meaning_rule_allowed place c CenteredDots h = dots_before_allowed c 0x22EF refl
 meaning_rule_allowed place c VerticalDots h = (allowed_char 0x22EE refl, (tt, tt))
 meaning_rule_allowed place c (Implication sign_character) h = (tt, (allowed_char sign_character (not_forbidden sign_character h), (tt, tt)))
 meaning_rule_allowed place c (Spacing width) h = tt
@@ -398,6 +402,7 @@ word_of_meaning_allowed font name None h = tt
 word_of_meaning_allowed font name (Some (Shows s)) h = single_allowed InText (symbol InText None s).atom (symbol_allowed InText None s h)
 word_of_meaning_allowed font name (Some (FunctionName limits own)) h = tt
 word_of_meaning_allowed font name (Some Dots) h = single_allowed InText (symbol InText None low_dots).atom (symbol_allowed InText None low_dots refl)
+word_of_meaning_allowed font name (Some CenteredDots) h = single_allowed InText (symbol InText None centered_dots).atom (symbol_allowed InText None centered_dots refl)
 word_of_meaning_allowed font name (Some VerticalDots) h = single_allowed InText (symbol InText None column_dots).atom (symbol_allowed InText None column_dots refl)
 word_of_meaning_allowed font name (Some (Implication c)) h = single_allowed InText (symbol InText None (Sign Relation c)).atom (symbol_allowed InText None (Sign Relation c) h)
 word_of_meaning_allowed font name (Some (Spacing width)) h = word_space_allowed

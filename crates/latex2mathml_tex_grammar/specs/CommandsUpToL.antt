@@ -1,7 +1,7 @@
 -- The commands up to those that begin with l, in the order of their names' bytes. A name is its bytes, without the
 -- backslash; a character is its code point, and is also shown after its line.
 use Rattle.std.specs.Prelude.{ℕ, pos, negsuc, List, [], ◌∷◌, Some, None, codes}
-use Rattle.latex2mathml_tex_grammar.specs.Meaning.{Meaning, Dots, Implication, Shows, FunctionName, Spacing, Styled, Words, Fraction, Accent, Sized, Left, Limits, Changes, ToAlphabet, ToStyle, ToSize, Divides, words_apart, BeginTable, EndTable, LineBreak, Skip, SkipInBraces, ContinuedFraction, GeneralFraction, Boxed, PhantomWidth, StrikeUp, StrikeDown, Beside, ByStyle, Bar, NoBar, Braced, Bracketed, Bare, Frame, ToColor}
+use Rattle.latex2mathml_tex_grammar.specs.Meaning.{Meaning, Dots, CenteredDots, Implication, Shows, FunctionName, Spacing, Styled, Words, Fraction, Accent, Sized, Left, Limits, Changes, ToAlphabet, ToStyle, ToSize, Divides, words_apart, BeginTable, EndTable, LineBreak, Skip, SkipInBraces, ContinuedFraction, GeneralFraction, Boxed, PhantomWidth, StrikeUp, StrikeDown, Beside, ByStyle, Bar, NoBar, Braced, Bracketed, Bare, Frame, ToColor}
 use Rattle.latex2mathml_tex_grammar.specs.Symbols.{Letter, UprightLetter, Sign, BigOperator, Integral, Ordinary, Binary, Relation, Opening, Closing, Punctuation, Inner, Italic, Bold, BoldItalic, DoubleStruck, Fraktur, Calligraphic, InDisplay, FootnoteSize, Large, VeryLarge, ExtraLarge, Huge, VeryHuge}
 use Rattle.latex2mathml_elements.specs.Attributes.{Above, Rigid, Big, Bigger, VeryBig, Biggest, Stretching}
 
@@ -222,7 +222,7 @@ commands_up_to_l =
     (codes "cap", Shows (Sign Binary 0x2229)) ∷  -- ∩
     (codes "cdot", Shows (Sign Binary 0x22C5)) ∷  -- ⋅
     (codes "cdotp", Shows (Sign Punctuation 0x22C5)) ∷  -- ⋅
-    (codes "cdots", Shows (Sign Inner 0x22EF)) ∷  -- ⋯
+    (codes "cdots", CenteredDots) ∷
     (codes "centerdot", Shows (Sign Binary 0x22C5)) ∷  -- ⋅
     (codes "cfrac", ContinuedFraction) ∷
     (codes "ch", FunctionName Beside (codes "ch")) ∷

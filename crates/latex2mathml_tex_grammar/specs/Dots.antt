@@ -1,8 +1,10 @@
--- Dots: in the middle of the line before an operator or a relation, as in `a + \dots + b`, otherwise on the line.
-use Rattle.std.specs.Prelude.{Bool, true, false, Option, Some, None}
+-- Dots: in the middle of the line before an operator or a relation, as in `a + \dots + b`, otherwise on the line. Before a closing
+-- delimiter, a semicolon or a point, a thin space follows them, as in amsmath.
+use Rattle.std.specs.Prelude.{ℕ, ◌==◌, ◌||◌, ◌&&◌, Bool, true, false, Option, Some, None}
+use Rattle.std.specs.Str.{byte}
 use Rattle.latex2mathml_tex_grammar.specs.{Commands.meaning_of, Commands.symbol_of}
-use Rattle.latex2mathml_tex_grammar.specs.Meaning.{Meaning, Shows, StackedRelation, Negation, Arrow, Implication, Classed}
-use Rattle.latex2mathml_tex_grammar.specs.Symbols.{Class, Ordinary, Binary, Relation, Inner, Symbol, Sign, BigOperator, Integral}
+use Rattle.latex2mathml_tex_grammar.specs.Meaning.{Meaning, Shows, StackedRelation, Negation, Arrow, Implication, Classed, Sized, Right}
+use Rattle.latex2mathml_tex_grammar.specs.Symbols.{Class, Ordinary, Binary, Relation, Closing, Inner, Symbol, Sign, BigOperator, Integral}
 use Rattle.latex2mathml_tex_grammar.specs.Units.{Piece, Character, Command}
 
 -- dots on the line
@@ -40,13 +42,31 @@ meaning_centers (Implication c) = true
 meaning_centers (Classed class) = class_centers class
 meaning_centers meaning = false
 
--- whether dots before what was looked up are in the middle of the line
-abbrev pub found_centers : {A : Type 0} → (A → Bool) → Option A → Bool
-found_centers centers (Some x) = centers x
-found_centers centers None = false
+-- whether something was found for which this holds
+abbrev pub is_found : {A : Type 0} → (A → Bool) → Option A → Bool
+is_found holds (Some x) = holds x
+is_found holds None = false
 
 -- whether dots before this piece of a text are in the middle of the line
 abbrev pub centers_dots : Piece → Bool
-centers_dots (Character c) = found_centers symbol_centers (symbol_of c)
-centers_dots (Command name) = found_centers meaning_centers (meaning_of name)
+centers_dots (Character c) = is_found symbol_centers (symbol_of c)
+centers_dots (Command name) = is_found meaning_centers (meaning_of name)
 centers_dots piece = false
+
+-- whether a thin space is between dots and this sign
+abbrev pub symbol_closes : Symbol → Bool
+symbol_closes (Sign Closing c) = true
+symbol_closes symbol = false
+
+-- whether a thin space is between dots and a command with this meaning
+abbrev pub meaning_closes : Meaning → Bool
+meaning_closes (Shows symbol) = symbol_closes symbol
+meaning_closes (Sized size Closing) = true
+meaning_closes Right = true
+meaning_closes meaning = false
+
+-- whether a thin space is between these dots and this piece of a text; before a comma only if they are in the middle of the line
+abbrev pub closes_dots : ℕ → Piece → Bool
+closes_dots dots (Character c) = c == byte ")" || c == byte "]" || c == byte ";" || c == byte "." || (c == byte "," && dots == 0x22EF)
+closes_dots dots (Command name) = is_found meaning_closes (meaning_of name)
+closes_dots dots piece = false

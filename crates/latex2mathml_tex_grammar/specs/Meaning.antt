@@ -67,6 +67,8 @@ pub data Meaning : Type 0 where
   FunctionName : LimitPlace → List ℕ → Meaning
   -- dots, in the middle of the line before an operator or a relation, otherwise on the line
   Dots : Meaning
+  -- dots in the middle of the line
+  CenteredDots : Meaning
   -- the dots of a column, with space above them
   VerticalDots : Meaning
   -- a long arrow with a thick space at each side

@@ -1,11 +1,15 @@
--- Signs with space that belongs to them: the dots of a column, and long arrows.
+-- Signs with space that belongs to them: dots, and long arrows.
 use Rattle.std.specs.Prelude.{ℕ, pos, [], ◌∷◌, Some, false}
-use Rattle.latex2mathml_elements.specs.Attributes.{NoSpace, Rigid, plain}
+use Rattle.latex2mathml_elements.specs.Attributes.{NoSpace, Rigid, ThinAfter, plain}
 use Rattle.latex2mathml_elements.specs.Element.{Mo, Mrow, children, container, rectangle, space, token}
-use Rattle.latex2mathml_tex_grammar.specs.{Atoms.Plain, Atoms.Unspaced, Atoms.atom}
+use Rattle.latex2mathml_tex_grammar.specs.{Atoms.Plain, Atoms.SignOf, Atoms.Unspaced, Atoms.atom}
 use Rattle.latex2mathml_tex_grammar.specs.Heights.{Low, VeryTall}
 use Rattle.latex2mathml_tex_grammar.specs.Makes.{Core, core, sign, text}
-use Rattle.latex2mathml_tex_grammar.specs.Symbols.{Ordinary, Relation}
+use Rattle.latex2mathml_tex_grammar.specs.Symbols.{Inner, Ordinary, Relation}
+
+-- dots with a thin space after them
+abbrev pub spaced_dots : ℕ → Core
+spaced_dots c = core (atom (SignOf Inner) Low (token Mo (record plain { space = Some ThinAfter }) (text c)))
 
 -- the dots of a column, with space above them: they are as high as TeX's
 abbrev pub vertical_dots : Core

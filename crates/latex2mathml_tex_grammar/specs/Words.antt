@@ -2,9 +2,9 @@
 use Rattle.std.specs.Prelude.{ℕ, ◌==◌, ◌||◌, Bool, true, false, List, [], ◌∷◌, ◌++◌, Option, Some, None, if◌then◌else◌}
 use Rattle.std.specs.Str.{byte}
 use Rattle.latex2mathml_elements.specs.{Attributes.Attributes, Attributes.Monospaced, Attributes.boxed, Attributes.plain, Element.Element, Element.Mtext, Element.token}
-use Rattle.latex2mathml_tex_grammar.specs.{Alphabets.in_alphabet, Atoms.Atom, Atoms.Plain, Atoms.atom, Commands.meaning_of, Delimiters.entry_of_name, Dots.column_dots, Dots.low_dots, Makes.symbol, Makes.text, Rows.row_element, Rows.single, TextCommands.text_accents, TextCommands.text_commands}
+use Rattle.latex2mathml_tex_grammar.specs.{Alphabets.in_alphabet, Atoms.Atom, Atoms.Plain, Atoms.atom, Commands.meaning_of, Delimiters.entry_of_name, Dots.centered_dots, Dots.column_dots, Dots.low_dots, Makes.symbol, Makes.text, Rows.row_element, Rows.single, TextCommands.text_accents, TextCommands.text_commands}
 use Rattle.latex2mathml_tex_grammar.specs.Heights.{Low}
-use Rattle.latex2mathml_tex_grammar.specs.Meaning.{Meaning, Shows, Dots, VerticalDots, Implication, Spacing, Words as TakesWordsIn, Changes, ToAlphabet, ToSize, Skip, SkipInBraces}
+use Rattle.latex2mathml_tex_grammar.specs.Meaning.{Meaning, Shows, Dots, CenteredDots, VerticalDots, Implication, Spacing, Words as TakesWordsIn, Changes, ToAlphabet, ToSize, Skip, SkipInBraces}
 use Rattle.latex2mathml_tex_grammar.specs.Refusal.{Kind, CommandInWords, CharacterInWords, UnknownCommand}
 use Rattle.latex2mathml_tex_grammar.specs.Symbols.{Alphabet, BoldItalic, Monospace, Ordinary, Relation, Sign, InText, TextSize}
 use Rattle.latex2mathml_tex_grammar.specs.Units.{Piece, Space, Open, Close, Command, Character}
@@ -82,6 +82,7 @@ abbrev pub meaning_rule : Font → List ℕ → Option Meaning → WordRule
 meaning_rule font name (Some (Spacing width)) = IsWord (word_space font)
 meaning_rule font name (Some (Shows sign)) = IsWord (Formula (single InText (symbol InText None sign).atom).element)
 meaning_rule font name (Some Dots) = IsWord (Formula (single InText (symbol InText None low_dots).atom).element)
+meaning_rule font name (Some CenteredDots) = IsWord (Formula (single InText (symbol InText None centered_dots).atom).element)
 meaning_rule font name (Some VerticalDots) = IsWord (Formula (single InText (symbol InText None column_dots).atom).element)
 meaning_rule font name (Some (Implication c)) = IsWord (Formula (single InText (symbol InText None (Sign Relation c)).atom).element)
 meaning_rule font name (Some (TakesWordsIn alphabet)) = TakesWords alphabet

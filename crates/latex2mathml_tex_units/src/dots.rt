@@ -1,4 +1,4 @@
-//! Dots: where they are in the middle of the line, and where they are on it.
+//! Dots: where they are in the middle of the line or on it, and where a thin space follows them.
 ghost use Rattle.std.specs.Prelude.{◌≡◌};
 ghost use Rattle.latex2mathml_tex_grammar.specs.Dots;
 ghost use Rattle.latex2mathml_tex_commands.specs.Meanings.{class_of, meaning_of, symbol_of};
@@ -62,4 +62,30 @@ fn class_centers(class: Class) -> bool
     ensures { result ≡ Dots.class_centers (class_of class) }
 {
     matches!(class, Class::Binary | Class::Relation)
+}
+
+/// Whether a thin space is between these dots and this piece. Before a comma there is one only if they are in the middle of the line.
+pub fn closes_dots(dots: char, piece: Piece) -> bool
+    ensures { result ≡ Dots.closes_dots dots (piece_of piece.entry) }
+{
+    match piece {
+        Piece::Character(',') => dots == '⋯',
+        Piece::Character(c) => matches!(c, ')' | ']' | ';' | '.'),
+        Piece::Command(name) => match commands::look_up(name) {
+            Some(meaning) => meaning_closes(meaning),
+            None => false,
+        },
+        Piece::Space | Piece::Open | Piece::Close => false,
+    }
+}
+
+fn meaning_closes(meaning: Meaning) -> bool
+    ensures { result ≡ Dots.meaning_closes (meaning_of meaning) }
+{
+    matches!(
+        meaning,
+        Meaning::Shows(Symbol::Sign(Class::Closing, _))
+            | Meaning::Sized(_, Class::Closing)
+            | Meaning::Right
+    )
 }

@@ -3,7 +3,7 @@ ghost use Rattle.std.specs.Prelude.{◌≡◌, ◌+◌, ◌<◌, ◌∷◌, ◌^
 ghost use Rattle.std.specs.Char.{is_ascii_alphanumeric};
 ghost use Rattle.std.specs.Str.{chars};
 ghost use Rattle.latex2mathml_tex_grammar.specs.Delimiters.{delimiter_of, negated_of};
-ghost use Rattle.latex2mathml_tex_grammar.specs.{Dots.centers_dots, Next.follows, Next.past_space, Separators.depth_behind, Separators.has_separator};
+ghost use Rattle.latex2mathml_tex_grammar.specs.{Dots.centers_dots, Dots.closes_dots, Next.follows, Next.past_space, Separators.depth_behind, Separators.has_separator};
 ghost use Rattle.latex2mathml_tex_grammar.specs.Rules.{a_character, a_digit, in_brackets};
 ghost use Rattle.latex2mathml_tex_units.specs.Left.{EndsNumber, SameUnits, TakesLone, TakesNext, TakesNone, put_back, units_at, units_behind, units_end};
 ghost use Rattle.latex2mathml_tex_units.specs.Expanded.{expanded_text};
@@ -13,7 +13,7 @@ ghost use Rattle.latex2mathml_tex_commands.specs.{Delimiters.delimiter_text, Dia
 ghost use Rattle.latex2mathml_tex_units.specs.Taking.{piece_of};
 
 use crate::delimiters::{delimiter_of, negated_of};
-use crate::dots::centers_dots;
+use crate::dots::{centers_dots, closes_dots};
 use crate::macros::table::Macros;
 use crate::macros::whole::{End, list_units};
 use crate::unit::{Next, Piece, Unit};
@@ -120,6 +120,21 @@ impl<'a> Input<'a> {
         };
         self.taken = start;
         centered
+    }
+
+    /// Whether a thin space is between these dots and what comes next. Takes nothing.
+    pub fn closes_dots(&mut self, dots: char) -> bool
+        ensures answer { result ≡ follows (closes_dots dots) (units_at self.old) }
+        ensures unchanged { self.new ≡ self.old }
+    {
+        let start = self.taken;
+        self.skip_space();
+        let closed = match self.peek() {
+            Next::Unit(unit) => closes_dots(dots, unit.piece),
+            Next::End(_) | Next::Fault(_, _) => false,
+        };
+        self.taken = start;
+        closed
     }
 
     /// Whether `&` is among the units that are left, in no group and no table. Takes nothing.

@@ -3,7 +3,7 @@ ghost use Rattle.std.specs.Prelude.{option_map};
 ghost use Rattle.latex2mathml_attributes.specs.Names.{size_of};
 ghost use Rattle.latex2mathml_tex_grammar.specs.Makes;
 ghost use Rattle.latex2mathml_tex_grammar.specs.{Meaning.Left};
-ghost use Rattle.latex2mathml_tex_grammar.specs.Rules.{a_negation, a_root, a_sized_delimiter, an_operator_name, character_rule, command_rule, gives, meaning_rule, reads_words, some_dots};
+ghost use Rattle.latex2mathml_tex_grammar.specs.Rules.{a_negation, a_root, a_sized_delimiter, an_operator_name, character_rule, command_rule, dots_before, gives, meaning_rule, reads_words, some_dots};
 ghost use Rattle.latex2mathml_tex_grammar.specs.{Makes.core, Words.words_atom};
 ghost use Rattle.latex2mathml_tex_commands.specs.Meanings.{class_of, style_of, meaning_of};
 ghost use Rattle.latex2mathml_tex_atoms.specs.Models.{context_of};
@@ -19,8 +19,8 @@ use latex2mathml_tex_atoms::atoms::{Context, Core, Kind, Row, Words};
 use latex2mathml_tex_atoms::delimiters::put_big;
 use latex2mathml_tex_atoms::heights::Height;
 use latex2mathml_tex_commands::commands;
-use latex2mathml_tex_commands::meaning::{Alphabet, Class, LimitPlace, Meaning, Style};
-use latex2mathml_tex_units::dots::{CENTERED_DOTS, LOW_DOTS};
+use latex2mathml_tex_commands::meaning::{Alphabet, Class, LimitPlace, Meaning, Style, Symbol};
+use latex2mathml_tex_units::dots::CENTERED_DOTS;
 use latex2mathml_tex_units::error::TexErrorKind;
 use latex2mathml_tex_units::scanning::{LengthEnd, Spot};
 use latex2mathml_tex_units::unit::{Next, Piece, Unit};
@@ -180,6 +180,7 @@ impl<'a> Parser<'a> {
             Meaning::Shows(symbol) => self.symbol(context, symbol, next),
             Meaning::FunctionName(limits, name) => self.function_name(limits, name, next),
             Meaning::Dots => self.dots(context, next),
+            Meaning::CenteredDots => self.dots_before(context, '⋯', next),
             Meaning::VerticalDots => self.vertical_dots(next),
             Meaning::Implication(sign) => self.implication(sign, next),
             Meaning::Spacing(width) => self.space(width, next),
@@ -285,12 +286,28 @@ impl<'a> Parser<'a> {
             self.old self.new next.new result }
         ensures step { Advances 13 self.old self.new next.new result }
     {
-        let dots = if self.input.centers_dots() {
-            CENTERED_DOTS
-        } else {
-            LOW_DOTS
-        };
-        self.symbol(context, dots, next)
+        if self.input.centers_dots() {
+            return self.symbol(context, CENTERED_DOTS, next);
+        }
+        self.dots_before(context, '…', next)
+    }
+
+    /// Begins such dots, with a thin space after them if what comes next asks for that.
+    fn dots_before(
+        &mut self,
+        context: Context,
+        dots: char,
+        next: &mut State,
+    ) -> Result<(), AllocError>
+        requires begin { CanBegin 0 self.old }
+        ensures holds { LeadsOn (Begins (dots_before (context_of context) dots) 0)
+            self.old self.new next.new result }
+        ensures step { Advances 13 self.old self.new next.new result }
+    {
+        if self.input.closes_dots(dots) {
+            return self.spaced_dots(dots, next);
+        }
+        self.symbol(context, Symbol::Sign(Class::Inner, dots), next)
     }
 
     /// Begins a root, with its degree if one comes next in square brackets.

@@ -26,7 +26,7 @@ use latex2mathml_attributes::tag::Token;
 use latex2mathml_builder::builder::Builder;
 use latex2mathml_tex_atoms::arrows::put_implication;
 use latex2mathml_tex_atoms::atoms::{Context, Core, Kind};
-use latex2mathml_tex_atoms::boxes::put_vertical_dots;
+use latex2mathml_tex_atoms::boxes::{put_spaced_dots, put_vertical_dots};
 use latex2mathml_tex_atoms::heights::Height;
 use latex2mathml_tex_commands::alphabets::in_alphabet;
 use latex2mathml_tex_commands::meaning::{Alphabet, Class, LimitPlace, Symbol};
@@ -147,6 +147,18 @@ impl<'a> Parser<'a> {
             digits(&mut self.input, &mut self.builder, alphabet)?;
         }
         Ok(number())
+    }
+
+    /// Puts dots with a thin space after them.
+    pub(crate) fn spaced_dots(&mut self, dots: char, next: &mut State) -> Result<(), AllocError>
+        requires { CanBegin 0 self.old }
+        ensures holds { LeadsOn (Begins (gives (SpacedSigns.spaced_dots dots)) 0)
+            self.old self.new next.new result }
+        ensures step { Advances 13 self.old self.new next.new result }
+    {
+        put_spaced_dots(&mut self.builder, dots)?;
+        *next = State::Core(Core::new(Kind::SignOf(Class::Inner), Height::Low));
+        Ok(())
     }
 
     /// Puts the dots of a column.

@@ -10,7 +10,7 @@ ghost use Rattle.latex2mathml_tex.specs.WordCommands.{rule_of};
 use latex2mathml_tex_commands::commands;
 use latex2mathml_tex_commands::meaning::{Alphabet, Change, Class, Meaning, Symbol, TextSize};
 use latex2mathml_tex_commands::text_commands::{text_accent, text_character};
-use latex2mathml_tex_units::dots::{COLUMN_DOTS, LOW_DOTS};
+use latex2mathml_tex_units::dots::{CENTERED_DOTS, COLUMN_DOTS, LOW_DOTS};
 
 /// What a command is in words.
 #[derive(Clone, Copy)]
@@ -72,6 +72,7 @@ impl WordCommand {
             Meaning::Spacing(_) => WordCommand::Space,
             Meaning::Shows(symbol) => WordCommand::Sign(symbol),
             Meaning::Dots => WordCommand::Sign(LOW_DOTS),
+            Meaning::CenteredDots => WordCommand::Sign(CENTERED_DOTS),
             Meaning::VerticalDots => WordCommand::Sign(COLUMN_DOTS),
             Meaning::Implication(c) => WordCommand::Sign(Symbol::Sign(Class::Relation, c)),
             Meaning::Words(alphabet) => WordCommand::Words(alphabet),

@@ -24,7 +24,7 @@ static LETTER_C: [Entry; 51] = [
     Entry { name: "cap", key: 0x6361700000000000, meaning: Meaning::Shows(Symbol::Sign(Class::Binary, '∩')) },
     Entry { name: "cdot", key: 0x63646f7400000000, meaning: Meaning::Shows(Symbol::Sign(Class::Binary, '⋅')) },
     Entry { name: "cdotp", key: 0x63646f7470000000, meaning: Meaning::Shows(Symbol::Sign(Class::Punctuation, '⋅')) },
-    Entry { name: "cdots", key: 0x63646f7473000000, meaning: Meaning::Shows(Symbol::Sign(Class::Inner, '⋯')) },
+    Entry { name: "cdots", key: 0x63646f7473000000, meaning: Meaning::CenteredDots },
     Entry { name: "centerdot", key: 0x63656e746572646f, meaning: Meaning::Shows(Symbol::Sign(Class::Binary, '⋅')) },
     Entry { name: "cfrac", key: 0x6366726163000000, meaning: Meaning::ContinuedFraction },
     Entry { name: "ch", key: 0x6368000000000000, meaning: Meaning::FunctionName(LimitPlace::Beside, "ch") },

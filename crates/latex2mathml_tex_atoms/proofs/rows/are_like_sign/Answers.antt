@@ -2,7 +2,7 @@ use Rattle.std.proofs.Common.{◌≡◌, ◌+◌, ◌∙◌, ◌∷◌, suc, tru
 use Rattle.latex2mathml_elements.specs.Element.{is_space_like}
 use Rattle.latex2mathml_builder.specs.Built.{elements_in}
 use Rattle.latex2mathml_tex_grammar.specs.Rows.{is_spaced_sign}
-use Rattle.latex2mathml_tex_atoms.proofs.LikeSigns.{at, at_end, first_sign, like_sign_after, no_space, second_sign, space_passed}
+use Rattle.latex2mathml_tex_atoms.proofs.LikeSigns.{at, first_sign, like_sign_after, no_space, second_sign, space_passed}
 use Rattle.latex2mathml_tex_atoms.proofs.rows.are_like_sign.Goals as goal
 use Rattle.latex2mathml_tex_atoms.proofs.rows.are_like_sign.Goals.{then-is_spaced_sign+else-has_sign, else-is_spaced_sign+else-not-is_space_at}
 

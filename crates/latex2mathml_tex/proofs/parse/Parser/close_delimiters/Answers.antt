@@ -1,4 +1,4 @@
-use Rattle.std.proofs.Common.{◌∙◌, ◌+◌, false, length, ap, arith, refl, subst, sym, true}
+use Rattle.std.proofs.Common.{◌∙◌, ◌+◌, length, ap, arith, refl, subst, sym}
 use Rattle.latex2mathml_builder.specs.Built.{elements_in}
 use Rattle.latex2mathml_tex_commands.specs.Delimiters.{delimiter_text}
 use Rattle.latex2mathml_tex_atoms.specs.Models.{height_of}
