@@ -20,8 +20,8 @@ BINARY_KEEPING = [r"\mathbin{c}", "+_c"]
 # atoms of each class of TeX
 ATOMS = {"ordinary": ["c", "2", r"\frac cd", r"\sqrt c", "{=}", "{,}", "|"],
          "operator": [r"\sin", r"\lim_c", r"\sum", r"\int_c", r"\mathop{c}", r"\mathop{|}", r"\underbrace{c}_d"],
-         "binary": ["+", "-", r"\mathbin/", *BINARY_KEEPING],
-         "relation": ["=", r"\to", ":", "<_c", r"\mathrel|", r"\mathrel{c}", r"\stackrel{c}{c}", *KEEPING],
+         "binary": ["+", "-", r"\times", r"\mathbin/", *BINARY_KEEPING],
+         "relation": ["=", r"\to", ":", r"\sim", "<_c", r"\mathrel|", r"\mathrel{c}", r"\stackrel{c}{c}", *KEEPING],
          "opening": ["(", r"\bigl("], "closing": [")", r"\rangle"], "punctuation": [*COMMAS, LETTER_COMMA],
          "inner": [r"\ldots", r"\left(c\right)", r"\left]c\right[", r"\begin{pmatrix}c\end{pmatrix}"]}
 # the ems of the spaces that the table names
@@ -32,6 +32,20 @@ NEARLY = 0.05
 # Signs of which a browser should see that they are binary, or relations, or ordinary, and the ems that TeX leaves next to them
 SIGNS = {r"c\underset{c}{-}c": [4 / 18, 4 / 18], r"c\overset{c}{+}c": [4 / 18, 4 / 18], r"c\mathbin{-}c": [4 / 18, 4 / 18],
          r"c\mathrel{+}=c": [5 / 18, 5 / 18], r"c\mathrel{\mathop:}=c": [5 / 18, 5 / 18], r"c^{\otimes c}": [0], r"c^{*c}": [0]}
+
+# Binary signs and relations: those around which a browser would leave another space than TeX, and some around which it would not
+BINARY = r"""\times \cdot * \circ \bullet \star \diamond \otimes \odot \circledast \boxtimes \boxdot \ltimes \leftthreetimes \divideontimes \wr
+    \amalg \dagger \ddagger \intercal \lhd \unrhd \lessdot \triangleleft \bigtriangleup \bigtriangledown \bigcirc \And
+    \cup \wedge \oplus \div \setminus \sqcap \boxplus \veebar""".split()
+RELATIONS = r"\sim : \therefore \because \smile \frown \relbar \boxbox \boxslash \blacktriangleright \vartriangle < \in \approx \gets \mid".split()
+SIGNS |= {rf"c{sign} c": [4 / 18, 4 / 18] for sign in BINARY} | {rf"c{sign} c": [5 / 18, 5 / 18] for sign in RELATIONS}
+
+# Rows of words and one sign, and the ems that TeX leaves between them
+WORDS_AND_SIGNS = {r"{\text{c}+\text{c}}": [4 / 18, 4 / 18], r"\sqrt{\text{c}=\text{c}}": [5 / 18, 5 / 18],
+                   r"\begin{matrix}\text{c}\times\text{c}&c\end{matrix}": [4 / 18, 4 / 18]}
+
+# Pairs of signs by `\big` and its like, and how many ems higher the first, which has scripts, is than the second
+BASES = {r"\Bigr)^2\Bigr)": [0], r"\bigg|_c\bigg|": [0], r"\Biggr]_c^c\Biggr]": [0], r"\big\|'\big\|": [0]}
 
 # Binary signs of one size: in the style of a block no wider than in that of a line of text
 SIZES = {rf"\displaystyle c{sign} c\textstyle c{sign} c": [0] for sign in (r"\uplus", r"\oplus", r"\ominus", r"\otimes", r"\odot", "+")}
@@ -93,7 +107,7 @@ ROWS = {r"\begin{matrix}c\\c\\c\end{matrix}": [1.2, 1.2], r"\begin{pmatrix}c&b\\
         r"\begin{aligned}c&=b\\c&=y\\c\end{aligned}": [1.5, 1.5], r"\begin{gathered}c\\bc\end{gathered}": [1.5],
         r"\begin{eqnarray}c&=&b\\c\end{eqnarray}": [1.5], r"c\\bc": [1.5],
         r"\begin{matrix}c\\[1ex]c\\[-2pt]c\\*[1em]c\end{matrix}": [1.2 + 0.431, 1.2 - 0.2, 1.2 + 1],
-        r"\begin{aligned}c&=b\\[0.5em]c\end{aligned}": [1.5 + 0.5]}
+        r"\begin{aligned}c&=b\\[0.5em]c\end{aligned}": [1.5 + 0.5], r"\begin{matrix}c\\\vdots\\c\end{matrix}": [1.2 + 1.5 + 0.36]}
 # as well, but a line of text in a cell is higher in Firefox
 SMALL_ROWS = {r"\begin{smallmatrix}c\\c\end{smallmatrix}": [0.6], r"x_{\substack{c\\c}}": [0.6],
               r"x_{\begin{subarray}{l}c\\c\end{subarray}}": [0.6]}
@@ -109,7 +123,7 @@ DELIMITERS = {r"\big(": (0.458, 0.458), r"\Big)": (0.597, 0.597), r"\bigg[": (0.
               r"\bigl\{": (0.583, 0.583), r"\Bigr\rangle": (0.611, 0.611), r"\big/": (0.578, 0.578), r"\bigm\backslash": (0.578, 0.578),
               r"\Bigl\lfloor": (0.528, 0.528), r"\left(c^2\right)": (0.458, 0.458), r"\left[\frac cd\right]": (0.417, 0.417),
               r"\left.\frac cd\middle/c\right.": (0.578, 1.044), r"\binom cd": (0.458, 0.458), r"\dbinom cd": (0.736, 0.736),
-              r"\left]\frac cd\right[": (0.417, 0.417), r"\left(\dfrac cd\right)": (0.736, 0.736),
+              r"\left]\frac cd\right[": (0.417, 0.417), r"\left(\sum_cc\right)": (0.458, 0.458), r"\left(\dfrac cd\right)": (0.736, 0.736),
               r"\left(\begin{array}{c}c\\c\end{array}\right)": (0.736, 0.736), r"\begin{pmatrix}c&c\end{pmatrix}": (0.458, 0.736),
               r"\begin{pmatrix}c\\c\end{pmatrix}": (0.458, 0.736), r"\begin{bmatrix}c\\c\end{bmatrix}": (0.417, 0.528),
               r"\begin{cases}c\\c\end{cases}": (0.583, 0.75)}
@@ -128,6 +142,9 @@ OF_ATOMS = """formula => {
     const boxes = boxesOf([...row.children].filter(child => child.localName !== "mspace"));
     return gapsBetween(boxes, parseFloat(getComputedStyle(row).fontSize));
 }"""
+OF_ROW = """formula => {
+    return gapsBetween(boxesOf([...formula.querySelector("mrow").children].filter(child => child.textContent)), 100);
+}"""
 OF_FRACTIONS = """formula => {
     return gapsBetween(boxesOf([...formula.children].map(child => child.querySelector("mfrac") ?? child)), 100);
 }"""
@@ -144,6 +161,11 @@ OF_DELIMITERS = """formula => {
 OF_SIZES = """formula => {
     const [first, second] = boxesOf([...formula.querySelectorAll("mo")]);
     return [(first.width - second.width) / 100];
+}"""
+# how many ems higher the first sign is than the second, scripts aside
+OF_BASES = """formula => {
+    const [first, second] = boxesOf([...formula.querySelectorAll("mo[minsize]")]);
+    return [(first.height - second.height) / 100];
 }"""
 # how many ems wider a formula is than its parts
 OF_LETTERS = """formula => {
@@ -279,6 +301,22 @@ class Signs(Gaps):
     @requires("chromium")
     def test_in_chromium(self):
         self.compare(chromium, SIGNS, OF_ATOMS)
+
+
+class WordsAndSigns(Gaps):
+    @requires("chromium")
+    def test_in_chromium(self):
+        self.compare(chromium, WORDS_AND_SIGNS, OF_ROW)
+
+
+class Bases(Gaps):
+    @requires("chromium")
+    def test_in_chromium(self):
+        self.compare(chromium, BASES, OF_BASES)
+
+    @requires("firefox-esr")
+    def test_in_firefox(self):
+        self.compare(firefox, BASES, OF_BASES)
 
 
 class Sizes(Gaps):
