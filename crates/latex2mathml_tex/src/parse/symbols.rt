@@ -302,10 +302,22 @@ fn is_plain(class: Class, c: char) -> bool
     ensures { IsTrue result → SignAttributes.sign_attributes (class_of class) c ≡ plain }
 {
     match class {
-        Class::Binary => !lacks_medium_space(c) && !grows(c),
+        Class::Binary => is_plain_binary(c),
         Class::Relation => is_plain_relation(c),
         _ => false,
     }
+}
+
+/// Whether a binary sign has no attributes. Plus and minus have none, and are looked for first, since most binary signs are one of them.
+#[inline(always)]
+fn is_plain_binary(c: char) -> bool
+    ensures space { IsTrue result → SignAttributes.lacks_medium_space c ≡ false }
+    ensures size { IsTrue result → SignAttributes.grows c ≡ false }
+{
+    if is_plus_or_minus(c) {
+        return true;
+    }
+    !lacks_medium_space(c) && !grows(c)
 }
 
 /// Whether a relation has no attributes. In ASCII, all but two have none, and most relations are in ASCII.
