@@ -10,6 +10,7 @@ pub mod diagrams;
 pub mod lengths;
 pub mod meaning;
 pub mod named;
+pub mod operands;
 pub mod signs;
 pub mod splitting;
 pub mod text_commands;

@@ -1,14 +1,14 @@
 -- What expansion adds to units: nothing but what is in them and in macros.
 use Rattle.std.proofs.Common.{ℕ, zero, suc, ◌≡◌, Bool, true, false, List, [], ◌∷◌, ◌++◌, length, codes, Option, Some, None, refl, subst}
-use Rattle.std.specs.Prelude.{◌-◌, take, drop, IsTrue, ⊤, nat_lt, if◌then◌else◌}
+use Rattle.std.specs.Prelude.{◌-◌, ◌&&◌, option_map, take, drop, IsTrue, ⊤, nat_lt, if◌then◌else◌}
 use Rattle.std.specs.{Option.unwrap_or, Str.byte, Str.bytes_eq}
 use Rattle.std.specs.List.{AllByRecursion}
 use Rattle.latex2mathml_tex_grammar.specs.Arguments.{Brace, Opening, Closing, NoBrace, brace_of, and_then, with_first, in_group, group, argument_of, argument_here, argument, is_sign, is_end, before_sign, up_to, is_group, without_braces, behind_first, between_brackets, bracket_here, bracket, behind_bracket, optional, first_sign, argument_before, the_sign, arguments, or_default, arguments_with, macro_arguments}
 use Rattle.latex2mathml_tex_grammar.specs.Definitions.{DeclareDelimiters, Let, any_piece, alias_definition, meaning_now, resolved, delimiters_definition, stretched_parts, enclosed_parts, sized_parts, Word, NewCommand, ProvideCommand, Def, DeclareOperator, Definition, is_character, sign_here, sign, digit_of, digit_found, digit_here, digit, name_in, name_read, name_of, number_closed, number_in, number_opened, number_of, is_number, is_brace, in_parameter_text, number_due, parameters_behind, parameter_text, parameter_count, argument_part, parameter_part, part_before, parts_behind, parts_of, body_read, body, default_read, default_given, default_of, command_definition, plain_definition, operator_definition, definition_of, operator_parts, provided, behind_definition}
-use Rattle.latex2mathml_tex_grammar.specs.Expansion.{form_of, used_form, form_with, starred_form, found_role, macro_role, role_of, word_role, Turn, Stays, Turns, Fails, with_arguments, used, defined, turn_of, Expands, at_end, at_stop, stays, turns, fails}
+use Rattle.latex2mathml_tex_grammar.specs.Expansion.{form_of, used_form, form_with, starred_form, found_role, macro_role, role_of, word_role, Turn, Stays, Turns, Fails, with_arguments, used, defined, turn_of, role_as, Expands, at_end, at_stop, stays, turns, fails}
 use Rattle.latex2mathml_tex_grammar.specs.ExpansionLaws.{added_pieces, EachPiece, EachFixed, EachIfSome, IfPiece, EachInMacro, EachInTable, AddsNothing}
 use Rattle.latex2mathml_tex_grammar.specs.Macros.{Part, Fixed, Argument, Taken, Parameter, Sign, Macro, alias, macro_of, macro_with_default, Table, with_macro, argument_at, put, before}
-use Rattle.latex2mathml_tex_grammar.specs.{Next.is_space_piece, Next.past_space, Reading.Outcome, Reading.Read, Reading.Refused}
+use Rattle.latex2mathml_tex_grammar.specs.{Next.is_space_piece, Next.past_space, Operands.Due, Operands.is_due, Operands.body_as, Operands.needs_braces, Operands.used_as, Reading.Outcome, Reading.Read, Reading.Refused}
 use Rattle.latex2mathml_tex_grammar.specs.Refusal.{Refusal, UnclosedBracket, WrongUse, refusal_at}
 use Rattle.latex2mathml_tex_grammar.specs.Units.{Piece, Open, Close, Command, Character, Unit, Units, Next, End, Stop}
 use Rattle.latex2mathml_tex_grammar.proofs.{Choices.of_either, Choices.of_found, MacrosUsed.of_used_macro}
@@ -316,6 +316,16 @@ module _ (P : Piece → Type 0) where
     of_operator_parts true parts h = (operator_name, (star_sign, (opening, fixed_both parts (Fixed Close ∷ []) h (closing, tt))))
     of_operator_parts false parts h = (operator_name, (opening, fixed_both parts (Fixed Close ∷ []) h (closing, tt)))
 
+    of_body_as : (whole : Bool) (parts : List Part) → EachFixed P parts → EachFixed P (body_as whole parts)
+    of_body_as whole parts h = of_either (EachFixed P) (whole && needs_braces parts) (opening, fixed_both parts (Fixed Close ∷ []) h (closing, tt)) h
+
+    of_starred_as : (whole : Bool) (parts : Option (List Part)) → EachIfSome P parts → EachIfSome P (option_map (body_as whole) parts)
+    of_starred_as whole (Some parts) h = of_body_as whole parts h
+    of_starred_as whole None h = tt
+
+    of_used_as : (whole : Bool) (m : Macro) → EachInMacro P m → EachInMacro P (used_as whole m)
+    of_used_as whole m h = (of_body_as whole m.body h.0, h.1, of_starred_as whole m.starred h.2, h.3)
+
     of_operator : (place : ℕ) (l : Units) → EachPiece P l → Passes IsPassed (operator_definition place l)
     of_operator place l h =
         after Anything IsPassed (name_of place (sign (byte "*") l).1) _ (of_name place (sign (byte "*") l).1 (of_sign (byte "*") l h)) (λ name m t k.
@@ -453,29 +463,29 @@ module _ (P : Piece → Type 0) where
     of_defined table uses room word (Read d l) t h = (behind word d table h.0 t, h.1)
     of_defined table uses room word (Refused r) t h = tt
 
-    of_word : (table : Table) (uses room : ℕ) (u : Unit) (l : Units) (w : Option Word) (piece : Piece) → P piece → EachInTable P table → EachPiece P l → TurnPasses (turn_of (word_role w piece) table uses room u l)
-    of_word table uses room u l (Some word) piece p t h = of_defined table uses room word (definition_of word u.place l) t (of_definition word u.place l h)
-    of_word table uses room u l None piece p t h = p
+    of_word : (whole : Bool) (table : Table) (uses room : ℕ) (u : Unit) (l : Units) (w : Option Word) (piece : Piece) → P piece → EachInTable P table → EachPiece P l → TurnPasses (turn_of (role_as whole (word_role w piece)) table uses room u l)
+    of_word whole table uses room u l (Some word) piece p t h = of_defined table uses room word (definition_of word u.place l) t (of_definition word u.place l h)
+    of_word whole table uses room u l None piece p t h = p
 
-    of_macro_turn : (table : Table) (uses room : ℕ) (u : Unit) (l : Units) (m : Macro) (named : Option Piece) → EachInMacro P m → IfPiece P named → EachInTable P table → EachPiece P l → TurnPasses (turn_of (macro_role m named) table uses room u l)
-    of_macro_turn table uses room u l m (Some piece) b p t h = of_word table uses room u l _ piece p t h
-    of_macro_turn table uses room u l m None b p t h = of_used table uses room u m l t b h
+    of_macro_turn : (whole : Bool) (table : Table) (uses room : ℕ) (u : Unit) (l : Units) (m : Macro) (named : Option Piece) → EachInMacro P m → IfPiece P named → EachInTable P table → EachPiece P l → TurnPasses (turn_of (role_as whole (macro_role m named)) table uses room u l)
+    of_macro_turn whole table uses room u l m (Some piece) b p t h = of_word whole table uses room u l _ piece p t h
+    of_macro_turn whole table uses room u l m None b p t h = of_used table uses room u (used_as whole m) l t (of_used_as whole m b) h
 
-    of_found_turn : (table : Table) (uses room : ℕ) (u : Unit) (l : Units) (piece : Piece) (found : Option Macro) → P piece → ((m : Macro) → found ≡ Some m → EachInMacro P m) → EachInTable P table → EachPiece P l → TurnPasses (turn_of (found_role found piece) table uses room u l)
-    of_found_turn table uses room u l piece (Some m) p b t h = (let each = b m refl in of_macro_turn table uses room u l m m.alias each each.3 t h)
-    of_found_turn table uses room u l piece None p b t h = of_word table uses room u l _ piece p t h
+    of_found_turn : (whole : Bool) (table : Table) (uses room : ℕ) (u : Unit) (l : Units) (piece : Piece) (found : Option Macro) → P piece → ((m : Macro) → found ≡ Some m → EachInMacro P m) → EachInTable P table → EachPiece P l → TurnPasses (turn_of (role_as whole (found_role found piece)) table uses room u l)
+    of_found_turn whole table uses room u l piece (Some m) p b t h = (let each = b m refl in of_macro_turn whole table uses room u l m m.alias each each.3 t h)
+    of_found_turn whole table uses room u l piece None p b t h = of_word whole table uses room u l _ piece p t h
 
-    of_turn : (piece : Piece) (table : Table) (uses room : ℕ) (u : Unit) (l : Units) → P piece → EachInTable P table → EachPiece P l → TurnPasses (turn_of (role_of table piece) table uses room u l)
-    of_turn piece table uses room u l p t h = of_found_turn table uses room u l piece (macro_of table piece) p (of_used_macro (EachInMacro P) piece table t) t h
+    of_turn : (whole : Bool) (piece : Piece) (table : Table) (uses room : ℕ) (u : Unit) (l : Units) → P piece → EachInTable P table → EachPiece P l → TurnPasses (turn_of (role_as whole (role_of table piece)) table uses room u l)
+    of_turn whole piece table uses room u l p t h = of_found_turn whole table uses room u l piece (macro_of table piece) p (of_used_macro (EachInMacro P) piece table t) t h
 
-    pub pieces_of : {table : Table} {uses room : ℕ} {l m : Units} → Expands table uses room l m → EachInTable P table → EachPiece P l → EachPiece P m
+    pub pieces_of : {table : Table} {uses room : ℕ} {d : Due} {l m : Units} → Expands table uses room d l m → EachInTable P table → EachPiece P l → EachPiece P m
     pieces_of at_end t h = h
     pieces_of at_stop t h = h
-    pieces_of (stays {table = table} {uses = uses} {room = room} {u = u} {l = l} e d) t h =
-        let turned = subst TurnPasses e (of_turn u.piece table uses room u l h.0 t h.1) in (turned, pieces_of d t h.1)
-    pieces_of (turns {table = table} {uses = uses} {room = room} {u = u} {l = l} e d) t h =
-        let turned = subst TurnPasses e (of_turn u.piece table uses room u l h.0 t h.1) in pieces_of d turned.0 turned.1
+    pieces_of (stays {table = table} {uses = uses} {room = room} {d = d} {u = u} {l = l} e x) t h =
+        let turned = subst TurnPasses e (of_turn (is_due d) u.piece table uses room u l h.0 t h.1) in (turned, pieces_of x t h.1)
+    pieces_of (turns {table = table} {uses = uses} {room = room} {d = d} {u = u} {l = l} e x) t h =
+        let turned = subst TurnPasses e (of_turn (is_due d) u.piece table uses room u l h.0 t h.1) in pieces_of x turned.0 turned.1
     pieces_of (fails e) t h = tt
 
 pub adds_nothing : AddsNothing
-adds_nothing = λ test table uses room l m marks t h d. pieces_of (λ p. IsTrue (test p)) marks d t h
+adds_nothing = λ test table uses room d l m marks t h x. pieces_of (λ p. IsTrue (test p)) marks x t h

@@ -6,7 +6,7 @@ use Rattle.latex2mathml_elements.proofs.Characters.{allowed_plain}
 use Rattle.latex2mathml_tex_grammar.specs.DefinitionTexts.{is_prefix, past_prefixes, ReadsDefinitions, no_more, stopped, defines, no_definition, definition_refused, Defines}
 use Rattle.latex2mathml_tex_grammar.specs.Definitions.{Word, definition_of, parts_of}
 use Rattle.latex2mathml_tex_grammar.specs.ExpansionLaws.{EachFixed, EachInMacro, EachInTable, added_pieces}
-use Rattle.latex2mathml_tex_grammar.specs.{Cutting.units_of, Next.is_space_piece, Expansion.Expands, Macros.Macro, Macros.Part, Macros.Table}
+use Rattle.latex2mathml_tex_grammar.specs.{Cutting.units_of, Next.is_space_piece, Expansion.Expands, Macros.Macro, Macros.Part, Macros.Table, Operands.Due}
 use Rattle.latex2mathml_tex_grammar.specs.{Reading.Outcome, Reading.Read, Reading.Refused}
 use Rattle.latex2mathml_tex_grammar.specs.Units.{Unit, Units, Next, End, Stop}
 use Rattle.latex2mathml_tex_grammar.specs.UsualMacros.{Other, Divided, Optional, Starred, body_with, entry_macro, listed, macro_with, other_macro, other_named, other_or, usual_entries, usual_macros}
@@ -84,5 +84,5 @@ pub macros_allowed : {text : List ℕ} {macros : Table} → Defines text macros 
 macros_allowed h = read_allowed h.read usual_allowed (units_allowed h.spelled)
 
 -- the pieces of an expansion
-pub expansion_allowed : {macros : Table} {uses room : ℕ} {l m : Units} → Expands macros uses room l m → EachInTable IsAllowedPiece macros → AreAllowedUnits l → AreAllowedUnits m
+pub expansion_allowed : {macros : Table} {uses room : ℕ} {d : Due} {l m : Units} → Expands macros uses room d l m → EachInTable IsAllowedPiece macros → AreAllowedUnits l → AreAllowedUnits m
 expansion_allowed e t h = pieces_of IsAllowedPiece added_allowed e t h

@@ -5,22 +5,22 @@ use Rattle.std.specs.Prelude.{⊤, nat_lt, if◌then◌else◌}
 use Rattle.std.specs.{Option.unwrap_or, Str.byte, Str.bytes_eq}
 use Rattle.latex2mathml_tex_grammar.specs.Definitions.{Word, NewCommand, ProvideCommand, Def, DeclareOperator, DeclareDelimiters, Let, Definition, any_piece, body, command_definition, default_of, definition_of, meaning_now, name_of, number_of, parameter_count, parameter_text, provided, resolved, sign, word_of, behind_definition}
 use Rattle.latex2mathml_tex_grammar.specs.Arguments.{and_then, macro_arguments}
-use Rattle.latex2mathml_tex_grammar.specs.Expansion.{form_of, used_form, Role, Uses, Defines, Stands, word_role, own_role, macro_role, found_role, role_of, Turn, Stays, Turns, Fails, replaced, with_arguments, used, defined, turn_of, turn, Expands, at_end, at_stop, stays, turns, fails}
+use Rattle.latex2mathml_tex_grammar.specs.Expansion.{form_of, used_form, Role, Uses, Defines, Stands, word_role, own_role, macro_role, found_role, role_of, Turn, Stays, Turns, Fails, replaced, with_arguments, used, defined, turn_of, role_as, turn, Expands, at_end, at_stop, stays, turns, fails}
 use Rattle.latex2mathml_tex_grammar.specs.Expanding.{expansion}
 use Rattle.latex2mathml_tex_grammar.specs.ExpansionLaws.{AliasesStand, AllStand, HaveOneExpansion, AreExpanded, IsSpacePassed}
 use Rattle.latex2mathml_tex_grammar.specs.Macros.{Part, Macro, Table, alias, macro_of, macro_with_default, with_macro, put, before, unit_count}
-use Rattle.latex2mathml_tex_grammar.specs.{Next.past_space, Reading.Outcome, Reading.Read, Reading.Refused, Refusal.Refusal, Refusal.TooManyExpansions, Refusal.refusal_at}
+use Rattle.latex2mathml_tex_grammar.specs.{Next.past_space, Operands.Due, Operands.due_behind, Operands.is_due, Reading.Outcome, Reading.Read, Reading.Refused, Refusal.Refusal, Refusal.TooManyExpansions, Refusal.refusal_at}
 use Rattle.latex2mathml_tex_grammar.specs.Units.{Piece, Space, Open, Close, Command, Character, Unit, Units, Next, End, Stop}
 use Rattle.latex2mathml_tex_grammar.proofs.{Choices.of_found, MacrosUsed.of_used_macro}
 use Rattle.latex2mathml_tex_grammar.proofs.Expanding.{expands_once, is_expanded, Shrinks, turn_shrinks}
 
-stays_standing : (table : Table) (uses room : ℕ) (u : Unit) (l : Units) → role_of table u.piece ≡ Stands u.piece → turn table uses room u l ≡ Stays u.piece
-stays_standing table uses room u l e = ap (λ role. turn_of role table uses room u l) e
+stays_standing : (table : Table) (uses room : ℕ) (d : Due) (u : Unit) (l : Units) → role_of table u.piece ≡ Stands u.piece → turn table uses room d u l ≡ Stays u.piece
+stays_standing table uses room d u l e = ap (λ role. turn_of (role_as (is_due d) role) table uses room u l) e
 
-pub own : (table : Table) (uses room : ℕ) (l : Units) → AllStand table l → Expands table uses room l l
-own table uses room (Next u l) h = stays (stays_standing table uses room u l h.0) (own table uses room l h.1)
-own table uses room (End place) h = at_end
-own table uses room (Stop r) h = at_stop
+pub own : (table : Table) (uses room : ℕ) (d : Due) (l : Units) → AllStand table l → Expands table uses room d l l
+own table uses room d (Next u l) h = stays (stays_standing table uses room d u l h.0) (own table uses room (due_behind u.piece d) l h.1)
+own table uses room d (End place) h = at_end
+own table uses room d (Stop r) h = at_stop
 
 -- what stays is neither a macro nor a definition, here as the piece p
 
@@ -50,6 +50,12 @@ stands_staying : (role : Role) (table : Table) (uses room : ℕ) (u : Unit) (l :
 stands_staying (Uses m) table uses room u l e = absurd (no_stay_used table uses room u m l e)
 stands_staying (Defines word) table uses room u l e = absurd (no_stay_defined table uses room word (definition_of word u.place l) e)
 stands_staying (Stands q) table uses room u l {p} e = let same : q ≡ p = cc in ap Stands same
+
+-- whether it is taken whole or not
+stands_so : (whole : Bool) (role : Role) {p : Piece} → role_as whole role ≡ Stands p → role ≡ Stands p
+stands_so whole (Uses m) e = cc
+stands_so whole (Defines word) e = cc
+stands_so whole (Stands q) e = e
 
 -- a name that means a macro goes on to do so
 
@@ -190,30 +196,30 @@ found_stands : (first : Table) (found : Option Macro) (p q : Piece) → (found �
 found_stands first (Some m) p q none some stands = named_stands first m m.alias q refl (some m refl) stands
 found_stands first None p q none some stands = own_stands first p q (none refl) stands
 
-done : {table : Table} {uses room : ℕ} {l m : Units} (first : Table) → Later first table → Expands table uses room l m → AllStand first m
+done : {table : Table} {uses room : ℕ} {d : Due} {l m : Units} (first : Table) → Later first table → Expands table uses room d l m → AllStand first m
 done first t at_end = tt
 done first t at_stop = tt
-done first t (stays {table = table} {uses = uses} {room = room} {u = u} {piece = piece} {l = l} e d) =
-    (found_stands first (macro_of table u.piece) u.piece piece (piece_grows first table u.piece t.grows) (of_used_macro (IsNoName first) u.piece table t.no_names) (stands_staying (role_of table u.piece) table uses room u l e), done first t d)
-done first t (turns {table = table} {next = next} {uses = uses} {room = room} {u = u} {l = l} e d) =
-    done first (subst (LaterBy first) e (turn_later (role_of table u.piece) first table uses room u l t)) d
+done first t (stays {table = table} {uses = uses} {room = room} {d = d} {u = u} {piece = piece} {l = l} e x) =
+    (found_stands first (macro_of table u.piece) u.piece piece (piece_grows first table u.piece t.grows) (of_used_macro (IsNoName first) u.piece table t.no_names) (stands_so (is_due d) (role_of table u.piece) (stands_staying (role_as (is_due d) (role_of table u.piece)) table uses room u l e)), done first t x)
+done first t (turns {table = table} {next = next} {uses = uses} {room = room} {d = d} {u = u} {l = l} e x) =
+    done first (subst (LaterBy first) e (turn_later (role_as (is_due d) (role_of table u.piece)) first table uses room u l t)) x
 done first t (fails e) = tt
 
 now : (table : Table) → AliasesStand table → Later table table
 now table h = record { grows = λ name e. e; no_names = λ name m e piece f. h name m piece e f }
 
-behind : (table next : Table) (uses room uses_left room_left : ℕ) (u : Unit) (l n m : Units) → AliasesStand next → turn table uses room u l ≡ Turns next uses_left room_left n → Expands table uses room (Next u l) m → AllStand next m
-behind table next uses room uses_left room_left u l n m h e d =
-    let rest : Expands next uses_left room_left n (expansion next uses_left room_left n) = is_expanded next uses_left room_left n in
-    subst (AllStand next) (expands_once (turns e rest) d) (done next (now next h) rest)
+behind : (table next : Table) (uses room uses_left room_left : ℕ) (d : Due) (u : Unit) (l n m : Units) → AliasesStand next → turn table uses room d u l ≡ Turns next uses_left room_left n → Expands table uses room d (Next u l) m → AllStand next m
+behind table next uses room uses_left room_left d u l n m h e x =
+    let rest : Expands next uses_left room_left d n (expansion next uses_left room_left d n) = is_expanded next uses_left room_left d n in
+    subst (AllStand next) (expands_once (turns e rest) x) (done next (now next h) rest)
 
-most : {table : Table} {uses room : ℕ} {l m : Units} → Expands table uses room l m → unit_count m ≤ unit_count l + room
+most : {table : Table} {uses room : ℕ} {d : Due} {l m : Units} → Expands table uses room d l m → unit_count m ≤ unit_count l + room
 most at_end = omega arith
 most at_stop = omega arith
-most (stays e d) = omega (arith, most d)
-most (turns {table = table} {uses = uses} {room = room} {u = u} {l = l} e d) =
-    let less = subst (Shrinks (unit_count l + room)) e (turn_shrinks (role_of table u.piece) table uses room u l) in
-    omega (arith, less, most d)
+most (stays e x) = omega (arith, most x)
+most (turns {table = table} {uses = uses} {room = room} {d = d} {u = u} {l = l} e x) =
+    let less = subst (Shrinks (unit_count l + room)) e (turn_shrinks (role_as (is_due d) (role_of table u.piece)) table uses room u l) in
+    omega (arith, less, most x)
 most (fails e) = omega arith
 
 -- another name
@@ -228,15 +234,15 @@ named table name piece =
     ap (λ m. found_role m (Command name)) found ∙ now_role (macro_of table piece) piece (Command name)
 
 pub have_one : HaveOneExpansion
-have_one = λ table uses room l. record { some = (_, is_expanded table uses room l); one = λ m n d e. expands_once d e }
+have_one = λ table uses room d l. record { some = (_, is_expanded table uses room d l); one = λ m n x y. expands_once x y }
 
 pub are_expanded : AreExpanded
 are_expanded = record {
   own = own;
-  done = λ table uses room l m h d. done table (now table h) d;
+  done = λ table uses room d l m h x. done table (now table h) x;
   behind = behind;
-  again = λ table uses room l m h d. own table uses room m (done table (now table h) d);
-  most = λ table uses room l m d. most d;
+  again = λ table uses room d l m h x. own table uses room d m (done table (now table h) x);
+  most = λ table uses room d l m x. most x;
   named = named;
 }
 

@@ -1,6 +1,6 @@
 -- A text has exactly one reading or exactly one refusal.
 use Rattle.std.proofs.Common.{◌≡◌, ◌⊎◌, inl, inr, ℕ, List, ap, subst, refl, sym, ◌∙◌, Bool, true, false, ◌||◌, IsTrue, IsFalse, if◌then◌else◌}
-use Rattle.latex2mathml_tex_grammar.specs.{Expanding.expansion, Expansion.most_units, Expansion.most_uses, Formulas.IsExpansion, Formulas.IsReading, Formulas.IsRefusal, Formulas.formula_context, Laws.AreMacrosTheirNames, Laws.HasOneReading, Macros.SameMacros, Macros.Table, Refusal.Refusal, Rows.Row, Rules.Context, Rules.WholeText, Rules.begun, Symbols.Style, Cutting.units_of, Units.Units, Units.End}
+use Rattle.latex2mathml_tex_grammar.specs.{Expanding.expansion, Expansion.most_units, Expansion.most_uses, Formulas.IsExpansion, Formulas.IsReading, Formulas.IsRefusal, Formulas.formula_context, Laws.AreMacrosTheirNames, Laws.HasOneReading, Macros.SameMacros, Macros.Table, Operands.none_due, Refusal.Refusal, Rows.Row, Rules.Context, Rules.WholeText, Rules.begun, Symbols.Style, Cutting.units_of, Units.Units, Units.End}
 use Rattle.latex2mathml_tex_grammar.specs.Reading.{Outcome, Read, Refused, ReadsAtoms, text_ends, atoms_end, atom_read, rest_read, ReadsRule, rule_gives, rows_read, rows_to_end, ReadsRows, cell_read, ReadsBehindCell, next_cell, arrow_read, next_row, table_ends, text_ends_table}
 use Rattle.latex2mathml_tex_grammar.proofs.{Expanding.expansion_is, Expanding.is_expanded, OneList.has_units, OneList.units_are, SameTables.expansion_same, Total.has_one_outcome, Unique.one_atoms, Spaces.next_stays, Total.rule_outcome, Unique.one_rule}
 use Rattle.latex2mathml_tex_grammar.specs.Formulas.{ReadsFormula, as_atoms, as_rows, alone, asks_for_rows}
@@ -70,13 +70,13 @@ formula_to_the_end {style = style} {l = l} (as_rows {p = p} d s t) = rule_to_the
 
 -- the units that a text expands to
 abbrev pub expanded : Table → List ℕ → Units
-expanded macros text = expansion macros most_uses most_units (units_of 0 text)
+expanded macros text = expansion macros most_uses most_units none_due (units_of 0 text)
 
 pub has_expansion : (macros : Table) (text : List ℕ) → IsExpansion macros text (expanded macros text)
-has_expansion macros text = record { units = units_of 0 text; spelled = has_units 0 text; expands = is_expanded macros most_uses most_units (units_of 0 text) }
+has_expansion macros text = record { units = units_of 0 text; spelled = has_units 0 text; expands = is_expanded macros most_uses most_units none_due (units_of 0 text) }
 
 pub expanded_are : {macros : Table} {text : List ℕ} {l : Units} → IsExpansion macros text l → expanded macros text ≡ l
-expanded_are {macros} {text} e = ap (expansion macros most_uses most_units) (units_are 0 text e.units e.spelled) ∙ expansion_is e.expands
+expanded_are {macros} {text} e = ap (expansion macros most_uses most_units none_due) (units_are 0 text e.units e.spelled) ∙ expansion_is e.expands
 
 -- a formula has one outcome
 
@@ -118,7 +118,7 @@ has_one_reading macros text style = record {
 -- what a text expands to where other macros hold for which each name means the same
 pub same_expansion : {macros others : Table} {text : List ℕ} {l : Units} → SameMacros macros others → IsExpansion macros text l → IsExpansion others text l
 same_expansion {macros} {others} {text} same e =
-    subst (IsExpansion others text) (sym (expansion_same macros others most_uses most_units (units_of 0 text) same) ∙ expanded_are e) (has_expansion others text)
+    subst (IsExpansion others text) (sym (expansion_same macros others most_uses most_units none_due (units_of 0 text) same) ∙ expanded_are e) (has_expansion others text)
 
 -- the law
 pub are_macros_their_names : AreMacrosTheirNames

@@ -1,6 +1,6 @@
 -- White space between the units of a formula is ignored.
 use Rattle.std.proofs.Common.{◌≡◌, ◌||◌, ℕ, List, ap, refl, sym, subst, ◌∙◌, IsTrue, IsFalse}
-use Rattle.latex2mathml_tex_grammar.specs.{Expansion.Stands, Expansion.role_of, ExpansionLaws.AllStand, Formulas.IsExpansion, Formulas.IsReading, Formulas.IsRefusal, Formulas.formula_context, Laws.HaveAlikeExpansions, Laws.IsSpaceNothing, Laws.StandsByItself, Macros.Table, Refusal.Refusal, Rows.Row, Symbols.Style}
+use Rattle.latex2mathml_tex_grammar.specs.{Expansion.Stands, Expansion.role_of, ExpansionLaws.AllStand, Formulas.IsExpansion, Formulas.IsReading, Formulas.IsRefusal, Formulas.formula_context, Laws.HaveAlikeExpansions, Laws.IsSpaceNothing, Laws.StandsByItself, Macros.Table, Operands.none_due, Refusal.Refusal, Rows.Row, Symbols.Style}
 use Rattle.latex2mathml_tex_grammar.specs.Reading.{Outcome, Read, Refused, ReadsAtoms, ReadsRule}
 use Rattle.latex2mathml_tex_grammar.specs.Rules.{Context, WholeText, begun, rows_of_text}
 use Rattle.latex2mathml_tex_grammar.specs.Spacing.{Standing, InFormula, standing_behind, AreAlike, both_end, both_stop, same_piece, space_before, space_behind, Alike, AreAlikeOutcomes, HaveAlikeUnits}
@@ -81,7 +81,7 @@ stand_there macros (space_before w e d) h = stand_there macros d h.1
 stand_there macros (space_behind w e d) h = (rw e refl, stand_there macros d h)
 
 stands_itself : (macros : Table) (text : List ℕ) (l : Units) → HasUnits 0 text l → AllStand macros l → IsExpansion macros text l
-stands_itself macros text l has h = record { units = l; spelled = has; expands = own macros _ _ l h }
+stands_itself macros text l has h = record { units = l; spelled = has; expands = own macros _ _ none_due l h }
 
 alike_there : (macros : Table) (text other : List ℕ) → HaveAlikeUnits text other → StandsByItself macros text → HaveAlikeExpansions macros text other
 alike_there macros text other (l, m, has, there, h) (units, also, stand) =

@@ -5,6 +5,7 @@ use Rattle.std.specs.Str.{byte}
 use Rattle.latex2mathml_tex_grammar.specs.Arguments.{macro_arguments}
 use Rattle.latex2mathml_tex_grammar.specs.Definitions.{Word, word_of, Definition, sign, definition_of, behind_definition}
 use Rattle.latex2mathml_tex_grammar.specs.Macros.{Part, Macro, macro_taking, macro_of, Table, put, before}
+use Rattle.latex2mathml_tex_grammar.specs.Operands.{Due, due_behind, is_due, used_as}
 use Rattle.latex2mathml_tex_grammar.specs.Reading.{Outcome, Read, Refused}
 use Rattle.latex2mathml_tex_grammar.specs.Refusal.{TooManyExpansions, Refusal, refusal_at}
 use Rattle.latex2mathml_tex_grammar.specs.Units.{Piece, Unit, unit, Units, Next, End, Stop}
@@ -106,22 +107,29 @@ turn_of (Uses m) table uses room u l = used table uses room u m l
 turn_of (Defines word) table uses room u l = defined table uses room word (definition_of word u.place l)
 turn_of (Stands piece) table uses room u l = Stays piece
 
--- what becomes of a unit before these units, where these macros hold
-abbrev pub turn : Table → ℕ → ℕ → Unit → Units → Turn
-turn table uses room u l = turn_of (role_of table u.piece) table uses room u l
+-- the role of a unit, where a macro is taken whole if the flag is set
+abbrev pub role_as : Bool → Role → Role
+role_as whole (Uses m) = Uses (used_as whole m)
+role_as whole (Defines word) = Defines word
+role_as whole (Stands piece) = Stands piece
 
--- what units expand to where these macros hold; the numbers say how many macros can be used, and how many units can be put
-pub data Expands : Table → ℕ → ℕ → Units → Units → Type 0 where
-  at_end : {table : Table} {uses room place : ℕ} → Expands table uses room (End place) (End place)
-  at_stop : {table : Table} {uses room : ℕ} {r : Refusal} → Expands table uses room (Stop r) (Stop r)
-  stays : {table : Table} {uses room : ℕ} {u : Unit} {piece : Piece} {l m : Units}
-      → turn table uses room u l ≡ Stays piece
-      → Expands table uses room l m
-      → Expands table uses room (Next u l) (Next (unit piece u.place) m)
-  turns : {table next : Table} {uses room uses_left room_left : ℕ} {u : Unit} {l m n : Units}
-      → turn table uses room u l ≡ Turns next uses_left room_left n
-      → Expands next uses_left room_left n m
-      → Expands table uses room (Next u l) m
-  fails : {table : Table} {uses room : ℕ} {u : Unit} {l : Units} {r : Refusal}
-      → turn table uses room u l ≡ Fails r
-      → Expands table uses room (Next u l) (Stop r)
+-- what becomes of a unit before these units, where these macros hold and these operands are still to come
+abbrev pub turn : Table → ℕ → ℕ → Due → Unit → Units → Turn
+turn table uses room d u l = turn_of (role_as (is_due d) (role_of table u.piece)) table uses room u l
+
+-- what units expand to where these macros hold; the numbers say how many macros can be used, and how many units can be put.
+-- The operands that are still to come say which macros are taken whole.
+pub data Expands : Table → ℕ → ℕ → Due → Units → Units → Type 0 where
+  at_end : {table : Table} {uses room place : ℕ} {d : Due} → Expands table uses room d (End place) (End place)
+  at_stop : {table : Table} {uses room : ℕ} {d : Due} {r : Refusal} → Expands table uses room d (Stop r) (Stop r)
+  stays : {table : Table} {uses room : ℕ} {d : Due} {u : Unit} {piece : Piece} {l m : Units}
+      → turn table uses room d u l ≡ Stays piece
+      → Expands table uses room (due_behind piece d) l m
+      → Expands table uses room d (Next u l) (Next (unit piece u.place) m)
+  turns : {table next : Table} {uses room uses_left room_left : ℕ} {d : Due} {u : Unit} {l m n : Units}
+      → turn table uses room d u l ≡ Turns next uses_left room_left n
+      → Expands next uses_left room_left d n m
+      → Expands table uses room d (Next u l) m
+  fails : {table : Table} {uses room : ℕ} {d : Due} {u : Unit} {l : Units} {r : Refusal}
+      → turn table uses room d u l ≡ Fails r
+      → Expands table uses room d (Next u l) (Stop r)

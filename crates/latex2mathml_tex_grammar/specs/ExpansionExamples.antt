@@ -1,13 +1,13 @@
 -- What some texts expand to.
 use Rattle.std.specs.Prelude.{ℕ, List, codes}
 use Rattle.std.specs.Str.{byte}
-use Rattle.latex2mathml_tex_grammar.specs.{Cutting.units_of, Expansion.Expands, UsualMacros.usual_macros}
+use Rattle.latex2mathml_tex_grammar.specs.{Cutting.units_of, Expansion.Expands, Operands.none_due, UsualMacros.usual_macros}
 use Rattle.latex2mathml_tex_grammar.specs.Refusal.{MissingArgument, TooManyExpansions, refusal_at}
 use Rattle.latex2mathml_tex_grammar.specs.Units.{Open, Close, Command, Character, Units, Next, End, Stop, unit}
 
 -- the text expands to these units, where only the usual macros hold, four macros can be used and twelve units can be put
 abbrev pub ExpandsTo : List ℕ → Units → Type 0
-ExpandsTo text units = Expands usual_macros 4 12 (units_of 0 text) units
+ExpandsTo text units = Expands usual_macros 4 12 none_due (units_of 0 text) units
 
 -- the units that some texts expand to
 pub record AreExpansionExamples : Type 0 where
@@ -36,3 +36,10 @@ pub record AreExpansionExamples : Type 0 where
   pub unstarred : ExpandsTo (codes "\\DeclarePairedDelimiter\\n()\\n x")
       (Next (unit (Command (codes "mathopen")) 27) (Next (unit Open 27) (Next (unit (Character (byte "(")) 27) (Next (unit Close 27) (Next (unit (Character (byte "x")) 30)
       (Next (unit (Command (codes "mathclose")) 27) (Next (unit Open 27) (Next (unit (Character (byte ")")) 27) (Next (unit Close 27) (End 31))))))))))
+  -- an operand of a fraction is taken whole
+  pub whole : ExpandsTo (codes "\\def\\d{ab}\\frac\\d\\d\\d")
+      (Next (unit (Command (codes "frac")) 10) (Next (unit Open 15) (Next (unit (Character (byte "a")) 15) (Next (unit (Character (byte "b")) 15) (Next (unit Close 15)
+      (Next (unit Open 17) (Next (unit (Character (byte "a")) 17) (Next (unit (Character (byte "b")) 17) (Next (unit Close 17) (Next (unit (Character (byte "a")) 19) (Next (unit (Character (byte "b")) 19) (End 21))))))))))))
+  -- that of a root is not
+  pub first : ExpandsTo (codes "\\def\\d{ab}\\sqrt\\d")
+      (Next (unit (Command (codes "sqrt")) 10) (Next (unit (Character (byte "a")) 15) (Next (unit (Character (byte "b")) 15) (End 17))))

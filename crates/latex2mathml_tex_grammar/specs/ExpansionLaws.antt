@@ -4,7 +4,7 @@ use Rattle.std.specs.Prelude.{Bool, IsTrue, Option, Some, None, codes, ◌≡◌
 use Rattle.latex2mathml_tex_grammar.specs.Arguments.{Opening, Closing, NoBrace, brace_of, group, first_sign, arguments}
 use Rattle.latex2mathml_tex_grammar.specs.Definitions.{Word, definition_of, meaning_now}
 use Rattle.latex2mathml_tex_grammar.specs.{DefinitionTexts.ReadsDefinitions, Reading.Outcome, Reading.Read}
-use Rattle.latex2mathml_tex_grammar.specs.{Expansion.Expands, Expansion.Stands, Expansion.Turns, Expansion.role_of, Expansion.turn, Macros.Part, Macros.Fixed, Macros.Argument, Macros.Taken, Macros.Parameter, Macros.Macro, Macros.macro_of, Macros.Table, Macros.with_macro, Macros.before, Macros.unit_count}
+use Rattle.latex2mathml_tex_grammar.specs.{Expansion.Expands, Expansion.Stands, Expansion.Turns, Expansion.role_of, Expansion.turn, Macros.Part, Macros.Fixed, Macros.Argument, Macros.Taken, Macros.Parameter, Macros.Macro, Macros.macro_of, Macros.Table, Macros.with_macro, Macros.before, Macros.unit_count, Operands.Due}
 use Rattle.latex2mathml_tex_grammar.specs.Units.{Piece, Space, Open, Close, Command, Character, Unit, Units, Next}
 
 -- among the units no macro is used, and no definition begins
@@ -12,14 +12,15 @@ abbrev pub AllStand : Table → Units → Type 0
 AllStand table (Next u l) = (role_of table u.piece ≡ Stands u.piece) × AllStand table l
 AllStand table l = ⊤
 
--- Units have exactly one expansion, whatever macros hold, and however many macros can be used and units can be put.
-pub record HasOneExpansion (table : Table) (uses room : ℕ) (l : Units) : Type 0 where
-  pub some : (m : Units) × Expands table uses room l m
-  pub one : (m n : Units) → Expands table uses room l m → Expands table uses room l n → m ≡ n
+-- Units have exactly one expansion, whatever macros hold, however many macros can be used and units can be put, and whatever
+-- operands are still to come.
+pub record HasOneExpansion (table : Table) (uses room : ℕ) (d : Due) (l : Units) : Type 0 where
+  pub some : (m : Units) × Expands table uses room d l m
+  pub one : (m n : Units) → Expands table uses room d l m → Expands table uses room d l n → m ≡ n
 
 -- so it is for all units
 abbrev pub HaveOneExpansion : Type 0
-HaveOneExpansion = (table : Table) (uses room : ℕ) (l : Units) → HasOneExpansion table uses room l
+HaveOneExpansion = (table : Table) (uses room : ℕ) (d : Due) (l : Units) → HasOneExpansion table uses room d l
 
 -- Definitions have exactly one outcome: a table of macros, or a refusal.
 pub record HasOneTable (table : Table) (l : Units) : Type 0 where
@@ -37,19 +38,19 @@ AliasesStand table = (name : List ℕ) (m : Macro) (piece : Piece) → table nam
 -- What is in an expansion.
 pub record AreExpanded : Type 0 where
   -- units among which no macro is used and no definition begins are their own expansion
-  pub own : (table : Table) (uses room : ℕ) (l : Units) → AllStand table l → Expands table uses room l l
+  pub own : (table : Table) (uses room : ℕ) (d : Due) (l : Units) → AllStand table l → Expands table uses room d l l
   -- in an expansion no macro is used that held before it, and no definition begins, unless a macro had another name before it
-  pub done : (table : Table) (uses room : ℕ) (l m : Units) → AliasesStand table → Expands table uses room l m → AllStand table m
+  pub done : (table : Table) (uses room : ℕ) (d : Due) (l m : Units) → AliasesStand table → Expands table uses room d l m → AllStand table m
   -- nor is one used that was defined by what comes first
-  pub behind : (table next : Table) (uses room uses_left room_left : ℕ) (u : Unit) (l n m : Units)
+  pub behind : (table next : Table) (uses room uses_left room_left : ℕ) (d : Due) (u : Unit) (l n m : Units)
       → AliasesStand next
-      → turn table uses room u l ≡ Turns next uses_left room_left n
-      → Expands table uses room (Next u l) m
+      → turn table uses room d u l ≡ Turns next uses_left room_left n
+      → Expands table uses room d (Next u l) m
       → AllStand next m
   -- so an expansion is its own expansion
-  pub again : (table : Table) (uses room : ℕ) (l m : Units) → AliasesStand table → Expands table uses room l m → Expands table uses room m m
+  pub again : (table : Table) (uses room : ℕ) (d : Due) (l m : Units) → AliasesStand table → Expands table uses room d l m → Expands table uses room d m m
   -- it has no more units than there were before, plus those that can be put
-  pub most : (table : Table) (uses room : ℕ) (l m : Units) → Expands table uses room l m → unit_count m ≤ unit_count l + room
+  pub most : (table : Table) (uses room : ℕ) (d : Due) (l m : Units) → Expands table uses room d l m → unit_count m ≤ unit_count l + room
   -- after `\let`, the new name is to a text what the piece was
   pub named : (table : Table) (name : List ℕ) (piece : Piece)
       → role_of (with_macro name (meaning_now table piece) table) (Command name) ≡ role_of table piece
@@ -90,13 +91,13 @@ added_pieces =
     ∷ Command (codes "mathopen") ∷ Command (codes "mathclose") ∷ Command (codes "left") ∷ Command (codes "right") ∷ []
 
 -- What holds of each piece of the units and of the macros holds of each piece of the expansion, if it holds of the pieces
--- that definitions add.
+-- that definitions add. Braces around a macro that is taken whole are among these.
 abbrev pub AddsNothing : Type 0
-AddsNothing = (test : Piece → Bool) (table : Table) (uses room : ℕ) (l m : Units)
+AddsNothing = (test : Piece → Bool) (table : Table) (uses room : ℕ) (d : Due) (l m : Units)
     → AllByRecursion (λ p. IsTrue (test p)) added_pieces
     → EachInTable (λ p. IsTrue (test p)) table
     → EachPiece (λ p. IsTrue (test p)) l
-    → Expands table uses room l m
+    → Expands table uses room d l m
     → EachPiece (λ p. IsTrue (test p)) m
 
 -- braces in pairs, and whatever is between them

@@ -3,7 +3,7 @@
 use Rattle.std.specs.Prelude.{ℕ, Bool, true, false, IsTrue, IsFalse, List, None, map, reverse, if◌then◌else◌}
 use Rattle.std.specs.Str.{encode_utf8_all}
 use Rattle.latex2mathml_elements.specs.{Annotated.annotated_print, Element.Element, Element.children, Print.formula_print}
-use Rattle.latex2mathml_tex_grammar.specs.{Expansion.Expands, Expansion.most_units, Expansion.most_uses, Macros.Table}
+use Rattle.latex2mathml_tex_grammar.specs.{Expansion.Expands, Expansion.most_units, Expansion.most_uses, Macros.Table, Operands.none_due}
 use Rattle.latex2mathml_tex_grammar.specs.{Makes.Core, Makes.is_display, Reading.Outcome, Reading.Read, Reading.Refused, Reading.ReadsAtoms, Reading.ReadsRule, Refusal.Kind, Refusal.OutsideTable, Refusal.Refusal, Rests.finished, Rows.Row, Rows.lone, Rows.row_element, Rows.with_atom, Rules.Context, Rules.in_context, Rules.begun, Rules.rows_of_text, Rules.WholeText, Symbols.Style}
 use Rattle.latex2mathml_tex_grammar.specs.Separators.{text_columns}
 use Rattle.latex2mathml_tex_grammar.specs.Units.{Units, End, HasUnits, is_forbidden}
@@ -16,7 +16,7 @@ formula_context style = in_context style None
 pub record IsExpansion (macros : Table) (text : List ℕ) (expanded : Units) : Type 0 where
   pub units : Units
   pub spelled : HasUnits 0 text units
-  pub expands : Expands macros most_uses most_units units expanded
+  pub expands : Expands macros most_uses most_units none_due units expanded
 
 -- whether a formula is refused because `&` or `\\` occurs outside of all tables
 abbrev pub is_outside : Kind → Bool

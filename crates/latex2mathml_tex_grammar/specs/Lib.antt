@@ -29,6 +29,7 @@ pub mod Macros
 pub mod Makes
 pub mod Meaning
 pub mod Next
+pub mod Operands
 pub mod Reading
 pub mod Refusal
 pub mod Rests

@@ -382,7 +382,7 @@ abbrev pub between_delimiters : List ℕ → List ℕ → Row → Core
 between_delimiters opening closing row =
     core (atom (Plain Inner) row.height (fenced row.height opening closing (row_element (lowered row.height row.elements))))
 
--- a delimiter of one size as an element: a group, unless it is a relation, since some browsers draw no base of scripts in its size
+-- a delimiter of one size as an element: a group, unless it is a relation. Some browsers draw a base of scripts in another size.
 abbrev pub sized_element : Class → Element → Element
 sized_element Relation x = x
 sized_element class x = grouped x

@@ -3,9 +3,11 @@ pub mod Bodies
 pub mod Bracing
 pub mod DefinedTables
 pub mod DefinitionTexts
+pub mod Dues
 pub mod Forms
 pub mod Grouping
 pub mod Hexadecimal
+pub mod InBraces
 pub mod Letters
 pub mod Listings
 pub mod Lone

@@ -1,6 +1,7 @@
 pub mod Bodies
 pub mod Characters
 pub mod Defined
+pub mod Dues
 pub mod Environments
 pub mod ErrorTexts
 pub mod Errors

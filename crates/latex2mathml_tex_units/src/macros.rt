@@ -2,6 +2,7 @@
 
 mod arguments;
 mod definitions;
+mod due;
 pub mod expander;
 mod halt;
 mod optional;

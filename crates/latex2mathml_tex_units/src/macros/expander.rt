@@ -2,9 +2,10 @@
 ghost use Rattle.std.specs.Prelude.{◌≡◌, IfOk, OnOk};
 ghost use Rattle.latex2mathml_tex_grammar.specs.{Expanding.expansion, Expansion.most_units, Expansion.most_uses, Macros.before};
 ghost use Rattle.latex2mathml_tex_grammar.specs.Units as units;
-ghost use Rattle.latex2mathml_tex_units.specs.{Expanded.IsHalted, Expanded.Turned, Expanded.expanded_left, Expanded.own_turn, Expanded.turn_of_name, Left.units_left, MacroTables.macros_in, Standing.Moves, Taking.Takes, Taking.piece_of};
+ghost use Rattle.latex2mathml_tex_units.specs.{Dues.due_of, Expanded.IsHalted, Expanded.Turned, Expanded.expanded_left, Expanded.own_turn, Expanded.turn_of_name, Left.units_left, MacroTables.macros_in, Standing.Moves, Taking.Takes, Taking.piece_of};
 
 use crate::lexer::Lexer;
+use crate::macros::due::Due;
 use crate::macros::halt::Halt;
 use crate::macros::pending::Pending;
 use crate::macros::scope::Scope;
@@ -27,6 +28,8 @@ pub struct Expander<'m, 'a> {
     pub(crate) alloc: Global,
     pub(crate) pending: Pending<'a>,
     pub(crate) macros: Scope<'m, 'a>,
+    /// The operands that are still to come.
+    pub(crate) due: Due,
     /// How many more macros can be used.
     pub(crate) uses: usize,
     /// How many more units can be put.
@@ -36,16 +39,22 @@ pub struct Expander<'m, 'a> {
 }
 
 impl<'m, 'a> Expander<'m, 'a> {
-    /// Creates an expander of the units that are left of a text, in which these macros hold.
-    pub(crate) fn new(alloc: Global, macros: &'m Macros<'a>, lexer: Lexer<'a>) -> Expander<'m, 'a>
+    /// Creates an expander of the units that are left of a text, in which these macros hold, before these operands.
+    pub(crate) fn new(
+        alloc: Global,
+        macros: &'m Macros<'a>,
+        due: Due,
+        lexer: Lexer<'a>,
+    ) -> Expander<'m, 'a>
         ensures { expanded_left result
-            ≡ expansion (macros_in macros.now) most_uses most_units
+            ≡ expansion (macros_in macros.now) most_uses most_units (due_of due)
             (units_left lexer.entry) }
     {
         Expander {
             alloc,
             pending: Pending::new(alloc, lexer),
             macros: Scope::within(alloc, macros),
+            due,
             uses: MOST_USES,
             room: MOST_UNITS,
             refused: None,
@@ -66,11 +75,15 @@ impl<'m, 'a> Expander<'m, 'a> {
                 return Ok(next);
             };
             let Piece::Command(name) = unit.piece else {
+                self.due.pass(unit.piece)?;
                 return Ok(next);
             };
             let place = unit.place;
             match self.turn(name, place) {
-                Ok(Some(piece)) => return Ok(Next::Unit(Unit { piece, place })),
+                Ok(Some(piece)) => {
+                    self.due.pass(piece)?;
+                    return Ok(Next::Unit(Unit { piece, place }));
+                }
                 Ok(None) => {}
                 Err(halt) => return self.halted(halt),
             }
@@ -87,7 +100,9 @@ impl<'m, 'a> Expander<'m, 'a> {
             return Ok(());
         }
         let usual = self.macros.is_empty();
-        self.pending.lexer.take_standing(usual, units)
+        let listed = units.as_slice().len();
+        self.pending.lexer.take_standing(usual, units)?;
+        self.due.pass_all(&units[listed..])
     }
 
     /// Leaves nothing but this refusal.
@@ -111,22 +126,36 @@ impl<'m, 'a> Expander<'m, 'a> {
         ensures turned { Turned result (turn_of_name self.old name.now place)
             self.old self.new }
         ensures refused { self.new.refused ≡ self.old.refused }
+        ensures due { self.new.due ≡ self.old.due }
     {
         let piece = Piece::Command(name);
+        let whole = self.due.is_due();
         if let Some(found) = self.macros.defined(name) {
             if let Some(piece) = found.alias {
                 return self.define(piece, place);
             }
-            self.pending
-                .replace(self.alloc, found, place, &mut self.uses, &mut self.room)?;
+            self.pending.replace(
+                self.alloc,
+                found,
+                place,
+                whole,
+                &mut self.uses,
+                &mut self.room,
+            )?;
             return Ok(None);
         }
         if !may_turn(name) {
             return Ok(Some(piece));
         }
         if let Some(found) = usual_macro(self.alloc, name)? {
-            self.pending
-                .replace(self.alloc, &found, place, &mut self.uses, &mut self.room)?;
+            self.pending.replace(
+                self.alloc,
+                &found,
+                place,
+                whole,
+                &mut self.uses,
+                &mut self.room,
+            )?;
             return Ok(None);
         }
         self.define(piece, place)
@@ -138,6 +167,7 @@ impl<'m, 'a> Expander<'m, 'a> {
             (own_turn self.old (piece_of piece.entry) (units.unit written place))
             self.old self.new }
         ensures refused { self.new.refused ≡ self.old.refused }
+        ensures due { self.new.due ≡ self.old.due }
     {
         let Some(word) = word_of(piece) else {
             return Ok(Some(piece));

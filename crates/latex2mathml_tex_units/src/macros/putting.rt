@@ -1,15 +1,15 @@
 //! What replaces macros.
 ghost use Rattle.std.specs.Prelude.{◌≡◌, ℕ, OnOk, [], map, option_map};
-ghost use Rattle.latex2mathml_tex_grammar.specs.{Expansion.form_of, Expansion.replaced, Expansion.used, Macros.Table, Macros.argument_at, Macros.put, Macros.put_part};
+ghost use Rattle.latex2mathml_tex_grammar.specs.{Expansion.form_of, Expansion.replaced, Expansion.used, Macros.Fixed, Macros.Table, Macros.argument_at, Macros.put, Macros.put_part, Operands.body_as, Operands.in_braces, Operands.needs_braces, Operands.used_as};
 ghost use Rattle.latex2mathml_tex_grammar.specs.Units as units;
-ghost use Rattle.latex2mathml_tex_units.specs.Putting.{ArePut, Puts, Replaces, body_units, part_units};
+ghost use Rattle.latex2mathml_tex_units.specs.Putting.{ArePut, Puts, Replaces, arguments_at, body_units, part_units};
 ghost use Rattle.latex2mathml_tex_units.specs.{Bodies.form_in, Bodies.macro_of, Bodies.part_of, Pending.pending_units, Pending.units_in, Taking.unit_of};
 
 use crate::macros::arguments::Arguments;
 use crate::macros::halt::Halt;
 use crate::macros::part::{Lead, Macro, Part};
 use crate::macros::pending::Pending;
-use crate::unit::{Fault, Unit};
+use crate::unit::{Fault, Piece, Unit};
 use std::alloc::{AllocError, Global};
 
 impl<'a> Pending<'a> {
@@ -137,6 +137,47 @@ impl<'a> Pending<'a> {
         Ok(true)
     }
 
+    /// Puts a body with its arguments in braces, if there is room.
+    fn put_in_braces(
+        &mut self,
+        room: &mut usize,
+        body: &[Part<'a>],
+        arguments: &Arguments<'_, 'a>,
+        place: usize,
+    ) -> Result<bool, AllocError>
+        ensures { Puts result (put (arguments_at place arguments.now) place
+            (in_braces (map part_of body.now))) room.old room.new self.old self.new }
+    {
+        let piece = Piece::Close;
+        if !self.put_units(room, &[Unit { piece, place }])? {
+            return Ok(false);
+        }
+        if !self.put_body(room, body, arguments, place)? {
+            return Ok(false);
+        }
+        let piece = Piece::Open;
+        self.put_units(room, &[Unit { piece, place }])
+    }
+
+    /// Puts a body with its arguments, in braces if the macro is taken whole and they are needed, if there is room.
+    fn put_used(
+        &mut self,
+        room: &mut usize,
+        body: &[Part<'a>],
+        arguments: &Arguments<'_, 'a>,
+        place: usize,
+        whole: bool,
+    ) -> Result<bool, AllocError>
+        ensures { Puts result (put (arguments_at place arguments.now) place
+            (body_as whole (map part_of body.now))) room.old room.new self.old self.new }
+    {
+        if whole && needs_braces(body) {
+            self.put_in_braces(room, body, arguments, place)
+        } else {
+            self.put_body(room, body, arguments, place)
+        }
+    }
+
     /// Puts what replaces the macro at this place, which has this body and these arguments, if there is room.
     fn put_replacement(
         &mut self,
@@ -144,13 +185,15 @@ impl<'a> Pending<'a> {
         body: &[Part<'a>],
         arguments: &Arguments<'_, 'a>,
         place: usize,
+        whole: bool,
     ) -> Result<(), Halt>
         ensures { (table : Table) (uses : ℕ) (piece : units.Piece) → Replaces result
             (replaced table uses room.old (units.unit piece place)
-            (body_units arguments.now place body.now) (pending_units self.old))
+            (put (arguments_at place arguments.now) place (body_as whole (map part_of body.now)))
+            (pending_units self.old))
             table uses room.new (pending_units self.new) }
     {
-        if !self.put_body(room, body, arguments, place)? {
+        if !self.put_used(room, body, arguments, place, whole)? {
             return Err(Halt::Refused(Fault::TooManyExpansions, place));
         }
         Ok(())
@@ -169,18 +212,20 @@ impl<'a> Pending<'a> {
         }
     }
 
-    /// Puts what replaces a macro that is used at this place, if `uses`, the number of uses that are left, allows it.
+    /// Puts what replaces a macro that is used at this place, if `uses`, the number of uses that are left, allows it. The flag
+    /// says whether the macro is an operand that is taken whole.
     pub(crate) fn replace(
         &mut self,
         alloc: Global,
         found: &Macro<'a>,
         place: usize,
+        whole: bool,
         uses: &mut usize,
         room: &mut usize,
     ) -> Result<(), Halt>
         ensures { (table : Table) (piece : units.Piece) → Replaces result
-            (used table uses.old room.old (units.unit piece place) (macro_of found.now)
-            (pending_units self.old))
+            (used table uses.old room.old (units.unit piece place)
+            (used_as whole (macro_of found.now)) (pending_units self.old))
             table uses.new room.new (pending_units self.new) }
     {
         if *uses == 0 {
@@ -189,13 +234,23 @@ impl<'a> Pending<'a> {
         *uses -= 1;
         let Some(starred) = self.take_star(found) else {
             let arguments = self.take_macro_arguments(alloc, found, place)?;
-            return self.put_replacement(room, &found.body, &arguments, place);
+            return self.put_replacement(room, &found.body, &arguments, place, whole);
         };
         let given = self.take_arguments(alloc, place, &found.takes)?;
         let arguments = Arguments {
             default: None,
             given,
         };
-        self.put_replacement(room, starred, &arguments, place)
+        self.put_replacement(room, starred, &arguments, place, whole)
+    }
+}
+
+/// Whether a body is in braces where its macro is taken whole: not if it is only one piece.
+fn needs_braces(body: &[Part]) -> bool
+    ensures { result ≡ needs_braces (map part_of body.now) }
+{
+    match body {
+        [Part::Fixed(_)] => false,
+        _ => true,
     }
 }

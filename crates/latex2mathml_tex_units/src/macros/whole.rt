@@ -1,10 +1,11 @@
 //! All units that a text expands to.
 ghost use Rattle.std.specs.Prelude.{◌≡◌, IfOk, map};
 ghost use Rattle.std.specs.Str.{chars};
-ghost use Rattle.latex2mathml_tex_grammar.specs.{Expanding.expansion, Expansion.most_units, Expansion.most_uses, Macros.before};
+ghost use Rattle.latex2mathml_tex_grammar.specs.{Expanding.expansion, Expansion.most_units, Expansion.most_uses, Macros.before, Operands.due_behind_units, Operands.none_due};
 ghost use Rattle.latex2mathml_tex_units.specs.{Expanded.expanded_left, Expanded.expanded_text, Left.units_end, Left.units_left, MacroTables.macros_in, Taking.unit_of};
 
 use crate::lexer::Lexer;
+use crate::macros::due::Due;
 use crate::macros::expander::Expander;
 use crate::macros::table::Macros;
 use crate::unit::{Fault, Next, Unit};
@@ -39,7 +40,8 @@ pub(crate) fn list_units<'a>(
     }
 }
 
-/// Appends the units that the rest of a text expands to, which begins with one that is not common, and returns how they end.
+/// Appends the units that the rest of a text expands to, which begins with one that is not common, and returns how they end. The
+/// list has all units before it.
 #[inline(never)]
 fn list_rest<'a>(
     alloc: Global,
@@ -49,7 +51,8 @@ fn list_rest<'a>(
 ) -> Result<End, AllocError>
     ensures { IfOk result (λ end. before (map unit_of units.new.items) (units_end end)
         ≡ before (map unit_of units.old.items)
-        (expansion (macros_in macros.now) most_uses most_units (units_left rest.entry))) }
+        (expansion (macros_in macros.now) most_uses most_units
+        (due_behind_units (map unit_of units.old.items) none_due) (units_left rest.entry))) }
 {
     let mut lexer = rest;
     lexer.take_standing(macros.is_empty(), units)?;
@@ -59,8 +62,8 @@ fn list_rest<'a>(
     }
 }
 
-/// Appends the units that the rest of a text expands to, and returns how they end. Few formulas use macros, so only those make
-/// an expander.
+/// Appends the units that the rest of a text expands to, and returns how they end. The list has all units before it. Few formulas
+/// use macros, so only those make an expander.
 #[inline(never)]
 fn expand<'a>(
     alloc: Global,
@@ -70,9 +73,12 @@ fn expand<'a>(
 ) -> Result<End, AllocError>
     ensures { IfOk result (λ end. before (map unit_of units.new.items) (units_end end)
         ≡ before (map unit_of units.old.items)
-        (expansion (macros_in macros.now) most_uses most_units (units_left rest.entry))) }
+        (expansion (macros_in macros.now) most_uses most_units
+        (due_behind_units (map unit_of units.old.items) none_due) (units_left rest.entry))) }
 {
-    Expander::new(alloc, macros, rest).take_all(units)
+    let mut due = Due::new(alloc);
+    due.pass_all(units)?;
+    Expander::new(alloc, macros, due, rest).take_all(units)
 }
 
 impl<'m, 'a> Expander<'m, 'a> {
