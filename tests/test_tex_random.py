@@ -55,6 +55,9 @@ WORDS = st.deferred(lambda: st.lists(WORD, max_size=4).map("".join))
 WORD = st.one_of(one_of("if a b,"), st.just(" "), joined("$", ROWS, "$"), joined("{", WORDS, "}"), joined(r"\textbf{", WORDS, "}"),
                  command(r"small tiny Large normalsize bf rm"), one_of(r"\hspace{1em} \kern1em"), one_of("- -- --- ` `` ' ''"))
 
+BODIES = one_of(r"a B 1 + = x_1 y^2 \frac12 \sqrt{x} {ab} \mathrm{d} \alpha{}")
+PAIRS = r"\frac \dfrac \binom \overset \underset \stackrel"
+
 CONSTRUCTS = [
     joined(one_of(r"\frac \dfrac \tfrac \cfrac \binom \overset \underset \stackrel"), GROUPS, GROUPS),
     joined(r"\sqrt", MAYBE_BRACKETS, GROUPS),
@@ -77,6 +80,12 @@ CONSTRUCTS = [
     joined(r"\substack{", ROWS, r"\\{}", ROWS, "}"),
     joined(r"\begin{CD}", LETTERS, "@>", GROUPS, ">>", LETTERS, r"\\@VV", GROUPS, r"V@|\\", LETTERS, "@=", LETTERS, r"\end{CD}"),
     joined(r"\def\f#1{", one_of("#1 {#1}_1 x"), r"}\f", OPERANDS),
+    # a macro is an operand, as a whole or not
+    joined(r"\def\g{", st.lists(BODIES, max_size=3).map("".join), "}", st.one_of(
+        joined(one_of(PAIRS), r"\g", one_of(r"\g 1 {ab} \alpha").map(lambda text: text + " ")),
+        joined(one_of(PAIRS), one_of(r"1 x {ab} {\hat{x}y} {\frac12} \alpha"), r"\g "),
+        joined(one_of(r"\hat \bar \vec \underline \mathrm \text \phantom \overbrace \xrightarrow \textcolor{red}"), r"\g "))),
+    joined(r"\def\g{x", BODIES, "}", one_of(r"\sqrt x^ x_ \mathrel \mathord"), r"\g "),
     one_of(r"\, \; \quad ~ \! \hspace{1em} \rule{1em}{2pt}").map(lambda text: text + " "),
 ]
 ATOMS = st.one_of(LETTERS, LETTERS, one_of("1 2 12 3.5"), SIGNS, NAMES, GROUPS, *CONSTRUCTS)
