@@ -19,6 +19,9 @@ MOST_DOUBLINGS = 17  # of one list
 # For a second formula that is the same as the first, only the input and the answers need more room, each once.
 MOST_FOR_ANOTHER = 3
 
+# names that are as long as that of a usual macro, and begin with the same two letters
+ALIKE = ("\\displaystyle", "\\small", "\\color")
+
 # texts under each heading: the place of each, and a function that makes it with this many pieces
 TEXTS = cases.grouped((heading, (line.place, lambda count, text=line.text: cases.expand(text, count).decode()))
                       for heading, line in cases.lines_of(cases.CASES / "tex_growth.txt") if line.text)
@@ -37,8 +40,10 @@ def asked_for(text):
 
 def asked_anew(text):
     """What a second formula may also request: the lists of a body, an argument and a replacement, and the texts of columns before and
-    after repetitions are written out, are made for each formula."""
+    after repetitions are written out, are made for each formula. So is the list of the groups that are open, if there is a name
+    that may be that of a usual macro."""
     lists = 3 * ("\\def" in text or "\\newcommand" in text) + 5 * ("\\Declare" in text) + 2 * ("{array}" in text)
+    lists += any(name in text for name in ALIKE)
     return asked_for(text) + MOST_DOUBLINGS * lists
 
 
