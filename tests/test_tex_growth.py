@@ -39,10 +39,10 @@ def asked_for(text):
 
 
 def asked_anew(text):
-    """What a second formula may also request: the lists of a body, an argument and a replacement, and the texts of columns before and
-    after repetitions are written out, are made for each formula. So is the list of the groups that are open, if there is a name
-    that may be that of a usual macro."""
-    lists = 3 * ("\\def" in text or "\\newcommand" in text) + 5 * ("\\Declare" in text) + 2 * ("{array}" in text)
+    """What a second formula may also request: the lists of a body, an argument, an argument that bars divide and a replacement, and the
+    texts of columns before and after repetitions are written out, are made for each formula. So is the list of the groups that are
+    open, if there is a name that may be that of a usual macro."""
+    lists = 3 * any(name in text for name in ("\\def", "\\newcommand", "\\Set")) + 5 * ("\\Declare" in text) + 2 * ("{array}" in text)
     lists += any(name in text for name in ALIKE)
     return asked_for(text) + MOST_DOUBLINGS * lists
 

@@ -53,7 +53,8 @@ NAMES = joined(command("sin log max lim det Pr"), "x")
 CELLS = joined(ROWS, "&", ROWS)
 WORDS = st.deferred(lambda: st.lists(WORD, max_size=4).map("".join))
 WORD = st.one_of(one_of("if a b,"), st.just(" "), joined("$", ROWS, "$"), joined("{", WORDS, "}"), joined(r"\textbf{", WORDS, "}"),
-                 command(r"small tiny Large normalsize bf rm"), one_of(r"\hspace{1em} \kern1em"), one_of("- -- --- ` `` ' ''"))
+                 command(r"small tiny Large normalsize bf rm"), one_of(r"\hspace{1em} \kern1em"), one_of("- -- --- ` `` ' ''"),
+                 joined(one_of(r"\underline \textcolor{red} \phantom \raisebox{1em}"), "{", WORDS, "}"))
 
 BODIES = one_of(r"a B 1 + = x_1 y^2 \frac12 \sqrt{x} {ab} \mathrm{d} \alpha{}")
 PAIRS = r"\frac \dfrac \binom \overset \underset \stackrel"
@@ -85,6 +86,8 @@ CONSTRUCTS = [
         joined(one_of(PAIRS), r"\g", one_of(r"\g 1 {ab} \alpha").map(lambda text: text + " ")),
         joined(one_of(PAIRS), one_of(r"1 x {ab} {\hat{x}y} {\frac12} \alpha"), r"\g "),
         joined(one_of(r"\hat \bar \vec \underline \mathrm \text \phantom \overbrace \xrightarrow \textcolor{red}"), r"\g "))),
+    joined(r"\def\g{", st.lists(BODIES, max_size=3).map("".join), "}", one_of(r"\sqrt[3] \sqrt[\g] \xrightarrow[a] \smash[b]"), r"\g "),
+    joined(one_of(r"\set \Set \Braket"), "{", LETTERS, one_of("| x|"), GROUPS, "}"),
     joined(r"\def\g{x", BODIES, "}", one_of(r"\sqrt x^ x_ \mathrel \mathord"), r"\g "),
     one_of(r"\, \; \quad ~ \! \hspace{1em} \rule{1em}{2pt}").map(lambda text: text + " "),
 ]

@@ -37,7 +37,7 @@ def entries(pattern, table, *fields):
 
 
 def function(pattern, name):
-    return re.search(rf"^(?:pub(?:\(crate\))? )?fn {name}\(.*?^}}$", source(pattern), re.M | re.S)[0]
+    return re.search(rf"^(?:pub(?:\(crate\))? )?fn {name}(?:<[^>]*>)?\(.*?^}}$", source(pattern), re.M | re.S)[0]
 
 
 def arms(pattern, name):

@@ -47,14 +47,30 @@ def macros():
 
 
 def other_macros():
-    """The usual macros that take more than arguments: the name, the form, what else it has, and the body."""
+    """The usual macros that take more than arguments, or that bars divide: the name, the form, what else it has, and the body."""
     written = " ".join(function(f"{UNITS}/macros/usual.rt", "other_named").split())
     named = rf"(?:name == ({TEXT})|is_break\(name\))"
     found = re.findall(rf"{named} {{ Some\(Other::(\w+) {{ (?:\w+: ({TEXT}|\d), )?body: ({TEXT}),? }}\)", written)
+    enclosed = re.findall(rf"name == ({TEXT}) {{ Some\(Other::(Enclosed) {{ bars: Bars::(\w+), left: ({TEXT}), right: ({TEXT}),? }}\)", written)
+    found += [(name, form, "", literal(value(left) + "#1" + dividers()[bars] + "#2" + value(right))) for name, form, bars, left, right in enclosed]
     if len(found) != written.count("Some(Other::"):
-        raise WrongForm(f"{len(found)} of {written.count('Some(Other::')} usual macros that take more than arguments can be read")
+        raise WrongForm(f"{len(found)} of {written.count('Some(Other::')} usual macros of a form of their own can be read")
     breaks = re.findall(TEXT, function(f"{UNITS}/macros/usual.rt", "is_break"))
     return [(one, *said) for name, *said in found for one in ([name] if name else breaks)]
+
+
+def dividers():
+    """What takes the place of a bar, for each name of bars that divide an argument."""
+    written = " ".join(function(f"{UNITS}/macros/bars.rt", "push_divider").split())
+    relations = re.findall(rf"Bars::(\w+) => {{ let relation = \[Piece::Close, Piece::Command\(({TEXT})\), Piece::Open\];", written)
+    stretched = re.findall(rf"Bars::(\w+) => push_stretched\(done, ({TEXT}), bar, place\)", written)
+    return {**{bars: f"}}\\{value(relation)}{{" for bars, relation in relations},
+            **{bars: f"}}\\{value(space)}\\middle|\\{value(space)}{{" for bars, space in stretched}}
+
+
+def literal(text):
+    """The text as the code writes it."""
+    return '"' + text.replace("\\", "\\\\") + '"'
 
 
 def uses_of(name, form, other, body):
@@ -63,6 +79,8 @@ def uses_of(name, form, other, body):
         return [(f"\\{value(name)} #1\\{value(other)}{{#2}}", body)]
     if form == "Optional":
         return [(f"\\{value(name)}[#1]" + "{#2}" * (int(other) - 1), body)]
+    if form == "Enclosed":
+        return [(f"\\{value(name)}{{#1|#2}}", body)]
     return [(f"\\{value(name)}{{#1}}", body), (f"\\{value(name)}*{{#1}}", other)]
 
 

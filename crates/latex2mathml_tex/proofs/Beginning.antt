@@ -81,7 +81,7 @@ module _ (p : Parser) (i : Input) (fr : Frames) (place : ℕ) (c : Context) (ope
     claims = rw (opened, past, pushed s p.frames.stack.items frame.Text (elements_of p)) (words_due (λ ws. gives (core (words_atom ws))) g.leads);
   }
 
-  pub words_begin_step : CanBegin 0 p → Follows (to_do p + 13) (record p { input = i; frames = fr }) (state.Word (record { count = 0; last = None; accent = None }) place c)
+  pub words_begin_step : CanBegin 0 p → Follows (to_do p + 6) (record p { input = i; frames = fr }) (state.Word (record { count = 0; last = None; accent = None }) place c)
   words_begin_step can =
       let made = pushed_can p fr frame.Text opened words_made 0 0 (omega arith) can search in
       let weight = pushed_weight p fr frame.Text opened in

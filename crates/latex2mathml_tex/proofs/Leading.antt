@@ -1,9 +1,9 @@
 -- Where what is due leads, step by step, whatever it is for.
 use Rattle.std.proofs.Common.{ap, Bool, true, false, ◌≡◌, ℕ, IsTrue, IsFalse, List, [], ◌∷◌, Option, Some, None, refl, subst, sym}
 use Rattle.latex2mathml_tex_grammar.specs.{Atoms.Atom, Delimiters.delimiter_of}
-use Rattle.latex2mathml_tex_grammar.specs.Makes.{Core, number, Scripts, no_scripts, scripted}
+use Rattle.latex2mathml_tex_grammar.specs.Makes.{core, Core, number, Scripts, no_scripts, scripted}
 use Rattle.latex2mathml_tex_grammar.specs.{Meaning.Beside, Meaning.Change, Next.past_space, Next.follows, Next.next_are, Next.digits_next, Next.refusal_here}
-use Rattle.latex2mathml_tex_grammar.specs.Reading.{Outcome, Read, Refused, ReadsRule, ReadsWords, rule_gives, rule_refuses, operand_read, operand_refused, core_read, core_refused, core_missing, core_stopped, atoms_read, atoms_refused, words_read, words_refused, units_taken, units_missing, unit_follows, no_unit_follows, digits_taken, delimiter_taken, delimiter_missing, group_operand, group_refused, digit_operand, other_operand, other_refused, no_operand, operand_at_end, operand_stopped, scripts_end, mark_taken, script_read, script_refused, mark_refused, ReadsAtom, on_empty_row, base_read, base_refused, text_ends, never_ended, atoms_stopped, atoms_end, atom_read, atom_refused, rest_read, change_refused, word_stands, group_of_words, formula_read, formula_refused, words_in_alphabet, no_word, word_missing, word_at_end, word_stopped, words_end, words_never_ended, words_stopped, atom_in_words, atom_refused_in_words, word_read, word_refused, ligature_read, words_resized, words_resized_refused, found_taken, found_refused, passed_over, rows_read, rows_refused, ReadsRows, rows_to_end}
+use Rattle.latex2mathml_tex_grammar.specs.Reading.{Outcome, Read, Refused, ReadsRule, ReadsWords, rule_gives, rule_refuses, operand_read, operand_refused, core_read, core_refused, core_missing, core_stopped, atoms_read, atoms_refused, words_read, words_refused, units_taken, units_missing, unit_follows, no_unit_follows, digits_taken, delimiter_taken, delimiter_missing, group_operand, group_refused, digit_operand, other_operand, other_refused, no_operand, operand_at_end, operand_stopped, scripts_end, mark_taken, script_read, script_refused, mark_refused, ReadsAtom, on_empty_row, base_read, base_refused, text_ends, never_ended, atoms_stopped, atoms_end, atom_read, atom_refused, rest_read, change_refused, word_stands, group_of_words, formula_read, formula_refused, words_in_alphabet, no_word, word_missing, word_at_end, word_stopped, words_end, words_never_ended, words_stopped, atom_in_words, atom_refused_in_words, part_of_words, box_in_words, box_refused_in_words, word_read, word_refused, ligature_read, words_resized, words_resized_refused, found_taken, found_refused, passed_over, rows_read, rows_refused, ReadsRows, rows_to_end}
 use Rattle.latex2mathml_tex_grammar.specs.Refusal.{Kind, MissingArgument, UnclosedBrace, MissingDelimiter, Refusal, refusal_at}
 use Rattle.latex2mathml_tex_grammar.specs.Rests.{Rest, GoesOnIn, NoRest, finished, rest_of}
 use Rattle.latex2mathml_tex_grammar.specs.Rows.{Operand, Row, empty_row, single}
@@ -18,7 +18,9 @@ use Rattle.latex2mathml_tex_grammar.specs.Symbols.{InScript, Alphabet, TextSize}
 use Rattle.latex2mathml_tex_grammar.specs.Units.{Piece, Unit, Units, Next, End, Stop}
 use Rattle.latex2mathml_tex_grammar.specs.Ligatures.{joined, ligature_start}
 use Rattle.latex2mathml_tex_grammar.proofs.Ligatures.{change_no_start}
-use Rattle.latex2mathml_tex_grammar.specs.Words.{Resized, ShowsAtom, Word, Words, no_words, with_accent_ended, with_word, IsWord, BeginsGroup, Changed, EndsGroup, BeginsFormula, TakesWords, NoWord, alphabet_behind, shown_character, size_after, word_rule}
+use Rattle.latex2mathml_tex_grammar.specs.WordBoxes.{WordBox, box_rule, of_words, word_box}
+use Rattle.latex2mathml_tex_grammar.proofs.BoxedWords.{word_no_box}
+use Rattle.latex2mathml_tex_grammar.specs.Words.{Formula, words_atom, Resized, ShowsAtom, Word, Words, no_words, with_accent_ended, with_word, IsWord, BeginsGroup, Changed, EndsGroup, BeginsFormula, TakesWords, NoWord, alphabet_behind, shown_character, size_after, word_rule}
 use Rattle.latex2mathml_tex.specs.Levels.{AtomMade, CoreMade, FollowsChange, Leads, Level, PartMade, RestLeads, RuleLeads, ScriptsLead, Then, WordLeads, as_atom_in_words, as_operand, as_resized, as_words, row, operand, part, words}
 use Rattle.latex2mathml_tex.specs.Levels.{core as core_level}
 
@@ -38,6 +40,14 @@ module _ {K : Outcome Core → Type 0} {l : Units} where
   pub row_due : {ending : Ending} {c : Context} (then : Row → Rule) → RuleLeads (reads_atoms ending c then) K l → Leads (row ending c (begun ending) (Then then K)) l
   row_due then k (Read x m) d = record { to = λ o ds. k.to o (atoms_read d ds) }
   row_due then k (Refused r) d = k.to _ (atoms_refused d)
+
+  -- words that are an operand are due within its level
+  words_as_operand : {place : ℕ} {c : Context} (whole : Operand → Core) → RuleLeads (of_words place c whole) K l → (o : Outcome Core) → ReadsRule (reads_words place c (λ ws. gives (core (words_atom ws)))) l o → CoreMade (operand place c (Then (λ x. gives (whole x)) K)) o
+  words_as_operand whole k o (words_read d rule_gives) = record { to = λ o ds. k.to o (words_read d ds) }
+  words_as_operand whole k o (words_refused d) = k.to _ (words_refused d)
+
+  pub words_operand_due : {place : ℕ} {c : Context} (whole : Operand → Core) → RuleLeads (of_words place c whole) K l → RuleLeads (reads_words place c (λ ws. gives (core (words_atom ws)))) (CoreMade (operand place c (Then (λ x. gives (whole x)) K))) l
+  words_operand_due whole k = record { to = words_as_operand whole k }
 
   pub words_due : {place : ℕ} {c : Context} (then : Words → Rule) → RuleLeads (reads_words place c then) K l → WordLeads (part (Then then K)) place c no_words (past_space l)
   words_due then k (Read ws m) d = record { to = λ o ds. k.to o (words_read d ds) }
@@ -238,9 +248,17 @@ module _ {place : ℕ} {c : Context} {K : Outcome Words → Type 0} {ws : Words}
   words_halted k = k _ words_stopped
 
   -- another part of words is due, in the same alphabet as those after it
-  pub word_due : {u : Unit} {l : Units} → IsFalse (is_close u.piece) → size_after (word_rule c.alphabet u.piece) ≡ None → ligature_start ws.accent c.alphabet u.piece ≡ None → alphabet_behind c.alphabet u.piece ≡ c.alphabet → PartMade (words place c K) (Read ws (Next u l)) → WordLeads (words place c K) place c ws (Next u l)
-  word_due e no_size none same k (Read vs m) d = λ o ds. k o (word_read e no_size none d (subst (λ a. ReadsWords place (in_words c a) vs m o) (sym same) ds))
-  word_due e no_size none same k (Refused r) d = k _ (word_refused e no_size none d)
+  pub word_due : {u : Unit} {l : Units} → IsFalse (is_close u.piece) → size_after (word_rule c.alphabet u.piece) ≡ None → ligature_start ws.accent c.alphabet u.piece ≡ None → word_box u.piece ≡ None → alphabet_behind c.alphabet u.piece ≡ c.alphabet → PartMade (words place c K) (Read ws (Next u l)) → WordLeads (words place c K) place c ws (Next u l)
+  word_due e no_size none no_box same k (Read vs m) d = λ o ds. k o (word_read e no_size none (part_of_words no_box d) (subst (λ a. ReadsWords place (in_words c a) vs m o) (sym same) ds))
+  word_due e no_size none no_box same k (Refused r) d = k _ (word_refused e no_size none (part_of_words no_box d))
+
+  -- what is made of the words after a unit, and the words after them
+  box_shown : {u : Unit} {l : Units} {box : WordBox} → IsFalse (is_close u.piece) → size_after (word_rule c.alphabet u.piece) ≡ None → ligature_start ws.accent c.alphabet u.piece ≡ None → word_box u.piece ≡ Some box → alphabet_behind c.alphabet u.piece ≡ c.alphabet → PartMade (words place c K) (Read ws (Next u l)) → (o : Outcome Core) → ReadsRule (box_rule u.place c box) l o → PartMade (words place c K) (as_atom_in_words (with_accent_ended ws).elements o)
+  box_shown e no_size none is same k (Read x m) d = λ o ds. k o (word_read e no_size none (box_in_words is d) (subst (λ a. ReadsWords place (in_words c a) (with_word ws (Formula x.atom.element)) m o) (sym same) ds))
+  box_shown e no_size none is same k (Refused r) d = k _ (word_refused e no_size none (box_refused_in_words is d))
+
+  pub box_due : {u : Unit} {l : Units} {box : WordBox} → IsFalse (is_close u.piece) → size_after (word_rule c.alphabet u.piece) ≡ None → ligature_start ws.accent c.alphabet u.piece ≡ None → word_box u.piece ≡ Some box → alphabet_behind c.alphabet u.piece ≡ c.alphabet → PartMade (words place c K) (Read ws (Next u l)) → RuleLeads (box_rule u.place c box) (λ o. PartMade (words place c K) (as_atom_in_words (with_accent_ended ws).elements o)) l
+  box_due e no_size none is same k = record { to = box_shown e no_size none is same k }
 
   -- what a character and those that join it are set as, and the words after it
   pub joined_due : {u : Unit} {l : Units} {first : ℕ} → ligature_start ws.accent c.alphabet u.piece ≡ Some first → PartMade (words place c K) (Read ws (Next u l)) → PartMade (words place c K) (Read (with_word ws (shown_character c.alphabet (joined first l).0)) (joined first l).1)
@@ -248,7 +266,7 @@ module _ {place : ℕ} {c : Context} {K : Outcome Words → Type 0} {ws : Words}
 
   -- the words after a change are in its alphabet
   pub changed_due : {u : Unit} {l : Units} {a : Alphabet} → IsFalse (is_close u.piece) → word_rule c.alphabet u.piece ≡ IsWord (Changed a) → alphabet_behind c.alphabet u.piece ≡ Some a → PartMade (words place c K) (Read ws (Next u l)) → PartMade (words place (in_words c (Some a)) K) (Read ws l)
-  changed_due {u = u} {l = l} e rule behind k = λ o ds. k o (word_read e (ap size_after rule) (change_no_start ws.accent c.alphabet u.piece rule) (word_stands rule) (subst (λ a. ReadsWords place (in_words c a) ws l o) (sym behind) ds))
+  changed_due {u = u} {l = l} e rule behind k = λ o ds. k o (word_read e (ap size_after rule) (change_no_start ws.accent c.alphabet u.piece rule) (part_of_words (word_no_box c.alphabet u.piece rule) (word_stands rule)) (subst (λ a. ReadsWords place (in_words c a) ws l o) (sym behind) ds))
 
   -- the words after a change of size are in that size
   pub resized_due : {u : Unit} {l : Units} {size : TextSize} → word_rule c.alphabet u.piece ≡ IsWord (Resized size) → PartMade (words place c K) (Read ws (Next u l)) → PartMade (words place (in_size c size) (λ o. K (as_resized size c (with_accent_ended ws).elements o))) (Read no_words l)

@@ -1,5 +1,5 @@
 -- What characters and commands are in words, and what holds of the parser after them.
-use Rattle.std.proofs.Common.{◌≡◌, ◌==◌, ◌+◌, ◌||◌, ◌++◌, ◌∷◌, [], Bool, ℕ, true, false, drop, Err, List, Ok, Option, Result, Some, refl, subst, sym, take, ap, arith}
+use Rattle.std.proofs.Common.{◌⊎◌, inl, inr, ◌≡◌, ◌==◌, ◌+◌, ◌||◌, ◌++◌, ◌∷◌, [], Bool, ℕ, true, false, drop, Err, List, Ok, Option, Result, Some, refl, subst, sym, take, ap, arith}
 use Rattle.std.proofs.lemmas.Bool.Decides.{nat_tests}
 use Rattle.std.specs.Prelude.{OnOk, ⊤}
 use Rattle.std.specs.Str.{byte}
@@ -11,7 +11,7 @@ use Rattle.latex2mathml_tex_grammar.specs.Units.{Character, Command, Open, Piece
 use Rattle.latex2mathml_builder.specs.Built.{Built, elements_in}
 use Rattle.latex2mathml_tex_atoms.specs.Wording.{Replaced}
 use Rattle.latex2mathml_tex_grammar.specs.Words as words
-use Rattle.latex2mathml_tex_grammar.specs.Words.{with_accent_ended, BeginsFormula, IsWord, NoWord, Shown, font_in, word_character, word_rule, word_space}
+use Rattle.latex2mathml_tex_grammar.specs.Words.{Font, with_accent_ended, BeginsFormula, IsWord, NoWord, Shown, font_in, word_character, word_rule, word_space}
 use Rattle.latex2mathml_tex_units.specs.Errors.{refusal_of}
 use Rattle.latex2mathml_tex_grammar.specs.Rules.{Context, formula_in_words}
 use Rattle.latex2mathml_tex.specs.{Frames.Start, Levels.Leads, Levels.PartMade}
@@ -19,6 +19,9 @@ use Rattle.latex2mathml_tex_atoms.specs.Models.{begun, context_of, words_with}
 use Rattle.latex2mathml_tex.specs.Steps.{BeginsWordOf, GoesOnInBraces, HasElements, Holds, Advances, elements_of, left_of, level, level_within}
 use Rattle.latex2mathml_tex_atoms.specs.declared.{atoms.Context.Context as CodeContext, atoms.Row.Row as CodeRow, atoms.Words.Words as CodeWords}
 use Rattle.latex2mathml_tex.specs.declared.{parse.Parser.Parser, parse.State.State, parse.frames.Frames.Frames}
+use Rattle.latex2mathml_tex.specs.WordCommands.{rule_of}
+use Rattle.latex2mathml_tex.specs.declared.parse.word_commands.{WordBox.WordBox, WordCommand.WordCommand}
+use Rattle.latex2mathml_tex.specs.declared.parse.word_commands.WordCommand.TheVariants as word_commands
 use Rattle.latex2mathml_tex.specs.declared.parse.State.TheVariants as state
 use Rattle.latex2mathml_tex.specs.declared.parse.endings.Ending.TheVariants as ending
 use Rattle.latex2mathml_tex.specs.declared.parse.frames.Frame.TheVariants as frame
@@ -91,3 +94,8 @@ module _ (s : Start) (p : Parser) (ws : CodeWords) (place : ℕ) where
       let count : 0 + after.count ≡ after.count = omega arith in
       let elements : take after.count (elements_in b) ≡ (with_accent_ended (words_with ws (elements_of p))).elements = ap (λ (w : words.Words). w.elements) r.words in
       rw (is, empty) (rw count (rw (elements, r.below) due))
+
+-- what makes something of words in braces is refused elsewhere, as is what is never in words
+pub forbidden_rule : (font : Font) (name : List ℕ) (found : WordCommand) → ((box : WordBox) × (found ≡ word_commands.Box box)) ⊎ (found ≡ word_commands.Forbidden) → rule_of font name found ≡ NoWord (CommandInWords name)
+forbidden_rule font name found (inl (box, e)) = ap (rule_of font name) e
+forbidden_rule font name found (inr e) = ap (rule_of font name) e

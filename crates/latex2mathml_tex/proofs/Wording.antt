@@ -10,10 +10,11 @@ use Rattle.latex2mathml_tex_grammar.specs.Next.{past_space}
 use Rattle.latex2mathml_tex_grammar.specs.Units as grammar
 use Rattle.latex2mathml_tex_grammar.specs.Units.{Piece}
 use Rattle.latex2mathml_tex_grammar.specs.Ligatures.{joined, ligature_start}
+use Rattle.latex2mathml_tex_grammar.specs.WordBoxes.{WordBox, box_rule, word_box}
 use Rattle.latex2mathml_tex_grammar.specs.Words.{Accented, Resized, ShowsAtom, Word, Words, size_after, Changed, Formula, IsWord, NoWord, TakesWords, alphabet_behind, shown_character, with_accent_ended, with_word, word_rule, words_element}
 use Rattle.latex2mathml_tex_units.specs.{Errors.refusal_of, Left.units_at}
 use Rattle.latex2mathml_tex.specs.Frames.{Start, Whole, inside}
-use Rattle.latex2mathml_tex.specs.Levels.{Level, PartMade, WordLeads, words}
+use Rattle.latex2mathml_tex.specs.Levels.{Level, PartMade, RuleLeads, WordLeads, as_atom_in_words, words}
 use Rattle.latex2mathml_tex_commands.specs.Meanings.{style_of, text_size_of}
 use Rattle.latex2mathml_tex_atoms.specs.{Models.context_of, Models.core_with, Models.row_with, Models.top, Models.words_with, Shapes.IsPut}
 use Rattle.latex2mathml_tex.specs.Steps.{Begins, BeginsIn, ShowsAtomOf, BeginsWordOf, CanMake, ChangesWords, EndsGroupOf, Follows, GoesOnInBraces, GoesOnInSize, IsChange, Holds, JoinsWords, WordGiven, core_made, elements_of, left_of, level, to_do, words_made}
@@ -32,7 +33,7 @@ use Rattle.latex2mathml_tex.specs.Innermost.{IsInnermost, none_begun, on_top}
 use Rattle.latex2mathml_tex_commands.specs.declared.meaning.Style.{Style as CodeStyle}
 use Rattle.latex2mathml_tex.specs.declared.parse.frames.Frames.{Frames}
 use Rattle.latex2mathml_tex_grammar.specs.Starts.{is_close}
-use Rattle.latex2mathml_tex.proofs.Leading.{changed_due, given, joined_due, word_given, word_refused_at, words_ended, words_halted, words_in_alphabet_due, words_unended, word_due, resized_due, atom_in_words_due}
+use Rattle.latex2mathml_tex.proofs.Leading.{box_due, changed_due, given, joined_due, word_given, word_refused_at, words_ended, words_halted, words_in_alphabet_due, words_unended, word_due, resized_due, atom_in_words_due}
 use Rattle.latex2mathml_tex_atoms.specs.Wording.{Replaced}
 use Rattle.latex2mathml_tex_atoms.proofs.Wording.{drop_more, take_more}
 use Rattle.latex2mathml_tex.proofs.Marks as marks
@@ -179,10 +180,17 @@ module _ (s : Start) (p : Parser) (ws : CodeWords) (place : ℕ) (c : CodeContex
   pub change_taken : (i : Input) (fr : Frames) (u : grammar.Unit) (w : Word) → fr.stack.items ≡ others → left_of p ≡ grammar.Next u (units_at i) → IsFalse (is_close u.piece) → IsChange (context_of c).alphabet u.piece w → ChangesWords ws place (context_of c) w s (record p { input = i; frames = fr })
   change_taken i fr u w same e other change = record { style = h.style; taken = u; other = other; change = change; leads = rw same (rw e at within_braces) }
 
-  pub word_behind : (u : grammar.Unit) (l : grammar.Units) → left_of p ≡ grammar.Next u l → IsFalse (is_close u.piece) → size_after (word_rule (context_of c).alphabet u.piece) ≡ None → ligature_start ws.accent (context_of c).alphabet u.piece ≡ None → alphabet_behind (context_of c).alphabet u.piece ≡ (context_of c).alphabet → Holds s p (state.Word ws place c)
-  word_behind u l e other no_size none kept = record {
+  pub word_behind : (u : grammar.Unit) (l : grammar.Units) → left_of p ≡ grammar.Next u l → IsFalse (is_close u.piece) → size_after (word_rule (context_of c).alphabet u.piece) ≡ None → ligature_start ws.accent (context_of c).alphabet u.piece ≡ None → word_box u.piece ≡ None → alphabet_behind (context_of c).alphabet u.piece ≡ (context_of c).alphabet → Holds s p (state.Word ws place c)
+  word_behind u l e other no_size none no_box kept = record {
     style = h.style;
-    claims = out_of_frame (λ m. WordLeads m place (context_of c) (words_with ws (elements_of p)) (left_of p)) s p.style h.style p.frames.stack.items others (frame.Words place c) (drop ws.count (elements_of p)) inner (rw e (word_due {K = PartMade around} other no_size none kept (rw e at within_braces)));
+    claims = out_of_frame (λ m. WordLeads m place (context_of c) (words_with ws (elements_of p)) (left_of p)) s p.style h.style p.frames.stack.items others (frame.Words place c) (drop ws.count (elements_of p)) inner (rw e (word_due {K = PartMade around} other no_size none no_box kept (rw e at within_braces)));
+  }
+
+  pub box_behind : (i : Input) (u : grammar.Unit) (box : WordBox) → left_of p ≡ grammar.Next u (units_at i) → IsFalse (is_close u.piece) → size_after (word_rule (context_of c).alphabet u.piece) ≡ None → ligature_start ws.accent (context_of c).alphabet u.piece ≡ None → word_box u.piece ≡ Some box → alphabet_behind (context_of c).alphabet u.piece ≡ (context_of c).alphabet
+      → ShowsAtomOf ws (box_rule u.place (context_of c) box) s (record p { input = i })
+  box_behind i u box e other no_size none is kept = record {
+    style = h.style;
+    leads = out_of_frame (λ m. RuleLeads (box_rule u.place (context_of c) box) (λ o. PartMade m (as_atom_in_words (with_accent_ended (words_with ws (elements_of p))).elements o)) (units_at i)) s p.style h.style p.frames.stack.items others (frame.Words place c) (drop ws.count (elements_of p)) inner (box_due {K = PartMade around} other no_size none is kept (rw e at within_braces));
   }
 
   pub joined_behind : (i : Input) (u : grammar.Unit) (first : ℕ) → left_of p ≡ grammar.Next u (units_at i) → ligature_start ws.accent (context_of c).alphabet u.piece ≡ Some first → JoinsWords ws first (context_of c).alphabet s (record p { input = i })

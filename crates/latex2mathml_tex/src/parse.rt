@@ -29,6 +29,7 @@ pub(crate) mod scripts;
 mod symbols;
 mod tables;
 mod values;
+mod word_boxes;
 mod word_commands;
 mod words;
 

@@ -6,5 +6,6 @@ pub mod Keys
 pub mod Lengths
 pub mod Meanings
 pub mod Named
+pub mod Optionals
 pub mod Parts
 pub mod Signs

@@ -2,10 +2,19 @@
 ghost use Rattle.std.specs.Prelude.{◌≡◌};
 ghost use Rattle.latex2mathml_attributes.specs.Names.{side_of};
 ghost use Rattle.latex2mathml_tex_grammar.specs.Operands;
-ghost use Rattle.latex2mathml_tex_commands.specs.Meanings.{meaning_of};
+ghost use Rattle.latex2mathml_tex_commands.specs.{Meanings.meaning_of, Optionals.optional_of};
 
 use crate::meaning::{Change, Meaning};
 use latex2mathml_attributes::attributes::Side;
+
+/// What may come before the operands of a command, and how many of them the command then takes whole.
+#[derive(Clone, Copy)]
+pub enum Optional {
+    Nothing,
+    Star(u8),
+    /// An argument in brackets.
+    Brackets(u8),
+}
 
 /// Returns how many operands and other arguments a command with this meaning takes whole, where a macro among them is one
 /// operand, as in braces. Other commands take the first atom of what replaces the macro.
@@ -37,6 +46,20 @@ pub fn taken_whole(meaning: &Meaning) -> u8
         Meaning::GeneralFraction => 6,
         Meaning::Accent(side, mark, _) => under_accent(side, mark),
         _ => 0,
+    }
+}
+
+/// Returns what may come before the operands of a command with this meaning. A root takes its operand whole behind its degree.
+pub fn optional_before(meaning: &Meaning) -> Optional
+    ensures { optional_of result ≡ Operands.optional_before (meaning_of meaning.now) }
+{
+    match *meaning {
+        Meaning::SkipInBraces | Meaning::OperatorName => Optional::Star(1),
+        Meaning::Root | Meaning::Arrow(_) | Meaning::Smash | Meaning::Changes(Change::ToColor) => {
+            Optional::Brackets(1)
+        }
+        Meaning::InColor | Meaning::ContinuedFraction | Meaning::Rectangle => Optional::Brackets(2),
+        _ => Optional::Nothing,
     }
 }
 

@@ -4,19 +4,19 @@ use Rattle.std.specs.Prelude.{◌-◌, ◌&&◌, option_map, take, drop, IsTrue,
 use Rattle.std.specs.{Option.unwrap_or, Str.byte, Str.bytes_eq}
 use Rattle.std.specs.List.{AllByRecursion}
 use Rattle.latex2mathml_tex_grammar.specs.Arguments.{Brace, Opening, Closing, NoBrace, brace_of, and_then, with_first, in_group, group, argument_of, argument_here, argument, is_sign, is_end, before_sign, up_to, is_group, without_braces, behind_first, between_brackets, bracket_here, bracket, behind_bracket, optional, first_sign, argument_before, the_sign, arguments, or_default, arguments_with, macro_arguments}
+use Rattle.latex2mathml_tex_grammar.specs.Bars.{divider, double_bar, split}
 use Rattle.latex2mathml_tex_grammar.specs.Definitions.{DeclareDelimiters, Let, any_piece, alias_definition, meaning_now, resolved, delimiters_definition, stretched_parts, enclosed_parts, sized_parts, Word, NewCommand, ProvideCommand, Def, DeclareOperator, Definition, is_character, sign_here, sign, digit_of, digit_found, digit_here, digit, name_in, name_read, name_of, number_closed, number_in, number_opened, number_of, is_number, is_brace, in_parameter_text, number_due, parameters_behind, parameter_text, parameter_count, argument_part, parameter_part, part_before, parts_behind, parts_of, body_read, body, default_read, default_given, default_of, command_definition, plain_definition, operator_definition, definition_of, operator_parts, provided, behind_definition}
 use Rattle.latex2mathml_tex_grammar.specs.Expansion.{form_of, used_form, form_with, starred_form, found_role, macro_role, role_of, word_role, Turn, Stays, Turns, Fails, with_arguments, used, defined, turn_of, role_as, Expands, at_end, at_stop, stays, turns, fails}
 use Rattle.latex2mathml_tex_grammar.specs.ExpansionLaws.{added_pieces, EachPiece, EachFixed, EachIfSome, IfPiece, EachInMacro, EachInTable, AddsNothing}
-use Rattle.latex2mathml_tex_grammar.specs.Macros.{Part, Fixed, Argument, Taken, Parameter, Sign, Macro, alias, macro_of, macro_with_default, Table, with_macro, argument_at, put, before}
+use Rattle.latex2mathml_tex_grammar.specs.Macros.{Part, Fixed, Argument, Split, Taken, Parameter, Sign, Macro, alias, macro_of, macro_with_default, Table, with_macro, argument_at, put, before}
 use Rattle.latex2mathml_tex_grammar.specs.{Next.is_space_piece, Next.past_space, Operands.Due, Operands.is_due, Operands.body_as, Operands.needs_braces, Operands.used_as, Reading.Outcome, Reading.Read, Reading.Refused}
 use Rattle.latex2mathml_tex_grammar.specs.Refusal.{Refusal, UnclosedBracket, WrongUse, refusal_at}
 use Rattle.latex2mathml_tex_grammar.specs.Units.{Piece, Open, Close, Command, Character, Unit, Units, Next, End, Stop}
-use Rattle.latex2mathml_tex_grammar.proofs.{Choices.of_either, Choices.of_found, MacrosUsed.of_used_macro}
+use Rattle.latex2mathml_tex_grammar.proofs.{Choices.of_either, Choices.of_found, MacrosUsed.of_used_macro, Splitting.EachUnit, Splitting.both, Splitting.of_split}
 
 module _ (P : Piece → Type 0) where
   abbrev pub EachOf : List Unit → Type 0
-  EachOf [] = ⊤
-  EachOf (u ∷ us) = P u.piece × EachOf us
+  EachOf us = EachUnit P us
 
   abbrev EachList : List (List Unit) → Type 0
   EachList [] = ⊤
@@ -213,11 +213,13 @@ module _ (P : Piece → Type 0) where
   abbrev IfPart : Option Part → Type 0
   IfPart (Some (Fixed p)) = P p
   IfPart (Some (Argument k)) = ⊤
+  IfPart (Some (Split bars k)) = AllByRecursion P (divider bars double_bar)
   IfPart None = ⊤
 
   of_before : (x : Option Part) (o : Option (List Part)) → IfPart x → IfParts o → IfParts (part_before x o)
   of_before (Some (Fixed p)) (Some parts) h k = (h, k)
   of_before (Some (Argument n)) (Some parts) h k = k
+  of_before (Some (Split bars n)) (Some parts) h k = (h, k)
   of_before (Some part) None h k = tt
   of_before None o h k = tt
 
@@ -282,10 +284,11 @@ module _ (P : Piece → Type 0) where
       after Anything IsPassed (name_of place l) _ (of_name place l h) (λ name m t k.
       after P IsPassed (any_piece place (past_space (sign (byte "=") m).1)) _ (of_any place (past_space (sign (byte "=") m).1) (past (sign (byte "=") m).1 (of_sign (byte "=") m k))) (λ piece rest p q. ((tt, tt, tt, p), q)))
 
-  fixed_both : (xs ys : List Part) → EachFixed P xs → EachFixed P ys → EachFixed P (xs ++ ys)
+  pub fixed_both : (xs ys : List Part) → EachFixed P xs → EachFixed P ys → EachFixed P (xs ++ ys)
   fixed_both [] ys h k = k
   fixed_both (Fixed p ∷ xs) ys h k = (h.0, fixed_both xs ys h.1 k)
   fixed_both (Argument n ∷ xs) ys h k = fixed_both xs ys h k
+  fixed_both (Split bars n ∷ xs) ys h k = (h.0, fixed_both xs ys h.1 k)
 
   module _ (added : AllByRecursion P added_pieces) where
     opening : P Open
@@ -401,10 +404,6 @@ module _ (P : Piece → Type 0) where
 
     -- Expansion
 
-    both : (us vs : List Unit) → EachOf us → EachOf vs → EachOf (us ++ vs)
-    both [] vs h k = k
-    both (u ∷ us) vs h k = (h.0, both us vs h.1 k)
-
     of_number_at : (args : List (List Unit)) (k : ℕ) → EachList args → EachOf (argument_at args k)
     of_number_at [] k h = tt
     of_number_at (arg ∷ args) zero h = h.0
@@ -413,7 +412,9 @@ module _ (P : Piece → Type 0) where
     of_put : (args : List (List Unit)) (place : ℕ) (parts : List Part) → EachList args → EachFixed P parts → EachOf (put args place parts)
     of_put args place [] h k = tt
     of_put args place (Fixed p ∷ parts) h k = (k.0, of_put args place parts h k.1)
-    of_put args place (Argument n ∷ parts) h k = both (argument_at args n) (put args place parts) (of_number_at args n h) (of_put args place parts h k)
+    of_put args place (Argument n ∷ parts) h k = both P (argument_at args n) (put args place parts) (of_number_at args n h) (of_put args place parts h k)
+    of_put args place (Split bars n ∷ parts) h k =
+        both P (split bars (argument_at args n)) (put args place parts) (of_split P bars k.0 (argument_at args n) (of_number_at args n h)) (of_put args place parts h k.1)
 
     of_units_before : (us : List Unit) (l : Units) → EachOf us → EachPiece P l → EachPiece P (before us l)
     of_units_before [] l h k = k

@@ -3,14 +3,15 @@ use Rattle.std.proofs.Common.{◌≡◌, ℕ, ◌||◌, false, List, [], ◌∷�
 use Rattle.std.specs.Prelude.{⊤}
 use Rattle.std.specs.{List.AllByRecursion, Option.unwrap_or, Str.bytes_eq, Str.chars}
 use Rattle.latex2mathml_elements.proofs.Characters.{allowed_plain}
+use Rattle.latex2mathml_tex_grammar.specs.Bars.{Bars, FirstAsRelation, FirstStretched, EachStretched, divider, double_bar, stretched_bar}
 use Rattle.latex2mathml_tex_grammar.specs.DefinitionTexts.{is_prefix, past_prefixes, ReadsDefinitions, no_more, stopped, defines, no_definition, definition_refused, Defines}
 use Rattle.latex2mathml_tex_grammar.specs.Definitions.{Word, definition_of, parts_of}
 use Rattle.latex2mathml_tex_grammar.specs.ExpansionLaws.{EachFixed, EachInMacro, EachInTable, added_pieces}
-use Rattle.latex2mathml_tex_grammar.specs.{Cutting.units_of, Next.is_space_piece, Expansion.Expands, Macros.Macro, Macros.Part, Macros.Table, Operands.Due}
+use Rattle.latex2mathml_tex_grammar.specs.{Cutting.units_of, Next.is_space_piece, Expansion.Expands, Macros.Macro, Macros.Part, Macros.Split, Macros.Table, Operands.Due}
 use Rattle.latex2mathml_tex_grammar.specs.{Reading.Outcome, Reading.Read, Reading.Refused}
-use Rattle.latex2mathml_tex_grammar.specs.Units.{Unit, Units, Next, End, Stop}
-use Rattle.latex2mathml_tex_grammar.specs.UsualMacros.{Other, Divided, Optional, Starred, body_with, entry_macro, listed, macro_with, other_macro, other_named, other_or, usual_entries, usual_macros}
-use Rattle.latex2mathml_tex_grammar.proofs.Adding.{EachOf, IfParts, IsPassed, Passes, behind, of_definition, of_parts, pieces_of}
+use Rattle.latex2mathml_tex_grammar.specs.Units.{Command, Unit, Units, Next, End, Stop}
+use Rattle.latex2mathml_tex_grammar.specs.UsualMacros.{Other, Divided, Enclosed, Optional, Starred, body_with, entry_macro, listed, macro_with, other_macro, other_named, other_or, usual_entries, usual_macros}
+use Rattle.latex2mathml_tex_grammar.proofs.Adding.{EachOf, fixed_both, IfParts, IsPassed, Passes, behind, of_definition, of_parts, pieces_of}
 use Rattle.latex2mathml_tex_grammar.proofs.{Allowed.AreAllowedUnits, Allowed.IsAllowedPiece, AllowedUnits.units_allowed, Choices.of_either, Choices.of_found, OneList.has_units}
 
 -- The usual macros
@@ -35,10 +36,21 @@ entries_allowed [] name m e = cc
 entries_allowed (entry ∷ entries) name m e =
     of_found (EachInMacro IsAllowedPiece) (bytes_eq entry.0 name) (macro_with entry.1 entry.2) m (entry_macro entries name) (body_allowed entry.1 entry.2, tt, tt, tt) (entries_allowed entries name) e
 
+stretched_allowed : (space : List ℕ) → IsAllowedPiece (Command space) → AllByRecursion IsAllowedPiece (stretched_bar space double_bar)
+stretched_allowed space h = (tt, (h, (allowed_plain (codes "middle") refl, (allowed_plain (codes "|") refl, (h, (tt, tt))))))
+
+-- the pieces that take the place of bars
+divider_allowed : (bars : Bars) → AllByRecursion IsAllowedPiece (divider bars double_bar)
+divider_allowed FirstAsRelation = (tt, (allowed_plain (codes "mid") refl, (tt, tt)))
+divider_allowed FirstStretched = stretched_allowed (codes ";") (allowed_plain (codes ";") refl)
+divider_allowed EachStretched = stretched_allowed (codes ",") (allowed_plain (codes ",") refl)
+
 other_allowed : (other : Other) → EachInMacro IsAllowedPiece (other_macro other)
 other_allowed (Divided command text) = (body_allowed 2 text, tt, tt, tt)
 other_allowed (Starred starred text) = (body_allowed 1 text, tt, body_allowed 1 starred, tt)
 other_allowed (Optional n text) = (body_allowed n text, tt, tt, tt)
+other_allowed (Enclosed bars left right) =
+    (fixed_both IsAllowedPiece (body_with 0 left) (Split bars 0 ∷ body_with 0 right) (body_allowed 0 left) (divider_allowed bars, body_allowed 0 right), tt, tt, tt)
 
 either_allowed : (other : Option Other) (found : Option Macro) → ((m : Macro) → found ≡ Some m → EachInMacro IsAllowedPiece m) → (m : Macro) → other_or other found ≡ Some m → EachInMacro IsAllowedPiece m
 either_allowed (Some other) found h m e = (let same : other_macro other ≡ m = cc in subst (EachInMacro IsAllowedPiece) same (other_allowed other))

@@ -5,7 +5,7 @@ use Rattle.latex2mathml_elements.specs.Columns.{Columns}
 use Rattle.latex2mathml_tex_grammar.specs.{RowGaps.gap_at, RowLines.line_next, Scanning.BeforeRow, Scanning.past_gap, Tables.Lines, Tables.a_row, Atoms.Atom, Atoms.Before, Atoms.After, Atoms.Nothing, DefinitionTexts.Defines, Delimiters.delimiter_of, Formulas.IsReading, Formulas.row_print, Formulas.row_print_with_source, Formulas.shown, Formulas.source_text, Laws.ReadingsAreAllowed, Macros.Table, Rows.Row, Rows.Operand, Rows.empty_row, Rows.lone, Rows.row_element, Symbols.Opening, Symbols.InDisplay, Symbols.Style, Separators.text_columns, Rows.with_atom}
 use Rattle.latex2mathml_elements.proofs.{Annotated.annotated_print_as_elements, OneElement.print_as_elements}
 use Rattle.latex2mathml_tex_grammar.specs.Makes.{Core, core, divider, is_display, number, Scripts}
-use Rattle.latex2mathml_tex_grammar.specs.Reading.{Outcome, ReadsRule, rule_gives, rule_refuses, operand_read, operand_refused, core_read, core_refused, core_missing, core_stopped, atoms_read, atoms_refused, words_read, words_refused, units_taken, units_missing, unit_follows, no_unit_follows, digits_taken, delimiter_taken, delimiter_missing, ReadsOperand, group_operand, group_refused, digit_operand, other_operand, other_refused, no_operand, operand_at_end, operand_stopped, ReadsScripts, scripts_end, mark_taken, script_read, script_refused, mark_refused, ReadsAtom, divider_read, divider_refused, on_empty_row, base_read, base_refused, ReadsAtoms, text_ends, never_ended, atoms_stopped, atoms_end, atom_read, atom_refused, rest_read, change_refused, ReadsWord, word_stands, group_of_words, formula_read, formula_refused, words_in_alphabet, no_word, word_missing, word_at_end, word_stopped, ReadsWords, words_end, words_never_ended, words_stopped, atom_in_words, atom_refused_in_words, word_read, word_refused, ligature_read, words_resized, words_resized_refused, found_taken, found_refused, passed_over, rows_read, rows_refused, ReadsRows, cell_read, cell_refused, ReadsBehindCell, next_cell, arrow_read, arrow_refused, no_arrow, next_row, table_ends, rows_to_end, text_ends_table, Read, Refused}
+use Rattle.latex2mathml_tex_grammar.specs.Reading.{Outcome, ReadsRule, rule_gives, rule_refuses, operand_read, operand_refused, core_read, core_refused, core_missing, core_stopped, atoms_read, atoms_refused, words_read, words_refused, units_taken, units_missing, unit_follows, no_unit_follows, digits_taken, delimiter_taken, delimiter_missing, ReadsOperand, group_operand, group_refused, digit_operand, other_operand, other_refused, no_operand, operand_at_end, operand_stopped, ReadsScripts, scripts_end, mark_taken, script_read, script_refused, mark_refused, ReadsAtom, divider_read, divider_refused, on_empty_row, base_read, base_refused, ReadsAtoms, text_ends, never_ended, atoms_stopped, atoms_end, atom_read, atom_refused, rest_read, change_refused, ReadsWord, word_stands, group_of_words, formula_read, formula_refused, words_in_alphabet, no_word, word_missing, word_at_end, word_stopped, ReadsPart, part_of_words, box_in_words, box_refused_in_words, ReadsWords, words_end, words_never_ended, words_stopped, atom_in_words, atom_refused_in_words, word_read, word_refused, ligature_read, words_resized, words_resized_refused, found_taken, found_refused, passed_over, rows_read, rows_refused, ReadsRows, cell_read, cell_refused, ReadsBehindCell, next_cell, arrow_read, arrow_refused, no_arrow, next_row, table_ends, rows_to_end, text_ends_table, Read, Refused}
 use Rattle.latex2mathml_tex_grammar.specs.Diagrams.{arrow_of, fills_cell, sign_of_arrow}
 use Rattle.latex2mathml_tex_grammar.specs.Rules.{Context, Ending, before_first, begun, Rule, gives, takes_delimiter, TableEnd, WholeText, InBraces, InBrackets, InDollars, InDelimiters, InCell, InLabel}
 use Rattle.latex2mathml_tex_grammar.specs.Starts.{mark_of, left_behind}
@@ -17,6 +17,7 @@ use Rattle.latex2mathml_tex_grammar.proofs.AllowedMakes.{lone_allowed, number_al
 use Rattle.latex2mathml_tex_grammar.proofs.AllowedMacros.{expansion_allowed, macros_allowed}
 use Rattle.latex2mathml_tex_grammar.proofs.AllowedRests.{finished_allowed, resized_allowed, rest_allowed}
 use Rattle.latex2mathml_tex_grammar.proofs.AllowedRows.{given_allowed, lined_allowed, past_spot_allowed, past_break_allowed, a_row_allowed, with_last_allowed}
+use Rattle.latex2mathml_tex_grammar.proofs.BoxedWords.{box_rule_allowed}
 use Rattle.latex2mathml_tex_grammar.proofs.AllowedRules.{IsPlainStart, start_plain, delimiter_given, rule_allowed, step_allowed, accent_ended_allowed, with_word_allowed, word_rule_allowed, shown_character_allowed}
 use Rattle.latex2mathml_tex_grammar.proofs.AllowedUnits.{digits_taken as digits_next_allowed, next_allowed, next_taken, past_allowed, units_allowed}
 use Rattle.latex2mathml_tex_grammar.specs.Formulas.{ReadsFormula, as_atoms, as_rows, alone}
@@ -154,11 +155,17 @@ mutual
   words word_at_end h k = tt
   words word_stopped h k = tt
 
+  parts : {place : ℕ} {c : Context} {ws : Words} {l : Units} {o : Outcome Words} → ReadsPart place c ws l o → AreAllowedWords ws → AreAllowedUnits l → IsAllowedOutcome AreAllowedWords o
+  parts (part_of_words b d) h k = words d h k
+  parts (box_in_words {c = c} {ws = ws} {u = u} {box = box} {x = x} b d) h k =
+      let read = rules d (box_rule_allowed u.place c u.piece box b) k.1 in (with_word_allowed ws (Formula x.atom.element) h read.0, read.1)
+  parts (box_refused_in_words b d) h k = tt
+
   word_lists : {place : ℕ} {c : Context} {ws : Words} {l : Units} {o : Outcome Words} → ReadsWords place c ws l o → AreAllowedWords ws → AreAllowedUnits l → IsAllowedOutcome AreAllowedWords o
   word_lists (words_end {ws = ws} s) h k = (accent_ended_allowed ws h, k.1)
   word_lists words_never_ended h k = tt
   word_lists words_stopped h k = tt
-  word_lists (word_read s z j d ds) h k = (let read = words d h k in word_lists ds read.0 read.1)
+  word_lists (word_read s z j d ds) h k = (let read = parts d h k in word_lists ds read.0 read.1)
   word_lists (word_refused s z j d) h k = tt
   word_lists (ligature_read {c = c} {ws = ws} {l = l} {u = u} {first = first} j d) h k =
       let found = joined_allowed first l (start_allowed ws.accent c.alphabet u.piece j k.0) k.1 in

@@ -147,11 +147,11 @@ end_accent_allowed (Some accent) ws h = with_character_allowed (last_font ws.las
 pub accent_ended_allowed : (ws : Words) → AreAllowedWords ws → AreAllowedWords (with_accent_ended ws)
 accent_ended_allowed ws h = end_accent_allowed ws.accent ws h
 
-words_element_allowed : (xs : List Element) → AreAllowedElements xs → HasAllowedTexts (words_element xs)
+pub words_element_allowed : (xs : List Element) → AreAllowedElements xs → HasAllowedTexts (words_element xs)
 words_element_allowed [] h = allowed_plain [] refl
 words_element_allowed (x ∷ xs) h = row_element_allowed (x ∷ xs) h
 
-with_value_allowed : {A : Type 0} (r : Refusal) (more : A → Rule) → ((x : A) → IsAllowedRule (more x)) → (x : Option A) → IsAllowedRule (with_value r more x)
+pub with_value_allowed : {A : Type 0} (r : Refusal) (more : A → Rule) → ((x : A) → IsAllowedRule (more x)) → (x : Option A) → IsAllowedRule (with_value r more x)
 with_value_allowed r more h None = tt
 with_value_allowed r more h (Some x) = h x
 
@@ -167,7 +167,7 @@ arrow_allowed : (sign_character : ℕ) (below : Option Element) (above : Element
 arrow_allowed sign_character None above h k i = (allowed_char sign_character h, (i, tt))
 arrow_allowed sign_character (Some below) above h k i = (allowed_char sign_character h, (k, tt), (i, tt))
 
-in_box_allowed : (box : Box) (x : Element) → HasAllowedTexts x → HasAllowedTexts (in_box box x)
+pub in_box_allowed : (box : Box) (x : Element) → HasAllowedTexts x → HasAllowedTexts (in_box box x)
 in_box_allowed Phantom x h = (h, tt)
 in_box_allowed PhantomWidth x h = ((h, tt), tt)
 in_box_allowed PhantomHeight x h = ((h, tt), tt)

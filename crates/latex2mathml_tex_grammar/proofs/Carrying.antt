@@ -3,17 +3,18 @@ use Rattle.std.proofs.Common.{◌≡◌, ℕ, ℤ, List, true, [], ◌∷◌, re
 use Rattle.latex2mathml_elements.specs.Columns.{Columns}
 use Rattle.latex2mathml_tex_grammar.specs.{Atoms.Atom, Atoms.Before, Delimiters.delimiter_of, Makes.Core, Makes.Scripts, Refusal.MissingDelimiter, Refusal.Refusal, Rows.Row, Rows.Operand, Words.Words}
 use Rattle.latex2mathml_tex_grammar.specs.Next.{digits_next, past_space}
-use Rattle.latex2mathml_tex_grammar.specs.Reading.{Outcome, Read, Refused, ReadsRule, rule_gives, rule_refuses, operand_read, operand_refused, core_read, core_refused, core_missing, core_stopped, atoms_read, atoms_refused, words_read, words_refused, units_taken, units_missing, unit_follows, no_unit_follows, digits_taken, delimiter_taken, delimiter_missing, ReadsOperand, group_operand, group_refused, digit_operand, other_operand, other_refused, no_operand, operand_at_end, operand_stopped, ReadsScripts, scripts_end, mark_taken, script_read, script_refused, mark_refused, ReadsAtom, divider_read, divider_refused, on_empty_row, base_read, base_refused, ReadsAtoms, text_ends, never_ended, atoms_stopped, atoms_end, atom_read, atom_refused, rest_read, change_refused, ReadsWord, word_stands, group_of_words, formula_read, formula_refused, words_in_alphabet, no_word, word_missing, word_at_end, word_stopped, ReadsWords, words_end, words_never_ended, words_stopped, atom_in_words, atom_refused_in_words, word_read, word_refused, ligature_read, words_resized, words_resized_refused, found_taken, found_refused, passed_over, rows_read, rows_refused, ReadsRows, cell_read, cell_refused, ReadsBehindCell, next_cell, arrow_read, arrow_refused, no_arrow, next_row, table_ends, rows_to_end, text_ends_table}
+use Rattle.latex2mathml_tex_grammar.specs.Reading.{Outcome, Read, Refused, ReadsRule, rule_gives, rule_refuses, operand_read, operand_refused, core_read, core_refused, core_missing, core_stopped, atoms_read, atoms_refused, words_read, words_refused, units_taken, units_missing, unit_follows, no_unit_follows, digits_taken, delimiter_taken, delimiter_missing, ReadsOperand, group_operand, group_refused, digit_operand, other_operand, other_refused, no_operand, operand_at_end, operand_stopped, ReadsScripts, scripts_end, mark_taken, script_read, script_refused, mark_refused, ReadsAtom, divider_read, divider_refused, on_empty_row, base_read, base_refused, ReadsAtoms, text_ends, never_ended, atoms_stopped, atoms_end, atom_read, atom_refused, rest_read, change_refused, ReadsWord, word_stands, group_of_words, formula_read, formula_refused, words_in_alphabet, no_word, word_missing, word_at_end, word_stopped, ReadsPart, part_of_words, box_in_words, box_refused_in_words, ReadsWords, words_end, words_never_ended, words_stopped, atom_in_words, atom_refused_in_words, word_read, word_refused, ligature_read, words_resized, words_resized_refused, found_taken, found_refused, passed_over, rows_read, rows_refused, ReadsRows, cell_read, cell_refused, ReadsBehindCell, next_cell, arrow_read, arrow_refused, no_arrow, next_row, table_ends, rows_to_end, text_ends_table}
 use Rattle.latex2mathml_tex_grammar.specs.Diagrams.{arrow_of, sign_of_arrow}
 use Rattle.latex2mathml_tex_grammar.specs.Rules.{Context, Ending, begun, Rule, TableEnd, InCell}
 use Rattle.latex2mathml_tex_grammar.specs.Spacing.{Standing, InWords, standing_behind, AreAlike, both_end, same_piece}
 use Rattle.latex2mathml_tex_grammar.specs.Starts.{is_close}
 use Rattle.latex2mathml_tex_grammar.specs.Units.{Piece, Space, Open, Close, Command, Character, Unit, unit, Units, End, Next}
 use Rattle.latex2mathml_tex_grammar.proofs.AlikeRules.{AlikeEndings, both_braces, both_dollars, same_begun, same_ends, same_start, unended_too, never_ended_too, inside, WordsStand, before_words, within_words, AlikeRules, gives_too, refuses_too, operand_too, core_too, atoms_too, words_too, if_too, follows_too, digits_taken_too, delimiter_too, rules_too, arrow_too, arrow_tests, delimiter_tests, both_cells, cell_ends, left_too, scanned_too, passed_too, rows_too}
-use Rattle.latex2mathml_tex_grammar.proofs.WordScans.{LengthRules, both_find, both_give, both_pass, both_refuse, found_in_words, length_rules, missing_in_words, past_in_words}
+use Rattle.latex2mathml_tex_grammar.proofs.BoxedWords.{box_rules, box_stays}
+use Rattle.latex2mathml_tex_grammar.proofs.WordScans.{RulesInWords, both_find, both_give, both_pass, both_read, both_refuse, both_take, found_in_words, rules_in_words, missing_in_words, past_in_words}
 use Rattle.latex2mathml_tex_grammar.proofs.AlikeRests.{rest_too, no_rest_too}
 use Rattle.latex2mathml_tex_grammar.proofs.Plain.{change_start_plain, divider_plain, digit_start_plain, group_start_plain, step_plain}
-use Rattle.latex2mathml_tex_grammar.proofs.Spaces.{Front, next_stays, both_next, both_ended, both_stopped, fronts, fronts_of_words, looks_too, next_too, end_too, stop_too, refused_too, same_step, IsCalm, in_dollars, behind_plain, taken_too, missing_too, digits_too, IsPlain}
+use Rattle.latex2mathml_tex_grammar.proofs.Spaces.{Front, next_stays, both_next, both_ended, both_stopped, fronts, fronts_of_words, looks_too, next_too, end_too, stop_too, refused_too, same_step, IsCalm, in_dollars, behind_plain, taken_kept, taken_too, missing_kept, missing_too, digits_too, IsPlain}
 use Rattle.latex2mathml_elements.specs.{Element.Element, Lines.Line}
 use Rattle.latex2mathml_tex_grammar.specs.{RowLines.is_line_command, RowLines.line_at, RowLines.line_next, RowLines.line_of, RowLines.lined, Scanning.BeforeRow, Rows.row_element, Tables.Lines, Tables.a_row}
 use Rattle.latex2mathml_tex_grammar.proofs.{Scans.found_too, Scans.refused_too as found_refused_too, Scans.past_too, Scans.past_break_too, Scans.past_gap_too, Scans.gap_too}
@@ -89,16 +90,6 @@ line_too h = line_there (fronts h)
 lined_too : {at : Standing} {end : TableEnd} {place : ℕ} {columns : Columns} {c : Context} {k : Units} {o : Outcome Lines} {a b : Line} {xs ys : List Element} → a ≡ b → xs ≡ ys → Carried at (ReadsRows end place columns c (lined a xs) [] k) o → Carried at (ReadsRows end place columns c (lined b ys) [] k) o
 lined_too {at} {end} {place} {columns} {c} {k} {o} {b = b} {xs = xs} e f h =
     subst (λ rows. Carried at (ReadsRows end place columns c (lined b rows) [] k) o) f (subst (λ line. Carried at (ReadsRows end place columns c (lined line xs) [] k) o) e h)
-
--- in words, a length is taken alike
-carry_length : {at : Standing} {r s : Rule} {l m : Units} {o : Outcome Core} → LengthRules r s → ReadsRule r l o → AreAlike (InWords at) l m → Carried (InWords at) (ReadsRule s m) o
-carry_length {m = m} both_give rule_gives h = also_read m h rule_gives
-carry_length (both_refuse e) rule_refuses h = also_refused _ e rule_refuses
-carry_length (both_find {q = q} i none same) (found_taken {spot = spot} {place = place} {text = text} p d) h =
-    let found = found_in_words place q spot i none h p in also (carry_length (same text) d found.alike) (λ p. found_taken found.is)
-carry_length (both_find {q = q} i none same) (found_refused {spot = spot} {place = place} p) h =
-    let (r, kind, e) = missing_in_words place q spot i none h p in also_refused r kind (found_refused e)
-carry_length (both_pass i none same) (passed_over {spot = spot} d) h = also (carry_length same d (past_in_words spot i none h)) (λ p. passed_over)
 
 -- where units after words are: in a formula, or in other words
 data IsSettled : Standing → Type 0 where
@@ -273,6 +264,38 @@ mutual
   carry_behind_cell {m = m} other ended (table_ends p s) calm h = (let next = next_too h p in also_read m h (table_ends next.is s))
   carry_behind_cell {m = m} other ended (text_ends_table p) calm h = also_read m h (text_ends_table (end_too h p).1)
 
+  -- Where units are in words, lengths, colors and words are carried over.
+  pub carry_in_words : {at : Standing} {r s : Rule} {l m : Units} {o : Outcome Core} → ReadsRule r l o → RulesInWords r s → AreAlike (InWords at) l m → Carried (InWords at) (ReadsRule s m) o
+  carry_in_words {m = m} rule_gives both_give h = also_read m h rule_gives
+  carry_in_words rule_refuses (both_refuse e) h = also_refused _ e rule_refuses
+  carry_in_words (found_taken {spot = spot} {place = place} {text = text} p d) (both_find {q = q} i none same) h =
+      let found = found_in_words place q spot i none h p in also (carry_in_words d (same text) found.alike) (λ p. found_taken found.is)
+  carry_in_words (found_refused {spot = spot} {place = place} p) (both_find {q = q} i none same) h =
+      let (r, kind, e) = missing_in_words place q spot i none h p in also_refused r kind (found_refused e)
+  carry_in_words {at} (units_taken {tests = tests} {texts = texts} p d) (both_take stay same other) h =
+      let taken = taken_kept tests (stay at) h p in also (carry_in_words d (same texts) taken.alike) (λ q. units_taken taken.is)
+  carry_in_words {at} (units_missing {tests = tests} p d) (both_take stay same other) h = also (carry_in_words d other h) (λ q. units_missing (missing_kept tests (stay at) h p))
+  carry_in_words (passed_over {spot = spot} d) (both_pass i none same) h = also (carry_in_words d same (past_in_words spot i none h)) (λ p. passed_over)
+  carry_in_words (words_read {ws = ws} d ds) (both_read {q = q} same) h =
+      let (n, alike, e) = read_is (carry_word q d within_words in_words (fronts h)) in also (carry_in_words ds (same ws) alike) (λ p. words_read e)
+  carry_in_words (words_refused d) (both_read {q = q} same) h = (let (r, kind, e) = refused_is (carry_word q d within_words in_words (fronts h)) in also_refused r kind (words_refused e))
+  carry_in_words (operand_read _ _) none h = elim none [ ]
+  carry_in_words (operand_refused _) none h = elim none [ ]
+  carry_in_words (core_read _ _ _) none h = elim none [ ]
+  carry_in_words (core_refused _ _) none h = elim none [ ]
+  carry_in_words (core_missing _) none h = elim none [ ]
+  carry_in_words (core_stopped _) none h = elim none [ ]
+  carry_in_words (atoms_read _ _) none h = elim none [ ]
+  carry_in_words (atoms_refused _) none h = elim none [ ]
+  carry_in_words (unit_follows _ _) none h = elim none [ ]
+  carry_in_words (no_unit_follows _ _) none h = elim none [ ]
+  carry_in_words (digits_taken _) none h = elim none [ ]
+  carry_in_words (delimiter_taken _ _) none h = elim none [ ]
+  carry_in_words (delimiter_missing _) none h = elim none [ ]
+  carry_in_words (rows_read _ _ _) none h = elim none [ ]
+  carry_in_words (rows_to_end _ _ _) none h = elim none [ ]
+  carry_in_words (rows_refused _) none h = elim none [ ]
+
   -- one part of words, which is all of them where words are due
   carry_word : {before at : Standing} {place : ℕ} {c : Context} {ws : Words} {l m : Units} {o : Outcome Words} (other : ℕ) → ReadsWord place c ws l o → WordsStand before at → IsSettled at → Front before l m → Carried at (ReadsWord other c ws m) o
   carry_word {before = before} {at = at} other (word_stands {c = c} {u = u} {w = x} s) w settled (both_next {m = m} place t h) =
@@ -293,7 +316,7 @@ mutual
       also_read n alike (atom_in_words s e)
   carry_word {before = before} {at = at} other (atom_in_words {c = c} {u = u} s d) w in_words (both_next place t h) =
       let takes = length_command c.alphabet u.piece s in
-      let (n, alike, e) = read_is (carry_length (length_rules u.place place c u.piece takes) d (stands (length_ends u.piece takes before at w) h)) in
+      let (n, alike, e) = read_is (carry_in_words d (rules_in_words u.place place c u.piece takes) (stands (length_ends u.piece takes before at w) h)) in
       also_read n alike (atom_in_words s e)
   carry_word {before = before} {at = at} other (atom_refused_in_words {c = c} {u = u} s d) w (is_calm calm) (both_next place t h) =
       let takes = length_command c.alphabet u.piece s in
@@ -301,12 +324,20 @@ mutual
       also_refused r kind (atom_refused_in_words s e)
   carry_word {before = before} {at = at} other (atom_refused_in_words {c = c} {u = u} s d) w in_words (both_next place t h) =
       let takes = length_command c.alphabet u.piece s in
-      let (r, kind, e) = refused_is (carry_length (length_rules u.place place c u.piece takes) d (stands (length_ends u.piece takes before at w) h)) in
+      let (r, kind, e) = refused_is (carry_in_words d (rules_in_words u.place place c u.piece takes) (stands (length_ends u.piece takes before at w) h)) in
       also_refused r kind (atom_refused_in_words s e)
   carry_word other (no_word s) w settled (both_next place t h) = also_refused _ refl (no_word s)
   carry_word other (word_missing s) w settled (both_next place t h) = also_refused _ refl (word_missing s)
   carry_word other word_at_end w settled both_ended = also_refused _ refl word_at_end
   carry_word other word_stopped w settled (both_stopped e) = also_refused _ e word_stopped
+
+  -- one part of words in braces
+  carry_part : {at : Standing} {place : ℕ} {c : Context} {ws : Words} {l m : Units} {o : Outcome Words} (other : ℕ) → ReadsPart place c ws l o → Front (InWords at) l m → Carried (InWords at) (ReadsPart other c ws m) o
+  carry_part other (part_of_words b d) (both_next place t h) = also (carry_word other d within_words in_words (both_next place t h)) (λ p. part_of_words b)
+  carry_part {at = at} other (box_in_words {c = c} {u = u} {box = box} b d) (both_next place t h) =
+      let (n, alike, e) = read_is (carry_in_words d (box_rules u.place place c box) (stands (box_stays at u.piece box b) h)) in also_read n alike (box_in_words b e)
+  carry_part {at = at} other (box_refused_in_words {c = c} {u = u} {box = box} b d) (both_next place t h) =
+      let (r, kind, e) = refused_is (carry_in_words d (box_rules u.place place c box) (stands (box_stays at u.piece box b) h)) in also_refused r kind (box_refused_in_words b e)
 
   -- words in braces end with their brace
   carry_words : {at : Standing} {place : ℕ} {c : Context} {ws : Words} {l m : Units} {o : Outcome Words} (other : ℕ) → ReadsWords place c ws l o → Front (InWords at) l m → Carried at (ReadsWords other c ws m) o
@@ -314,10 +345,10 @@ mutual
   carry_words other words_never_ended both_ended = also_refused _ refl words_never_ended
   carry_words other words_stopped (both_stopped e) = also_refused _ e words_stopped
   carry_words other (word_read s z j d ds) (both_next place t h) =
-      let (n, alike, e) = read_is (carry_word other d within_words in_words (both_next place t h)) in
+      let (n, alike, e) = read_is (carry_part other d (both_next place t h)) in
       also (carry_words other ds (fronts_of_words alike)) (λ p. word_read s z j e)
   carry_words other (word_refused s z j d) (both_next place t h) =
-      let (r, kind, e) = refused_is (carry_word other d within_words in_words (both_next place t h)) in also_refused r kind (word_refused s z j e)
+      let (r, kind, e) = refused_is (carry_part other d (both_next place t h)) in also_refused r kind (word_refused s z j e)
   carry_words {at = at} other (ligature_read {c = c} {ws = ws} {u = u} {first = first} j d) (both_next {m = m} place t h) =
       let both = joined_alike first (stands (start_stays ws.accent at c.alphabet u.piece j) h) in
       also (carry_words other d (fronts_of_words both.1)) (λ p e. ligature_read j (subst (λ k. ReadsWords other c (with_word ws (shown_character c.alphabet k)) (joined first m).1 p) both.0 e))

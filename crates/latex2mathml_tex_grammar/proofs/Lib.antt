@@ -12,6 +12,7 @@ pub mod AllowedRules
 pub mod AllowedTables
 pub mod AllowedUnits
 pub mod Balanced
+pub mod BoxedWords
 pub mod Carrying
 pub mod Choices
 pub mod DefinitionTexts
@@ -22,6 +23,7 @@ pub mod Following
 pub mod Ligatures
 pub mod MacrosUsed
 pub mod OneList
+pub mod Outcomes
 pub mod Plain
 pub mod Readings
 pub mod Runs
@@ -32,8 +34,10 @@ pub mod Sources
 pub mod SpaceNothing
 pub mod Spaces
 pub mod SpacingExamples
+pub mod Splitting
 pub mod Tables
 pub mod Total
+pub mod TotalWords
 pub mod Unique
 pub mod WordPieces
 pub mod WordScans

@@ -185,18 +185,30 @@ found_first : {at : Standing} {others more : Option (List ℕ × Units)} (first 
 found_first first (found_both texts h) = found_both (first ++ texts) h
 found_first first found_none = found_none
 
-found_one : {at : Standing} {l m : Units} (tests : List (Piece → Option (List ℕ))) (piece : Piece) → IsCalm at → (passes : Option (List ℕ)) → ((found : List ℕ) → passes ≡ Some found → IsPlain piece) → AreAlike (standing_behind piece at) l m → (AreAlike at l m → SameFound at (next_are tests l) (next_are tests m)) → SameFound at (first_passes passes (next_are tests l)) (first_passes passes (next_are tests m))
-found_one tests piece calm None plain h more = found_none
-found_one tests piece calm (Some first) plain h more = found_first first (more (behind_plain piece (plain first refl) calm h))
+-- what passes the test leaves units where they are
+abbrev pub Stay : Standing → (Piece → Option (List ℕ)) → Type 0
+Stay at test = (piece : Piece) (found : List ℕ) → test piece ≡ Some found → standing_behind piece at ≡ at
 
-found_next : {at : Standing} {k n : Units} (tests : List (Piece → Option (List ℕ))) (test : Piece → Option (List ℕ)) → ArePlain test → IsCalm at → ((l m : Units) → AreAlike at l m → SameFound at (next_are tests l) (next_are tests m)) → Front at k n → SameFound at (first_is test (next_are tests) k) (first_is test (next_are tests) n)
-found_next tests test plain calm more (both_next {u = u} {l = l} {m = m} place s h) = found_one tests u.piece calm (test u.piece) (plain u.piece) h (more l m)
-found_next tests test plain calm more both_ended = found_none
-found_next tests test plain calm more (both_stopped e) = found_none
+abbrev pub AllStay : Standing → List (Piece → Option (List ℕ)) → Type 0
+AllStay at [] = ⊤
+AllStay at (test ∷ tests) = Stay at test × AllStay at tests
 
-same_found : {at : Standing} (tests : List (Piece → Option (List ℕ))) → AllPlain tests → IsCalm at → (l m : Units) → AreAlike at l m → SameFound at (next_are tests l) (next_are tests m)
-same_found [] plain calm l m h = found_both [] h
-same_found (test ∷ tests) plain calm l m h = found_next tests test plain.0 calm (same_found tests plain.1 calm) (fronts h)
+plain_stay : {at : Standing} → IsCalm at → (tests : List (Piece → Option (List ℕ))) → AllPlain tests → AllStay at tests
+plain_stay calm [] plain = tt
+plain_stay {at} calm (test ∷ tests) plain = (λ piece found e. plain.0 piece found e at calm, plain_stay calm tests plain.1)
+
+found_one : {at : Standing} {l m : Units} (tests : List (Piece → Option (List ℕ))) (piece : Piece) (passes : Option (List ℕ)) → ((found : List ℕ) → passes ≡ Some found → standing_behind piece at ≡ at) → AreAlike (standing_behind piece at) l m → (AreAlike at l m → SameFound at (next_are tests l) (next_are tests m)) → SameFound at (first_passes passes (next_are tests l)) (first_passes passes (next_are tests m))
+found_one tests piece None stays_there h more = found_none
+found_one {l = l} {m = m} tests piece (Some first) stays_there h more = found_first first (more (subst (λ k. AreAlike k l m) (stays_there first refl) h))
+
+found_next : {at : Standing} {k n : Units} (tests : List (Piece → Option (List ℕ))) (test : Piece → Option (List ℕ)) → Stay at test → ((l m : Units) → AreAlike at l m → SameFound at (next_are tests l) (next_are tests m)) → Front at k n → SameFound at (first_is test (next_are tests) k) (first_is test (next_are tests) n)
+found_next tests test stays_there more (both_next {u = u} {l = l} {m = m} place s h) = found_one tests u.piece (test u.piece) (stays_there u.piece) h (more l m)
+found_next tests test stays_there more both_ended = found_none
+found_next tests test stays_there more (both_stopped e) = found_none
+
+same_found : {at : Standing} (tests : List (Piece → Option (List ℕ))) → AllStay at tests → (l m : Units) → AreAlike at l m → SameFound at (next_are tests l) (next_are tests m)
+same_found [] stay l m h = found_both [] h
+same_found (test ∷ tests) stay l m h = found_next tests test stay.0 (same_found tests stay.1) (fronts h)
 
 -- what passes the tests in one passes them in the other
 pub record TakenToo (tests : List (Piece → Option (List ℕ))) (at : Standing) (texts : List ℕ) (l m : Units) : Type 0 where
@@ -211,15 +223,21 @@ found_there {at = at} {tests = tests} {texts = texts} {k = k} {m = m} (found_bot
     subst (λ t. TakenToo tests at t.0 t.1 m) same (record { rest = n; is = sym q; alike = h })
 found_there found_none p q = cc
 
+pub taken_kept : {at : Standing} {l m k : Units} {texts : List ℕ} (tests : List (Piece → Option (List ℕ))) → AllStay at tests → AreAlike at l m → next_are tests l ≡ Some (texts, k) → TakenToo tests at texts k m
+taken_kept {l = l} {m = m} tests stay h p = found_there (same_found tests stay l m h) p refl
+
 pub taken_too : {at : Standing} {l m k : Units} {texts : List ℕ} (tests : List (Piece → Option (List ℕ))) → AllPlain tests → IsCalm at → AreAlike at l m → next_are tests l ≡ Some (texts, k) → TakenToo tests at texts k m
-taken_too {l = l} {m = m} tests plain calm h p = found_there (same_found tests plain calm l m h) p refl
+taken_too tests plain calm h p = taken_kept tests (plain_stay calm tests plain) h p
 
 none_there : {at : Standing} {a b : Option (List ℕ × Units)} → SameFound at a b → a ≡ None → b ≡ None
 none_there (found_both texts h) p = cc
 none_there found_none p = refl
 
+pub missing_kept : {at : Standing} {l m : Units} (tests : List (Piece → Option (List ℕ))) → AllStay at tests → AreAlike at l m → next_are tests l ≡ None → next_are tests m ≡ None
+missing_kept {l = l} {m = m} tests stay h p = none_there (same_found tests stay l m h) p
+
 pub missing_too : {at : Standing} {l m : Units} (tests : List (Piece → Option (List ℕ))) → AllPlain tests → IsCalm at → AreAlike at l m → next_are tests l ≡ None → next_are tests m ≡ None
-missing_too {l = l} {m = m} tests plain calm h p = none_there (same_found tests plain calm l m h) p
+missing_too tests plain calm h p = missing_kept tests (plain_stay calm tests plain) h p
 
 -- Digits
 

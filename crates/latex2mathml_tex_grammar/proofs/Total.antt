@@ -1,167 +1,29 @@
 -- Units have an outcome, whatever they are.
-use Rattle.std.proofs.Common.{ℕ, zero, suc, ◌-◌, ◌<◌, ◌≤◌, ◌≡◌, Bool, true, false, inl, inr, List, [], ◌∷◌, ◌++◌, length, Option, Some, None, refl, ap, ◌∙◌, arith, codes}
+use Rattle.std.proofs.Common.{ℕ, zero, suc, ◌<◌, ◌≤◌, ◌≡◌, Bool, false, inl, inr, List, [], ◌∷◌, length, Option, Some, None, refl, ap, ◌∙◌, arith, codes}
 use Rattle.std.specs.Bool.{⊤}
 use Rattle.latex2mathml_elements.specs.Element.{Element}
 use Rattle.std.proofs.lemmas.Bool.{cases_Bool}
 use Rattle.std.specs.Bool.{⊤}
-use Rattle.latex2mathml_tex_grammar.specs.{Atoms.Atom, Atoms.Before, Rows.Row, Rows.Operand, Rows.empty_row, Rows.lone, Rows.row_element, Rows.with_atom, Rows.operand_of, Rows.single, Delimiters.delimiter_of, Laws.HasOneOutcome, Makes.Core, Makes.core, Makes.divider, Makes.Scripts, Makes.no_scripts, Meaning.Beside, Meaning.Change, RowGaps.gap_at, RowLines.line_next, RowLines.lined, Tables.Lines, Tables.begun_cell, Tables.cell_of, Tables.a_row, Tables.with_last}
-use Rattle.latex2mathml_tex_grammar.specs.Next.{follows, is_space_piece, past_space, next_are, digits_next, digits_here}
-use Rattle.latex2mathml_tex_grammar.specs.Reading.{Outcome, Read, Refused, ReadsRule, rule_gives, rule_refuses, operand_read, operand_refused, core_read, core_refused, core_missing, core_stopped, atoms_read, atoms_refused, words_read, words_refused, units_taken, units_missing, unit_follows, no_unit_follows, digits_taken, delimiter_taken, delimiter_missing, ReadsOperand, group_operand, group_refused, digit_operand, other_operand, other_refused, no_operand, operand_at_end, operand_stopped, ReadsScripts, scripts_end, mark_taken, script_read, script_refused, mark_refused, ReadsAtom, divider_read, divider_refused, on_empty_row, base_read, base_refused, ReadsAtoms, text_ends, never_ended, atoms_stopped, atoms_end, atom_read, atom_refused, rest_read, change_refused, ReadsWord, word_stands, group_of_words, formula_read, formula_refused, words_in_alphabet, no_word, word_missing, word_at_end, word_stopped, ReadsWords, words_end, words_never_ended, words_stopped, atom_in_words, atom_refused_in_words, word_read, word_refused, ligature_read, words_resized, words_resized_refused, found_taken, found_refused, passed_over, rows_read, rows_refused, ReadsRows, cell_read, cell_refused, ReadsBehindCell, next_cell, arrow_read, arrow_refused, no_arrow, next_row, table_ends, rows_to_end, text_ends_table}
+use Rattle.latex2mathml_tex_grammar.specs.{Atoms.Atom, Atoms.Before, Rows.Row, Rows.Operand, Rows.empty_row, Rows.row_element, Rows.with_atom, Rows.operand_of, Rows.single, Delimiters.delimiter_of, Laws.HasOneOutcome, Makes.Core, Makes.core, Makes.divider, Makes.Scripts, Makes.no_scripts, Meaning.Beside, Meaning.Change, RowGaps.gap_at, RowLines.line_next, RowLines.lined, Tables.Lines, Tables.begun_cell, Tables.cell_of, Tables.a_row, Tables.with_last}
+use Rattle.latex2mathml_tex_grammar.specs.Next.{follows, is_space_piece, past_space, digits_next}
+use Rattle.latex2mathml_tex_grammar.specs.Reading.{Outcome, Read, Refused, ReadsRule, rule_gives, rule_refuses, operand_read, operand_refused, core_read, core_refused, core_missing, core_stopped, atoms_read, atoms_refused, words_read, words_refused, units_taken, units_missing, unit_follows, no_unit_follows, digits_taken, delimiter_taken, delimiter_missing, ReadsOperand, group_operand, group_refused, digit_operand, other_operand, other_refused, no_operand, operand_at_end, operand_stopped, ReadsScripts, scripts_end, mark_taken, script_read, script_refused, mark_refused, ReadsAtom, divider_read, divider_refused, on_empty_row, base_read, base_refused, ReadsAtoms, text_ends, never_ended, atoms_stopped, atoms_end, atom_read, atom_refused, rest_read, change_refused, found_taken, found_refused, passed_over, rows_read, rows_refused, ReadsRows, cell_read, cell_refused, ReadsBehindCell, next_cell, arrow_read, arrow_refused, no_arrow, next_row, table_ends, rows_to_end, text_ends_table}
 use Rattle.latex2mathml_tex_grammar.specs.Diagrams.{arrow_of, before_arrow, fills_cell, sign_of_arrow}
 use Rattle.latex2mathml_tex_grammar.specs.Refusal.{Refusal}
-use Rattle.latex2mathml_tex_grammar.specs.Rests.{Rest, GoesOnIn, NoRest, finished, rest_behind_name, rest_below, rest_in, rest_of, with_resized}
+use Rattle.latex2mathml_tex_grammar.specs.Rests.{Rest, GoesOnIn, NoRest, finished, rest_behind_name, rest_below, rest_in, rest_of}
 use Rattle.latex2mathml_tex_grammar.specs.{Colors.color_of, Meaning.Change, Meaning.ToAlphabet, Meaning.ToStyle, Meaning.ToSize, Meaning.ToColor, Meaning.Divides, Meaning.FractionRule, Rows.Upper}
 use Rattle.latex2mathml_tex_grammar.specs.Scanning.{BeforeColor}
 use Rattle.latex2mathml_elements.specs.Colors.{Color}
-use Rattle.latex2mathml_tex_grammar.specs.Rules.{Context, formula_in_words, in_size, in_words, styled, Ending, WholeText, InBraces, InBrackets, InDollars, InDelimiters, InLabel, begun, Rule, arrow_rule, gives, refuses, reads_operand, reads_core, reads_atoms, reads_words, takes_if, if_follows, takes_digits, takes_delimiter, rule, a_digit, TableEnd, InCell, takes_found, passes_over, reads_rows}
-use Rattle.latex2mathml_tex_grammar.specs.Starts.{Mark, change_by, start_of_mark, is_command, step_of, AtomStart, DividerStart, ScriptStart, RuleStart, ChangeStart, OperandStart, NoStart, GroupStart, DigitStart, OtherStart, atom_start, operand_start, mark_of, Step, GoesOn, TakesOperand, Forbidden, step_of_mark, step_next, empty_base, ends, unended, is_close, left_behind, CellEnd, PartsCells, BeginsArrow, EndsRow, EndsTable, cell_end}
+use Rattle.latex2mathml_tex_grammar.specs.Rules.{Context, styled, Ending, WholeText, InBraces, InBrackets, InDollars, InDelimiters, InLabel, begun, Rule, arrow_rule, gives, refuses, reads_operand, reads_core, reads_atoms, reads_words, takes_if, if_follows, takes_digits, takes_delimiter, rule, TableEnd, InCell, takes_found, passes_over, reads_rows}
+use Rattle.latex2mathml_tex_grammar.specs.Starts.{Mark, change_by, start_of_mark, is_command, step_of, AtomStart, DividerStart, ScriptStart, RuleStart, ChangeStart, OperandStart, NoStart, GroupStart, DigitStart, OtherStart, atom_start, operand_start, mark_of, Step, GoesOn, TakesOperand, Forbidden, step_of_mark, step_next, empty_base, ends, unended, left_behind, CellEnd, PartsCells, BeginsArrow, EndsRow, EndsTable, cell_end}
 use Rattle.latex2mathml_elements.specs.Columns.{Columns}
-use Rattle.latex2mathml_tex_grammar.specs.Scanning.{Spot, BeforeStar, BeforeLength, BeforeRow, Deed, Passes, Adds, Ends, Leaves, Misses, Refuses, deed, done, may_end, found_at_end, with_character, Found, Given, Missing, scan, behind_found, past, past_break, past_gap}
-use Rattle.latex2mathml_tex_grammar.specs.Symbols.{InScript, TextSize}
-use Rattle.latex2mathml_tex_grammar.specs.Units.{Piece, Space, Open, Close, Command, Character, Unit, Units, Next, End, Stop}
-use Rattle.latex2mathml_tex_grammar.specs.Words.{size_after, Words, no_words, Formula, with_accent_ended, with_word, WordRule, IsWord, BeginsGroup, EndsGroup, BeginsFormula, TakesWords, ShowsAtom, NoWord, alphabet_behind, word_rule, shown_character}
+use Rattle.latex2mathml_tex_grammar.specs.Scanning.{Spot, BeforeRow, Found, Given, Missing, scan, past, past_break, past_gap}
+use Rattle.latex2mathml_tex_grammar.specs.Symbols.{InScript}
+use Rattle.latex2mathml_tex_grammar.specs.Units.{Piece, Space, Open, Close, Command, Character, Unit, Units, Next, End}
+use Rattle.latex2mathml_tex_grammar.specs.Words.{no_words}
 use Rattle.latex2mathml_tex_grammar.proofs.{Spaces.next_stays, Unique.one_atoms}
-use Rattle.latex2mathml_tex_grammar.specs.Ligatures.{joined, ligature_start}
-use Rattle.latex2mathml_tex_grammar.proofs.Ligatures.{joined_shortens}
 use Rattle.latex2mathml_tex_grammar.specs.Macros.{unit_count as size}
-
--- there is an outcome, which leaves at most k units
-data Comes (A : Type 0) (reads : Outcome A → Type 0) (k : ℕ) : Type 0 where
-  comes_to : (x : A) (m : Units) → size m ≤ k → reads (Read x m) → Comes A reads k
-  is_refused : (r : Refusal) → reads (Refused r) → Comes A reads k
-
--- the same outcome, of something else
-with_outcome : {A : Type 0} {P Q : Outcome A → Type 0} {j k : ℕ} → Comes A P j → j ≤ k → ((o : Outcome A) → P o → Q o) → Comes A Q k
-with_outcome (comes_to x m fits d) h f = comes_to x m (omega arith) (f (Read x m) d)
-with_outcome (is_refused r d) h f = is_refused r (f (Refused r) d)
-
--- a part that has an outcome, and then what follows it
-after : {A B : Type 0} {P : Outcome A → Type 0} {Q : Outcome B → Type 0} {j k : ℕ} (R : A → Units → Outcome B → Type 0) → Comes A P j → j ≤ k → ((x : A) (m : Units) → size m ≤ j → Comes B (R x m) (size m)) → ((x : A) (m : Units) (o : Outcome B) → P (Read x m) → R x m o → Q o) → ((r : Refusal) → P (Refused r) → Q (Refused r)) → Comes B Q k
-after R (comes_to x m fits d) h follow read refused = with_outcome (follow x m fits) (omega arith) (λ o. read x m o d)
-after R (is_refused r d) h follow read refused = is_refused r (refused r d)
-
--- What comes next
-
-data Sees (l : Units) : Type 0 where
-  sees_unit : (u : Unit) (m : Units) → past_space l ≡ Next u m → size m < size l → Sees l
-  sees_end : (at : ℕ) → past_space l ≡ End at → Sees l
-  sees_stop : (r : Refusal) → past_space l ≡ Stop r → Sees l
-
-seen_later : (u : Unit) (us : Units) → past_space (Next u us) ≡ past_space us → Sees us → Sees (Next u us)
-seen_later u us same (sees_unit v m e h) = sees_unit v m (same ∙ e) (omega arith)
-seen_later u us same (sees_end at e) = sees_end at (same ∙ e)
-seen_later u us same (sees_stop r e) = sees_stop r (same ∙ e)
-
-sees : (l : Units) → Sees l
-sees (Next u us) = elim (cases_Bool (is_space_piece u.piece)) [
-  | inl h ↦ seen_later u us (rw h refl) (sees us)
-  | inr h ↦ sees_unit u us (rw h refl) (omega arith)
-]
-sees (End place) = sees_end place refl
-sees (Stop r) = sees_stop r refl
-
-size-past_space : (l : Units) → size (past_space l) ≤ size l
-size-past_space (Next u us) = elim (cases_Bool (is_space_piece u.piece)) [
-  | inl h ↦ (let less = size-past_space us in rw h (omega arith))
-  | inr h ↦ rw h (omega arith)
-]
-size-past_space (End place) = omega arith
-size-past_space (Stop r) = omega arith
-
-size-digits_next : (l : Units) → size (digits_next l).1 ≤ size l
-size-digits_next (Next u us) = digits_shorten (is_space_piece u.piece) (a_digit u.piece) u us (digits_next us) (size-digits_next us)
-  where
-    digits_shorten : (space : Bool) (digit : Option (List ℕ)) (u : Unit) (us : Units) (behind : List ℕ × Units) → size behind.1 ≤ size us → size (digits_here space digit (Next u us) behind).1 ≤ size (Next u us)
-    digits_shorten true digit u us behind h = omega arith
-    digits_shorten false (Some digit) u us behind h = omega arith
-    digits_shorten false None u us behind h = omega arith
-size-digits_next (End place) = omega arith
-size-digits_next (Stop r) = omega arith
-
--- what is found leaves at most k units
-abbrev FoundFits : ℕ → Found → Type 0
-FoundFits k (Given text m) = size m ≤ k
-FoundFits k (Missing r) = ⊤
-
-found_more : (k : ℕ) (found : Found) → FoundFits k found → FoundFits (suc k) found
-found_more k (Given text m) h = omega arith
-found_more k (Missing r) h = tt
-
-found_longer : (c k : ℕ) (found : Found) → FoundFits k found → FoundFits k (with_character c found)
-found_longer c k (Given text m) h = h
-found_longer c k (Missing r) h = tt
-
-done_fits : (place : ℕ) (spot : Spot) (d : Deed) (u : Unit) (l : Units) (behind : Spot → Found) → ((next : Spot) → FoundFits (size l) (behind next)) → FoundFits (suc (size l)) (done place spot d u l behind)
-done_fits place spot (Passes next) u l behind h = found_more (size l) (behind next) (h next)
-done_fits place spot (Adds c next) u l behind h = found_longer c (suc (size l)) (behind next) (found_more (size l) (behind next) (h next))
-done_fits place spot Ends u l behind h = omega arith
-done_fits place spot Leaves u l behind h = omega arith
-done_fits place spot Misses u l behind h = tt
-done_fits place spot (Refuses kind) u l behind h = tt
-
-end_fits : (b : Bool) (l : Units) (r : Refusal) → FoundFits (size l) (found_at_end b l r)
-end_fits true l r = omega arith
-end_fits false l r = tt
-
-scan_fits : (place : ℕ) (l : Units) (spot : Spot) → FoundFits (size l) (scan place l spot)
-scan_fits place (Next u us) spot = done_fits place spot (deed spot u.piece) u us (scan place us) (scan_fits place us)
-scan_fits place (End at) spot = end_fits (may_end spot) (End at) _
-scan_fits place (Stop r) spot = end_fits (may_end spot) (Stop r) _
-
-size-behind_found : (l : Units) (found : Found) → FoundFits (size l) found → size (behind_found l found) ≤ size l
-size-behind_found l (Given text m) h = h
-size-behind_found l (Missing r) h = omega arith
-
-size-past : (spot : Spot) (l : Units) → size (past spot l) ≤ size l
-size-past spot l = size-behind_found l (scan 0 l spot) (scan_fits 0 l spot)
-
-size-past_break : (l : Units) → size (past_break l) ≤ size l
-size-past_break l =
-    let star = size-past BeforeStar l in
-    let length = size-past BeforeLength (past BeforeStar l) in
-    let row = size-past BeforeRow (past BeforeLength (past BeforeStar l)) in
-    omega arith
-
--- whether units that pass these tests come next
-data Finds (tests : List (Piece → Option (List ℕ))) (l : Units) : Type 0 where
-  finds : (texts : List ℕ) (m : Units) → next_are tests l ≡ Some (texts, m) → size m ≤ size l → Finds tests l
-  finds_none : next_are tests l ≡ None → Finds tests l
-
-with_first : {test : Piece → Option (List ℕ)} {tests : List (Piece → Option (List ℕ))} {l m : Units} {u : Unit} → past_space l ≡ Next u m → size m < size l → (found : Option (List ℕ)) → test u.piece ≡ found → Finds tests m → Finds (test ∷ tests) l
-with_first p h (Some first) e (finds texts n f less) = finds (first ++ texts) n (rw (p, e, f) refl) (omega arith)
-with_first p h (Some first) e (finds_none f) = finds_none (rw (p, e, f) refl)
-with_first p h None e more = finds_none (rw (p, e) refl)
-
-find_next : (tests : List (Piece → Option (List ℕ))) (l : Units) → Finds tests l
-find_next [] l = finds [] l refl (omega arith)
-find_next (test ∷ tests) l = elim (sees l) [
-  | sees_unit u m p h ↦ with_first p h (test u.piece) refl (find_next tests m)
-  | sees_end at p ↦ finds_none (rw p refl)
-  | sees_stop r p ↦ finds_none (rw p refl)
-]
-
--- the rows of a table have an outcome, which leaves the unit that ends the table and fewer than k units after it, or the end
--- of the text
-data RowsCome (reads : Outcome Lines → Type 0) (k : ℕ) : Type 0 where
-  rows_come : (lines : Lines) (l m : Units) (u : Unit) → past_space l ≡ Next u m → size m < k → reads (Read lines l) → RowsCome reads k
-  rows_come_to_end : (lines : Lines) (l : Units) (at : ℕ) → past_space l ≡ End at → reads (Read lines l) → RowsCome reads k
-  rows_none : (r : Refusal) → reads (Refused r) → RowsCome reads k
-
-with_rows : {P Q : Outcome Lines → Type 0} {j k : ℕ} → RowsCome P j → j ≤ k → ((o : Outcome Lines) → P o → Q o) → RowsCome Q k
-with_rows (rows_come lines l m u p fits d) h f = rows_come lines l m u p (omega arith) (f (Read lines l) d)
-with_rows (rows_come_to_end lines l at p d) h f = rows_come_to_end lines l at p (f (Read lines l) d)
-with_rows (rows_none r d) h f = rows_none r (f (Refused r) d)
-
--- there is an outcome for fewer than k units
-record HasOutcomes (k : ℕ) : Type 0 where
-  of_rule : (r : Rule) (l : Units) → size l < k → Comes Core (ReadsRule r l) (size l)
-  of_operand : (place : ℕ) (c : Context) (l : Units) → size l < k → Comes Operand (ReadsOperand place c l) (size l)
-  of_scripts : (c : Context) (before : Before) (base : Atom) (scripts : Scripts) (l : Units) → size l < k → Comes Atom (ReadsScripts c before base scripts l) (size l)
-  of_atoms : (ending : Ending) (c : Context) (row : Row) (l : Units) → size l < k → Comes Row (ReadsAtoms ending c row l) (size l)
-  of_rows : (end : TableEnd) (place : ℕ) (columns : Columns) (c : Context) (rows cells : List Element) (l : Units) → size l < k → RowsCome (ReadsRows end place columns c rows cells l) (size l)
-  -- what is a part of words is taken
-  of_word : (place : ℕ) (c : Context) (ws : Words) (l : Units) → size l < k → Comes Words (ReadsWord place c ws l) (size l - 1)
-  of_words : (place : ℕ) (c : Context) (ws : Words) (l : Units) → size l < k → Comes Words (ReadsWords place c ws l) (size l)
+use Rattle.latex2mathml_tex_grammar.proofs.Outcomes.{Comes, with_outcome, after, sees, size-past_space, size-digits_next, scan_fits, size-past, size-past_break, Finds, find_next, RowsCome, with_rows, HasOutcomes, FoundFits, comes_to, is_refused, sees_unit, sees_end, sees_stop, finds, finds_none, rows_come, rows_come_to_end, rows_none}
+use Rattle.latex2mathml_tex_grammar.proofs.TotalWords.{word_total, words_total}
 
 -- With one unit more
 
@@ -355,55 +217,6 @@ rows_total k has end place columns c rows cells l h = elim (atoms_total k has (I
     | leaves_end at p ↦ rows_come_to_end (with_last columns rows cells (cell_of row)) n at p (cell_read d (text_ends_table p))
   ]
   | is_refused r d ↦ rows_none r (cell_refused d)
-]
-
-begun_word : (k : ℕ) → HasOutcomes k → (place : ℕ) (c : Context) (ws : Words) (u : Unit) (l : Units) → size l < k → (r : WordRule) → word_rule c.alphabet u.piece ≡ r → Comes Words (ReadsWord place c ws (Next u l)) (size l)
-begun_word k has place c ws u l h (IsWord w) s = comes_to (with_word ws w) l (omega arith) (word_stands s)
-begun_word k has place c ws u l h BeginsGroup s = with_outcome (has.of_words u.place c ws l h) (omega arith) (λ o. group_of_words s)
-begun_word k has place c ws u l h EndsGroup s = is_refused _ (word_missing s)
-begun_word k has place c ws u l h BeginsFormula s = elim (has.of_atoms (InDollars u.place) (formula_in_words c) (begun (InDollars u.place)) l h) [
-  | comes_to row m fits d ↦ comes_to (with_word ws (Formula (row_element (lone row.last row.elements)))) m fits (formula_read s d)
-  | is_refused r d ↦ is_refused r (formula_refused s d)
-]
-begun_word k has place c ws u l h (TakesWords a) s =
-    let less = size-past_space l in with_outcome (has.of_word u.place (in_words c a) ws (past_space l) (omega arith)) (omega arith) (λ o. words_in_alphabet s)
-begun_word k has place c ws u l h ShowsAtom s = elim (has.of_rule (rule u.place c u.piece) l h) [
-  | comes_to x m fits d ↦ comes_to (with_word ws (Formula x.atom.element)) m fits (atom_in_words s d)
-  | is_refused r d ↦ is_refused r (atom_refused_in_words s d)
-]
-begun_word k has place c ws u l h (NoWord kind) s = is_refused _ (no_word s)
-
-word_total : (k : ℕ) → HasOutcomes k → (place : ℕ) (c : Context) (ws : Words) (l : Units) → size l < suc k → Comes Words (ReadsWord place c ws l) (size l - 1)
-word_total k has place c ws (Next u l) h = with_outcome (begun_word k has place c ws u l (omega arith) (word_rule c.alphabet u.piece) refl) (omega arith) (λ o d. d)
-word_total k has place c ws (End at) h = is_refused _ word_at_end
-word_total k has place c ws (Stop r) h = is_refused r word_stopped
-
--- a part of words that has an outcome, and then the words after it
-word_after : (k : ℕ) → HasOutcomes k → (place : ℕ) (c : Context) (ws : Words) (u : Unit) (l : Units) → size l < k → is_close u.piece ≡ false → size_after (word_rule c.alphabet u.piece) ≡ None → ligature_start ws.accent c.alphabet u.piece ≡ None → Comes Words (ReadsWord place c ws (Next u l)) (size l) → Comes Words (ReadsWords place c ws (Next u l)) (size (Next u l))
-word_after k has place c ws u l h s z j (is_refused r d) = is_refused r (word_refused s z j d)
-word_after k has place c ws u l h s z j (comes_to vs m fits d) = with_outcome (has.of_words place (in_words c (alphabet_behind c.alphabet u.piece)) vs m (omega arith)) (omega arith) (λ o. word_read s z j d)
-
--- words after a ligature, if one begins
-after_start : (k : ℕ) → HasOutcomes k → (place : ℕ) (c : Context) (ws : Words) (u : Unit) (l : Units) → size l < k → is_close u.piece ≡ false → size_after (word_rule c.alphabet u.piece) ≡ None → (start : Option ℕ) → ligature_start ws.accent c.alphabet u.piece ≡ start → Comes Words (ReadsWords place c ws (Next u l)) (size (Next u l))
-after_start k has place c ws u l h s z None j = word_after k has place c ws u l h s z j (begun_word k has place c ws u l h (word_rule c.alphabet u.piece) refl)
-after_start k has place c ws u l h s z (Some first) j =
-    let fewer = joined_shortens first l in
-    with_outcome (has.of_words place c (with_word ws (shown_character c.alphabet (joined first l).0)) (joined first l).1 (omega (arith, fewer, h))) (omega (arith, fewer)) (λ o. ligature_read j)
-
--- words after a change of size, if there is one
-after_size : (k : ℕ) → HasOutcomes k → (place : ℕ) (c : Context) (ws : Words) (u : Unit) (l : Units) → size l < k → is_close u.piece ≡ false → (changed : Option TextSize) → size_after (word_rule c.alphabet u.piece) ≡ changed → Comes Words (ReadsWords place c ws (Next u l)) (size (Next u l))
-after_size k has place c ws u l h s None z = after_start k has place c ws u l h s z (ligature_start ws.accent c.alphabet u.piece) refl
-after_size k has place c ws u l h s (Some size) z = elim (has.of_words place (in_size c size) no_words l h) [
-  | comes_to vs m fits d ↦ comes_to (with_resized size c (with_accent_ended ws).elements vs.elements) m (omega arith) (words_resized z d)
-  | is_refused r d ↦ is_refused r (words_resized_refused z d)
-]
-
-words_total : (k : ℕ) → HasOutcomes k → (place : ℕ) (c : Context) (ws : Words) (l : Units) → size l < suc k → Comes Words (ReadsWords place c ws l) (size l)
-words_total k has place c ws (End at) h = is_refused _ words_never_ended
-words_total k has place c ws (Stop r) h = is_refused r words_stopped
-words_total k has place c ws (Next u l) h = elim (cases_Bool (is_close u.piece)) [
-  | inl s ↦ comes_to (with_accent_ended ws) l (omega arith) (words_end s)
-  | inr s ↦ after_size k has place c ws u l (omega arith) s (size_after (word_rule c.alphabet u.piece)) refl
 ]
 
 -- so a rule has an outcome

@@ -1,13 +1,14 @@
 -- Two outcomes of the same units are the same.
-use Rattle.std.proofs.Common.{◌≡◌, ℕ, IsTrue, Option, Some, refl, ap, List, ◌∷◌}
+use Rattle.std.proofs.Common.{◌≡◌, ℕ, IsTrue, Option, Some, refl, ap, List, ◌∷◌, subst}
 use Rattle.latex2mathml_elements.specs.Element.{Element}
 use Rattle.latex2mathml_elements.specs.Columns.{Columns}
 use Rattle.latex2mathml_tex_grammar.specs.{Atoms.Atom, Atoms.Before, Makes.Core, Makes.Scripts, Rows.Row, Rows.Operand}
-use Rattle.latex2mathml_tex_grammar.specs.Reading.{Outcome, Read, Refused, ReadsRule, rule_gives, rule_refuses, operand_read, operand_refused, core_read, core_refused, core_missing, core_stopped, atoms_read, atoms_refused, words_read, words_refused, units_taken, units_missing, unit_follows, no_unit_follows, digits_taken, delimiter_taken, delimiter_missing, ReadsOperand, group_operand, group_refused, digit_operand, other_operand, other_refused, no_operand, operand_at_end, operand_stopped, ReadsScripts, scripts_end, mark_taken, script_read, script_refused, mark_refused, ReadsAtom, divider_read, divider_refused, on_empty_row, base_read, base_refused, ReadsAtoms, text_ends, never_ended, atoms_stopped, atoms_end, atom_read, atom_refused, rest_read, change_refused, ReadsWord, word_stands, group_of_words, formula_read, formula_refused, words_in_alphabet, no_word, word_missing, word_at_end, word_stopped, ReadsWords, words_end, words_never_ended, words_stopped, atom_in_words, atom_refused_in_words, word_read, word_refused, ligature_read, words_resized, words_resized_refused, found_taken, found_refused, passed_over, rows_read, rows_to_end, rows_refused, ReadsRows, cell_read, cell_refused, ReadsBehindCell, next_cell, arrow_read, arrow_refused, no_arrow, next_row, table_ends, text_ends_table}
+use Rattle.latex2mathml_tex_grammar.specs.Reading.{Outcome, Read, Refused, ReadsRule, rule_gives, rule_refuses, operand_read, operand_refused, core_read, core_refused, core_missing, core_stopped, atoms_read, atoms_refused, words_read, words_refused, units_taken, units_missing, unit_follows, no_unit_follows, digits_taken, delimiter_taken, delimiter_missing, ReadsOperand, group_operand, group_refused, digit_operand, other_operand, other_refused, no_operand, operand_at_end, operand_stopped, ReadsScripts, scripts_end, mark_taken, script_read, script_refused, mark_refused, ReadsAtom, divider_read, divider_refused, on_empty_row, base_read, base_refused, ReadsAtoms, text_ends, never_ended, atoms_stopped, atoms_end, atom_read, atom_refused, rest_read, change_refused, ReadsWord, word_stands, group_of_words, formula_read, formula_refused, words_in_alphabet, no_word, word_missing, word_at_end, word_stopped, ReadsPart, part_of_words, box_in_words, box_refused_in_words, ReadsWords, words_end, words_never_ended, words_stopped, atom_in_words, atom_refused_in_words, word_read, word_refused, ligature_read, words_resized, words_resized_refused, found_taken, found_refused, passed_over, rows_read, rows_to_end, rows_refused, ReadsRows, cell_read, cell_refused, ReadsBehindCell, next_cell, arrow_read, arrow_refused, no_arrow, next_row, table_ends, text_ends_table}
 use Rattle.latex2mathml_tex_grammar.specs.Rules.{Context, Ending, Rule, TableEnd}
 use Rattle.latex2mathml_tex_grammar.specs.{Starts.step_of_mark, Starts.mark_of, Rests.with_resized, Starts.is_close, Symbols.Alphabet, Symbols.TextSize, Words.Words, Words.WordRule, Words.size_after, Words.with_accent_ended, Words.word_rule, Starts.cell_end, Rows.row_element, Tables.Lines, Tables.a_row}
 use Rattle.latex2mathml_tex_grammar.specs.Units.{Piece, Space, Open, Close, Command, Character, Unit, Units}
 use Rattle.latex2mathml_tex_grammar.proofs.Following.{ligature_moved, one_rest, rest_is, refused_alike, atom_or_change, core_is, group_is, operand_is, atom_is, rule_moved, taken_moved, found_moved, rows_moved, rows_moved_to_end, rows_next, next_row_next, one_end, one_sign, sign_or_none, arrow_is, arrow_moved, cell_moved, base_moved, atoms_moved, words_moved, one_step, same_second, ended_there, word_is, words_resized_to, scripts_go_on, script_moved}
+use Rattle.latex2mathml_tex_grammar.specs.WordBoxes.{WordBox, box_rule}
 use Rattle.latex2mathml_tex_grammar.proofs.Ligatures.{begins_none, start_no_size}
 
 -- what closes words does not change their size
@@ -17,6 +18,10 @@ closes_no_size a Space s t = cc
 closes_no_size a Open s t = cc
 closes_no_size a (Command name) s t = cc
 closes_no_size a (Character character) s t = cc
+
+-- the same is made of words
+same_box : (place : ℕ) (c : Context) {found : Option WordBox} {a b : WordBox} {l : Units} {o : Outcome Core} → found ≡ Some a → found ≡ Some b → ReadsRule (box_rule place c a) l o → ReadsRule (box_rule place c b) l o
+same_box place c {a = a} {b = b} {l = l} {o = o} s t d = (let same : a ≡ b = cc in subst (λ box. ReadsRule (box_rule place c box) l o) same d)
 
 -- the same words behind the same change of size
 resized_alike : (r : WordRule) {a b : TextSize} {vs others : Words} {m n : Units} (c : Context) (before : List Element) → size_after r ≡ Some a → size_after r ≡ Some b → Read vs m ≡ Read others n → Read (with_resized a c before vs.elements) m ≡ Read (with_resized b c before others.elements) n
@@ -422,14 +427,25 @@ mutual
   one_word (word_missing s) (atom_refused_in_words t e) = cc
 
   -- a sequence of words has one outcome
+  one_part : {place : ℕ} {c : Context} {ws : Words} {l : Units} {o p : Outcome Words} → ReadsPart place c ws l o → ReadsPart place c ws l p → o ≡ p
+  one_part (part_of_words b d) (part_of_words t e) = one_word d e
+  one_part (box_in_words {c = c} {u = u} b d) (box_in_words t e) = cc (one_rule d (same_box u.place c t b e))
+  one_part (box_in_words {c = c} {u = u} b d) (box_refused_in_words t e) = cc (one_rule d (same_box u.place c t b e))
+  one_part (box_refused_in_words {c = c} {u = u} b d) (box_in_words t e) = cc (one_rule d (same_box u.place c t b e))
+  one_part (box_refused_in_words {c = c} {u = u} b d) (box_refused_in_words t e) = cc (one_rule d (same_box u.place c t b e))
+  one_part (part_of_words b d) (box_in_words t e) = cc
+  one_part (part_of_words b d) (box_refused_in_words t e) = cc
+  one_part (box_in_words b d) (part_of_words t e) = cc
+  one_part (box_refused_in_words b d) (part_of_words t e) = cc
+
   one_words : {place : ℕ} {c : Context} {ws : Words} {l : Units} {o p : Outcome Words} → ReadsWords place c ws l o → ReadsWords place c ws l p → o ≡ p
   one_words words_never_ended words_never_ended = refl
   one_words words_stopped words_stopped = refl
   one_words (words_end s) (words_end t) = refl
-  one_words (word_read s z j d ds) (word_read t y k e es) = one_words ds (words_moved (one_word d e) es)
-  one_words (word_read s z j d ds) (word_refused t y k e) = cc (one_word d e)
-  one_words (word_refused s z j d) (word_read t y k e es) = cc (one_word d e)
-  one_words (word_refused s z j d) (word_refused t y k e) = cc (one_word d e)
+  one_words (word_read s z j d ds) (word_read t y k e es) = one_words ds (words_moved (one_part d e) es)
+  one_words (word_read s z j d ds) (word_refused t y k e) = cc (one_part d e)
+  one_words (word_refused s z j d) (word_read t y k e es) = cc (one_part d e)
+  one_words (word_refused s z j d) (word_refused t y k e) = cc (one_part d e)
   one_words (ligature_read {c = c} {ws = ws} {l = l} j d) (ligature_read k e) = one_words d (ligature_moved c ws l j k e)
   one_words (words_resized {c = c} {ws = ws} {u = u} s d) (words_resized t e) = resized_alike (word_rule c.alphabet u.piece) c (with_accent_ended ws).elements s t (one_words d (words_resized_to c (word_rule c.alphabet u.piece) s t e))
   one_words (words_resized {c = c} {u = u} s d) (words_resized_refused t e) = cc (one_words d (words_resized_to c (word_rule c.alphabet u.piece) s t e))

@@ -1,5 +1,5 @@
 -- What each piece is in words, and where the unit after it is.
-use Rattle.std.proofs.Common.{◌≡◌, ℕ, Bool, true, false, List, Option, Some, None, ◌⊎◌, inl, inr, refl, subst, sym, ◌==◌, if◌then◌else◌, ◌||◌}
+use Rattle.std.proofs.Common.{◌≡◌, ℕ, Bool, true, false, List, Option, Some, None, refl, subst, sym, ◌==◌, if◌then◌else◌, ◌||◌}
 use Rattle.std.specs.Str.{byte}
 use Rattle.latex2mathml_tex_grammar.specs.{Commands.meaning_of, Delimiters.entry_of_name, TextCommands.text_accents, TextCommands.text_commands}
 use Rattle.latex2mathml_tex_grammar.specs.Meaning.{Meaning, takes_words, Shows, FunctionName, Dots, CenteredDots, VerticalDots, Implication, Spacing, Styled, Words as TakesWordsIn, Fraction, Root, Accent, Brace, Stack, StackedRelation, OperatorName, Negation, Slash, Sized, Left, Middle, Right, Limits, NoLimits, Classed, Changes, ToAlphabet, ToStyle, ToSize, Divides, ToColor, BeginTable, EndTable, LineBreak, Substack, Skip, SkipInBraces, Boxed, Smash, ContinuedFraction, GeneralFraction, Choice, Raise, InColor, Highlight, Rectangle, Arrow}
@@ -26,20 +26,22 @@ space_ends : EndsWord Space
 space_ends before at before_words s = cc (s refl)
 space_ends before at within_words s = refl
 
-command_ends : (name : List ℕ) → TakesNone name → EndsWord (Command name)
+pub command_ends : (name : List ℕ) → TakesNone name → EndsWord (Command name)
 command_ends name h before at before_words s = rw h refl
 command_ends name h before at within_words s = rw h refl
 
--- the command takes a length, and makes a space of it
-abbrev pub TakesLength : List ℕ → Type 0
-TakesLength name = (meaning_of name ≡ Some Skip) ⊎ (meaning_of name ≡ Some SkipInBraces)
+-- the command takes nothing but lengths, and makes a space or a bar of them
+pub data TakesLengths (name : List ℕ) : Type 0 where
+  skips : meaning_of name ≡ Some Skip → TakesLengths name
+  skips_in_braces : meaning_of name ≡ Some SkipInBraces → TakesLengths name
+  is_bar : meaning_of name ≡ Some Rectangle → TakesLengths name
 
 -- what a piece is in words
 data InAWord : Piece → WordRule → Type 0 where
   a_word : {piece : Piece} {w : Word} → EndsWord piece → InAWord piece (IsWord w)
   a_formula : {c : ℕ} → (c == byte "$") ≡ true → InAWord (Character c) BeginsFormula
   more_words : {name : List ℕ} {a : Option Alphabet} → takes_words (meaning_of name) ≡ true → InAWord (Command name) (TakesWords a)
-  an_atom : {name : List ℕ} → TakesNone name → TakesLength name → InAWord (Command name) ShowsAtom
+  an_atom : {name : List ℕ} → TakesNone name → TakesLengths name → InAWord (Command name) ShowsAtom
   no_word_here : {piece : Piece} {kind : Kind} → InAWord piece (NoWord kind)
   opens : InAWord Open BeginsGroup
   closes : InAWord Close EndsGroup
@@ -80,8 +82,8 @@ by_meaning font name (Some BeginTable) e = no_word_here
 by_meaning font name (Some EndTable) e = no_word_here
 by_meaning font name (Some LineBreak) e = no_word_here
 by_meaning font name (Some Substack) e = no_word_here
-by_meaning font name (Some Skip) e = an_atom (rw e refl) (inl e)
-by_meaning font name (Some SkipInBraces) e = an_atom (rw e refl) (inr e)
+by_meaning font name (Some Skip) e = an_atom (rw e refl) (skips e)
+by_meaning font name (Some SkipInBraces) e = an_atom (rw e refl) (skips_in_braces e)
 by_meaning font name (Some (Boxed box)) e = no_word_here
 by_meaning font name (Some Smash) e = no_word_here
 by_meaning font name (Some ContinuedFraction) e = no_word_here
@@ -90,7 +92,7 @@ by_meaning font name (Some Choice) e = no_word_here
 by_meaning font name (Some Raise) e = no_word_here
 by_meaning font name (Some InColor) e = no_word_here
 by_meaning font name (Some Highlight) e = no_word_here
-by_meaning font name (Some Rectangle) e = no_word_here
+by_meaning font name (Some Rectangle) e = an_atom (rw e refl) (is_bar e)
 by_meaning font name (Some (Arrow sign_character)) e = no_word_here
 
 -- one or the other
@@ -196,7 +198,7 @@ pub record IsLengthCommand (piece : Piece) : Type 0 where
   pub name : List ℕ
   pub is : piece ≡ Command name
   pub none : TakesNone name
-  pub takes : TakesLength name
+  pub takes : TakesLengths name
 
 atom_is : {piece : Piece} {r : WordRule} → InAWord piece r → r ≡ ShowsAtom → IsLengthCommand piece
 atom_is (a_word ends) e = cc

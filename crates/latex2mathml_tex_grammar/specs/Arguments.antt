@@ -1,22 +1,11 @@
 -- Arguments: what a macro or a definition takes from the units that come next.
-use Rattle.std.specs.Prelude.{ℕ, zero, suc, ◌-◌, Bool, true, false, ◌&&◌, ◌==◌, List, [], ◌∷◌, length, take, drop, Option, Some, None, if◌then◌else◌, ⊤}
-use Rattle.std.specs.Str.{byte, bytes_eq}
+use Rattle.std.specs.Prelude.{ℕ, zero, suc, ◌-◌, Bool, true, false, ◌&&◌, List, [], ◌∷◌, length, take, drop, Option, Some, None, if◌then◌else◌, ⊤}
+use Rattle.std.specs.Str.{byte}
+pub use Rattle.latex2mathml_tex_grammar.specs.Pieces.{Brace, Opening, Closing, NoBrace, brace_of, is_character, is_command}
 use Rattle.latex2mathml_tex_grammar.specs.Macros.{Part, Taken, Parameter, Sign, Macro, put}
 use Rattle.latex2mathml_tex_grammar.specs.{Next.is_space_piece, Next.past_space, Reading.Outcome, Reading.Read, Reading.Refused}
 use Rattle.latex2mathml_tex_grammar.specs.Refusal.{MissingArgument, UnclosedBrace, UnclosedBracket, WrongUse, Refusal, refusal_at}
-use Rattle.latex2mathml_tex_grammar.specs.Units.{Piece, Space, Open, Close, Command, Character, Unit, Units, Next, End, Stop}
-
--- the brace that a piece is
-pub data Brace : Type 0 where
-  Opening : Brace
-  Closing : Brace
-  NoBrace : Brace
-
--- which brace a unit is, if it is one
-abbrev pub brace_of : Piece → Brace
-brace_of Open = Opening
-brace_of Close = Closing
-brace_of piece = NoBrace
+use Rattle.latex2mathml_tex_grammar.specs.Units.{Piece, Space, Command, Character, Unit, Units, Next, End, Stop}
 
 -- what is read first, then what is made of it and of the units after it
 abbrev pub and_then : {A B : Type 0} → Outcome A → (A → Units → Outcome B) → Outcome B
@@ -59,16 +48,6 @@ abbrev pub argument : ℕ → Units → Outcome (List Unit)
 argument place l = argument_here place (past_space l)
 
 -- What ends before a sign
-
--- whether a unit is this character
-abbrev pub is_character : ℕ → Piece → Bool
-is_character c (Character d) = d == c
-is_character c piece = false
-
--- whether a unit is the command with this name
-abbrev pub is_command : List ℕ → Piece → Bool
-is_command name (Command other) = bytes_eq name other
-is_command name piece = false
 
 -- whether a unit is this sign, which is a command, a character or white space
 abbrev pub is_sign : Piece → Piece → Bool

@@ -2,9 +2,10 @@
 use Rattle.std.specs.{List.AllByRecursion, Str.byte}
 use Rattle.std.specs.Prelude.{Bool, IsTrue, Option, Some, None, codes, ◌≡◌, ℕ, ◌+◌, ◌≤◌, List, [], ◌∷◌, ◌++◌, ⊤}
 use Rattle.latex2mathml_tex_grammar.specs.Arguments.{Opening, Closing, NoBrace, brace_of, group, first_sign, arguments}
+use Rattle.latex2mathml_tex_grammar.specs.{Bars.divider, Bars.double_bar}
 use Rattle.latex2mathml_tex_grammar.specs.Definitions.{Word, definition_of, meaning_now}
 use Rattle.latex2mathml_tex_grammar.specs.{DefinitionTexts.ReadsDefinitions, Reading.Outcome, Reading.Read}
-use Rattle.latex2mathml_tex_grammar.specs.{Expansion.Expands, Expansion.Stands, Expansion.Turns, Expansion.role_of, Expansion.turn, Macros.Part, Macros.Fixed, Macros.Argument, Macros.Taken, Macros.Parameter, Macros.Macro, Macros.macro_of, Macros.Table, Macros.with_macro, Macros.before, Macros.unit_count, Operands.Due}
+use Rattle.latex2mathml_tex_grammar.specs.{Expansion.Expands, Expansion.Stands, Expansion.Turns, Expansion.role_of, Expansion.turn, Macros.Part, Macros.Fixed, Macros.Argument, Macros.Split, Macros.Taken, Macros.Parameter, Macros.Macro, Macros.macro_of, Macros.Table, Macros.with_macro, Macros.before, Macros.unit_count, Operands.Due}
 use Rattle.latex2mathml_tex_grammar.specs.Units.{Piece, Space, Open, Close, Command, Character, Unit, Units, Next}
 
 -- among the units no macro is used, and no definition begins
@@ -60,11 +61,12 @@ abbrev pub EachPiece : (Piece → Type 0) → Units → Type 0
 EachPiece P (Next u l) = P u.piece × EachPiece P l
 EachPiece P l = ⊤
 
--- each fixed piece of a body passes
+-- each fixed piece of a body passes, and each that takes the place of a bar
 abbrev pub EachFixed : (Piece → Type 0) → List Part → Type 0
 EachFixed P [] = ⊤
 EachFixed P (Fixed p ∷ parts) = P p × EachFixed P parts
 EachFixed P (Argument k ∷ parts) = EachFixed P parts
+EachFixed P (Split bars k ∷ parts) = AllByRecursion P (divider bars double_bar) × EachFixed P parts
 
 -- each fixed piece passes, if there are parts
 abbrev pub EachIfSome : (Piece → Type 0) → Option (List Part) → Type 0

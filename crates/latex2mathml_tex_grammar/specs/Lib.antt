@@ -1,6 +1,7 @@
 pub mod Alphabets
 pub mod Arguments
 pub mod Atoms
+pub mod Bars
 pub mod Colors
 pub mod ColumnExamples
 pub mod Commands
@@ -30,6 +31,7 @@ pub mod Makes
 pub mod Meaning
 pub mod Next
 pub mod Operands
+pub mod Pieces
 pub mod Reading
 pub mod Refusal
 pub mod Rests
@@ -53,4 +55,5 @@ pub mod TextCommands
 pub mod Units
 pub mod UsualMacros
 pub mod Widths
+pub mod WordBoxes
 pub mod Words

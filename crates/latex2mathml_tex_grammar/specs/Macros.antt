@@ -1,6 +1,7 @@
 -- Macros: what a name means, and what takes the place of its use.
 use Rattle.std.specs.Prelude.{◌≡◌, ℕ, zero, suc, ◌-◌, List, [], ◌∷◌, ◌++◌, Option, Some, None, if◌then◌else◌}
 use Rattle.std.specs.Str.{bytes_eq}
+use Rattle.latex2mathml_tex_grammar.specs.Bars.{Bars, split}
 use Rattle.latex2mathml_tex_grammar.specs.Units.{Piece, Command, Unit, unit, Units, Next}
 
 -- a part of a body
@@ -9,6 +10,8 @@ pub data Part : Type 0 where
   Fixed : Piece → Part
   -- an argument, by its number, counted from 0
   Argument : ℕ → Part
+  -- the same, divided by bars
+  Split : Bars → ℕ → Part
 
 -- what a macro takes: the text of the parameters in its definition, part by part
 pub data Taken : Type 0 where
@@ -78,10 +81,12 @@ argument_at [] k = []
 argument_at (arg ∷ args) zero = arg
 argument_at (arg ∷ args) (suc k) = argument_at args k
 
--- what a part of a body puts. Pieces of a body have the place of the macro's use, units of arguments keep theirs.
+-- what a part of a body puts. Pieces of a body have the place of the macro's use, units of arguments keep theirs, and what takes
+-- the place of a bar has that of the bar.
 abbrev pub put_part : List (List Unit) → ℕ → Part → List Unit
 put_part args place (Fixed piece) = unit piece place ∷ []
 put_part args place (Argument k) = argument_at args k
+put_part args place (Split bars k) = split bars (argument_at args k)
 
 -- what replaces a macro that is used with these arguments at this place
 abbrev pub put : List (List Unit) → ℕ → List Part → List Unit

@@ -16,6 +16,7 @@ use Rattle.latex2mathml_tex_grammar.specs.Scanning.{Spot, BeforeRow, Given, Miss
 use Rattle.latex2mathml_tex_grammar.specs.Symbols.{InScript, Alphabet, TextSize}
 use Rattle.latex2mathml_tex_grammar.specs.{Tables.Lines, Tables.begun_cell, Tables.cell_of, Tables.a_row, Tables.with_last}
 use Rattle.latex2mathml_tex_grammar.specs.Units.{Piece, Unit, Units, Next, End, Stop}
+use Rattle.latex2mathml_tex_grammar.specs.WordBoxes.{WordBox, box_rule, word_box}
 use Rattle.latex2mathml_tex_grammar.specs.Words.{Word, Formula, Words, no_words, with_accent_ended, with_word, IsWord, BeginsGroup, EndsGroup, BeginsFormula, TakesWords, ShowsAtom, NoWord, alphabet_behind, shown_character, size_after, word_rule}
 
 -- what was read, with the units that are left, or the refusal
@@ -342,7 +343,7 @@ mutual
         → word_rule c.alphabet u.piece ≡ TakesWords a
         → ReadsWord u.place (in_words c a) ws (past_space l) o
         → ReadsWord place c ws (Next u l) o
-    -- an atom that takes a length, as in a formula
+    -- an atom that takes lengths, as in a formula
     atom_in_words : {place : ℕ} {c : Context} {ws : Words} {l m : Units} {u : Unit} {x : Core}
         → word_rule c.alphabet u.piece ≡ ShowsAtom
         → ReadsRule (rule u.place c u.piece) l (Read x m)
@@ -362,6 +363,21 @@ mutual
     word_stopped : {place : ℕ} {c : Context} {ws : Words} {r : Refusal}
         → ReadsWord place c ws (Stop r) (Refused r)
 
+  -- the outcome of words in braces with one more part, which may be a box
+  pub data ReadsPart : ℕ → Context → Words → Units → Outcome Words → Type 0 where
+    part_of_words : {place : ℕ} {c : Context} {ws : Words} {l : Units} {u : Unit} {o : Outcome Words}
+        → word_box u.piece ≡ None
+        → ReadsWord place c ws (Next u l) o
+        → ReadsPart place c ws (Next u l) o
+    box_in_words : {place : ℕ} {c : Context} {ws : Words} {l m : Units} {u : Unit} {box : WordBox} {x : Core}
+        → word_box u.piece ≡ Some box
+        → ReadsRule (box_rule u.place c box) l (Read x m)
+        → ReadsPart place c ws (Next u l) (Read (with_word ws (Formula x.atom.element)) m)
+    box_refused_in_words : {place : ℕ} {c : Context} {ws : Words} {l : Units} {u : Unit} {box : WordBox} {r : Refusal}
+        → word_box u.piece ≡ Some box
+        → ReadsRule (box_rule u.place c box) l (Refused r)
+        → ReadsPart place c ws (Next u l) (Refused r)
+
   -- the outcome of words with those that follow, up to their brace, which is taken; the place is where they begin
   pub data ReadsWords : ℕ → Context → Words → Units → Outcome Words → Type 0 where
     words_end : {place : ℕ} {c : Context} {ws : Words} {l : Units} {u : Unit}
@@ -376,14 +392,14 @@ mutual
         → IsFalse (is_close u.piece)
         → size_after (word_rule c.alphabet u.piece) ≡ None
         → ligature_start ws.accent c.alphabet u.piece ≡ None
-        → ReadsWord place c ws (Next u l) (Read vs m)
+        → ReadsPart place c ws (Next u l) (Read vs m)
         → ReadsWords place (in_words c (alphabet_behind c.alphabet u.piece)) vs m o
         → ReadsWords place c ws (Next u l) o
     word_refused : {place : ℕ} {c : Context} {ws : Words} {l : Units} {u : Unit} {r : Refusal}
         → IsFalse (is_close u.piece)
         → size_after (word_rule c.alphabet u.piece) ≡ None
         → ligature_start ws.accent c.alphabet u.piece ≡ None
-        → ReadsWord place c ws (Next u l) (Refused r)
+        → ReadsPart place c ws (Next u l) (Refused r)
         → ReadsWords place c ws (Next u l) (Refused r)
     -- a character with those that join it, and the words after them
     ligature_read : {place : ℕ} {c : Context} {ws : Words} {l : Units} {u : Unit} {first : ℕ} {o : Outcome Words}

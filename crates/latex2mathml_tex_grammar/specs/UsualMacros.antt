@@ -1,9 +1,10 @@
 -- The usual macros, which hold in every text, in the order of their names' bytes. A name and a body are their bytes, a name
 -- without its backslash. A definition by the author takes precedence.
-use Rattle.std.specs.Prelude.{ℕ, ◌||◌, Bool, List, [], ◌∷◌, Option, Some, None, codes, if◌then◌else◌}
+use Rattle.std.specs.Prelude.{ℕ, ◌||◌, Bool, List, [], ◌∷◌, ◌++◌, Option, Some, None, codes, if◌then◌else◌}
 use Rattle.std.specs.{Option.unwrap_or, Str.bytes_eq, Str.chars}
+use Rattle.latex2mathml_tex_grammar.specs.Bars.{Bars, FirstAsRelation, FirstStretched, EachStretched}
 use Rattle.latex2mathml_tex_grammar.specs.{Cutting.units_of, Definitions.parts_of}
-use Rattle.latex2mathml_tex_grammar.specs.Macros.{Part, Parameter, Sign, Macro, macro, macro_of_parts, macro_taking, macro_with_default, parameters, Table}
+use Rattle.latex2mathml_tex_grammar.specs.Macros.{Part, Split, Parameter, Sign, Macro, macro, macro_of_parts, macro_taking, macro_with_default, parameters, Table}
 use Rattle.latex2mathml_tex_grammar.specs.Units.{Command, Unit, Units, Next}
 
 -- the name, how many arguments the macro takes, and the text of its body
@@ -211,7 +212,7 @@ abbrev pub entry_macro : List (List ℕ × ℕ × List ℕ) → Table
 entry_macro [] name = None
 entry_macro (entry ∷ entries) name = if bytes_eq entry.0 name then Some (macro_with entry.1 entry.2) else entry_macro entries name
 
--- a usual macro that takes more than arguments
+-- a usual macro that takes more than arguments, or whose argument is divided by bars
 pub data Other : Type 0 where
   -- two arguments, the first of which ends before this command, with the text of the body
   Divided : List ℕ → List ℕ → Other
@@ -219,6 +220,8 @@ pub data Other : Type 0 where
   Starred : List ℕ → List ℕ → Other
   -- this many arguments, the first of which is in brackets or left out, with the text of the body
   Optional : ℕ → List ℕ → Other
+  -- one argument that these bars divide, between these two texts
+  Enclosed : Bars → List ℕ → List ℕ → Other
 
 -- whether it has the name of a command that breaks lines or pages, or does not: how much, may follow in brackets
 abbrev pub is_break : List ℕ → Bool
@@ -230,11 +233,14 @@ is_break name =
 abbrev pub other_named : List ℕ → Option Other
 other_named name =
     if is_break name then Some (Optional 1 [])
+    else if bytes_eq name (codes "Braket") then Some (Enclosed EachStretched (codes "\\left\\langle{") (codes "}\\right\\rangle"))
+    else if bytes_eq name (codes "Set") then Some (Enclosed FirstStretched (codes "\\left\\{\\:{") (codes "}\\:\\right\\}"))
     else if bytes_eq name (codes "bbox") then Some (Optional 2 (codes "#2"))
     else if bytes_eq name (codes "buildrel") then Some (Divided (codes "over") (codes "\\stackrel{#1}{#2}"))
     else if bytes_eq name (codes "lower") then Some (Divided (codes "hbox") (codes "\\raisebox{-#1}{#2}"))
     else if bytes_eq name (codes "raise") then Some (Divided (codes "hbox") (codes "\\raisebox{#1}{#2}"))
     else if bytes_eq name (codes "root") then Some (Divided (codes "of") (codes "\\sqrt[{#1}]{#2}"))
+    else if bytes_eq name (codes "set") then Some (Enclosed FirstAsRelation (codes "\\mathinner{\\lbrace\\,{") (codes "}\\,\\rbrace}"))
     else if bytes_eq name (codes "tag") then Some (Starred (codes "\\qquad\\text{#1}") (codes "\\qquad\\text{(#1)}"))
     else if bytes_eq name (codes "vspace") then Some (Starred [] [])
     else None
@@ -244,6 +250,7 @@ abbrev pub other_macro : Other → Macro
 other_macro (Divided command text) = macro_taking (Parameter ∷ Sign (Command command) ∷ Parameter ∷ []) (body_with 2 text)
 other_macro (Starred starred text) = macro_of_parts (Some (body_with 1 starred)) None (parameters 1) (body_with 1 text)
 other_macro (Optional n text) = macro_with_default (Some []) n (body_with n text)
+other_macro (Enclosed bars left right) = macro 1 (body_with 0 left ++ Split bars 0 ∷ body_with 0 right)
 
 -- the macro of this one, if there is one, or else the one that was found
 abbrev pub other_or : Option Other → Option Macro → Option Macro

@@ -4,7 +4,7 @@ use Rattle.std.specs.Str.{byte}
 use Rattle.latex2mathml_elements.specs.{Attributes.Attributes, Attributes.Monospaced, Attributes.boxed, Attributes.plain, Element.Element, Element.Mtext, Element.token}
 use Rattle.latex2mathml_tex_grammar.specs.{Alphabets.in_alphabet, Atoms.Atom, Atoms.Plain, Atoms.atom, Commands.meaning_of, Delimiters.entry_of_name, Dots.centered_dots, Dots.column_dots, Dots.low_dots, Makes.symbol, Makes.text, Rows.row_element, Rows.single, TextCommands.text_accents, TextCommands.text_commands}
 use Rattle.latex2mathml_tex_grammar.specs.Heights.{Low}
-use Rattle.latex2mathml_tex_grammar.specs.Meaning.{Meaning, Shows, Dots, CenteredDots, VerticalDots, Implication, Spacing, Words as TakesWordsIn, Changes, ToAlphabet, ToSize, Skip, SkipInBraces}
+use Rattle.latex2mathml_tex_grammar.specs.Meaning.{Meaning, Shows, Dots, CenteredDots, VerticalDots, Implication, Spacing, Words as TakesWordsIn, Changes, ToAlphabet, ToSize, Skip, SkipInBraces, Rectangle}
 use Rattle.latex2mathml_tex_grammar.specs.Refusal.{Kind, CommandInWords, CharacterInWords, UnknownCommand}
 use Rattle.latex2mathml_tex_grammar.specs.Symbols.{Alphabet, BoldItalic, Monospace, Ordinary, Relation, Sign, InText, TextSize}
 use Rattle.latex2mathml_tex_grammar.specs.Units.{Piece, Space, Open, Close, Command, Character}
@@ -40,7 +40,7 @@ pub data WordRule : Type 0 where
   BeginsFormula : WordRule
   -- words in this alphabet, where there is one
   TakesWords : Option Alphabet → WordRule
-  -- an atom as in a formula, which takes nothing but a length
+  -- an atom as in a formula, which takes nothing but lengths
   ShowsAtom : WordRule
   -- it is not allowed in words
   NoWord : Kind → WordRule
@@ -90,6 +90,7 @@ meaning_rule font name (Some (Changes (ToAlphabet alphabet))) = IsWord (Changed 
 meaning_rule font name (Some (Changes (ToSize size))) = IsWord (Resized size)
 meaning_rule font name (Some Skip) = ShowsAtom
 meaning_rule font name (Some SkipInBraces) = ShowsAtom
+meaning_rule font name (Some Rectangle) = ShowsAtom
 meaning_rule font name (Some meaning) = NoWord (CommandInWords name)
 meaning_rule font name None = NoWord (UnknownCommand name)
 

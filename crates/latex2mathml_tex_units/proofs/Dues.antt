@@ -1,7 +1,7 @@
 -- The operands that are still to come, unit by unit.
-use Rattle.std.proofs.Common.{◌≡◌, ◌∙◌, ◌+◌, ◌-◌, ◌<◌, ℕ, List, [], ◌∷◌, ◌++◌, drop, take, get_or, length, map, refl, reverse, ap, sym}
+use Rattle.std.proofs.Common.{◌≡◌, ◌∙◌, ◌+◌, ◌-◌, ◌<◌, ℕ, List, [], ◌∷◌, ◌++◌, drop, take, get_or, length, map, refl, ap, sym}
 use Rattle.std.proofs.Math.Seq.{drop-append_seam, take-length}
-use Rattle.std.proofs.lemmas.List.{drop_more, length-drop, map-append, reverse-append}
+use Rattle.std.proofs.lemmas.List.{drop_more, length-drop, map-append}
 use Rattle.latex2mathml_tex_grammar.specs.Operands.{Due, due_behind, due_behind_units}
 use Rattle.latex2mathml_tex_grammar.specs.Units as units
 use Rattle.latex2mathml_tex_units.specs.{Taking.piece_of, Taking.unit_of, declared.unit.Unit.Unit}
@@ -13,10 +13,6 @@ behind-append (x ∷ xs) ys d = behind-append xs ys (due_behind x.piece d)
 -- behind these units, and more after them
 pub behind_more : (us vs : List Unit) (d : Due) → due_behind_units (map unit_of (us ++ vs)) d ≡ due_behind_units (map unit_of vs) (due_behind_units (map unit_of us) d)
 behind_more us vs d = ap (λ xs. due_behind_units xs d) (map-append unit_of us vs) ∙ behind-append (map unit_of us) (map unit_of vs) d
-
--- a group more is open
-pub pushed : (xs ys : List ℕ) (x : ℕ) → ys ≡ xs ++ x ∷ [] → reverse ys ≡ x ∷ reverse xs
-pushed xs ys x e = ap reverse e ∙ reverse-append xs (x ∷ [])
 
 -- one more unit was passed
 pub passed_on : (us : List Unit) (k : ℕ) (x : Unit) (d e start : Due) → k < length us → due_behind_units (map unit_of (drop k us)) d ≡ start → e ≡ due_behind (piece_of (get_or us k x).piece) d

@@ -3,7 +3,7 @@ use Rattle.std.proofs.Common.{◌≡◌, ◌∙◌, ℕ, Bool, true, false, List
 use Rattle.std.specs.Prelude.{option_map, if◌then◌else◌}
 use Rattle.std.specs.{Option.is_some, Str.bytes_eq}
 use Rattle.latex2mathml_tex_grammar.specs.{Macros.Macro, UsualMacros.entry_macro, UsualMacros.macro_with, UsualMacros.usual_entries, UsualMacros.usual_macros}
-use Rattle.latex2mathml_tex_grammar.specs.UsualMacros.{Other, Divided, Optional, Starred, other_named, other_or}
+use Rattle.latex2mathml_tex_grammar.specs.UsualMacros.{Other, Divided, Enclosed, Optional, Starred, other_named, other_or}
 use Rattle.latex2mathml_tex_grammar.proofs.Choices.{of_found}
 use Rattle.latex2mathml_tex_units.specs.{MacroTables.or_else, MacroTables.or_usual}
 
@@ -21,6 +21,7 @@ other_no_name : (other : Option Other) (found : Option Macro) (m : Macro) → ((
 other_no_name (Some (Divided command text)) found m h e = cc
 other_no_name (Some (Starred starred text)) found m h e = cc
 other_no_name (Some (Optional n text)) found m h e = cc
+other_no_name (Some (Enclosed bars left right)) found m h e = cc
 other_no_name None found m h e = h m e
 
 pub usual_no_name : (name : List ℕ) (m : Macro) → usual_macros name ≡ Some m → m.alias ≡ None

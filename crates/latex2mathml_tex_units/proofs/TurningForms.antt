@@ -46,7 +46,7 @@ no_break name none =
 
 no_other : (name : List ℕ) → may_turn name ≡ false → other_named name ≡ None
 no_other name none =
-    rw (no_break name none, apart name (codes "bbox") none refl, apart name (codes "buildrel") none refl, apart name (codes "lower") none refl, apart name (codes "raise") none refl, apart name (codes "root") none refl, apart name (codes "tag") none refl, apart name (codes "vspace") none refl) refl
+    rw (no_break name none, apart name (codes "Braket") none refl, apart name (codes "Set") none refl, apart name (codes "bbox") none refl, apart name (codes "buildrel") none refl, apart name (codes "lower") none refl, apart name (codes "raise") none refl, apart name (codes "root") none refl, apart name (codes "set") none refl, apart name (codes "tag") none refl, apart name (codes "vspace") none refl) refl
 
 pub no_usual : (name : List ℕ) → may_turn name ≡ false → usual_macros name ≡ None
 no_usual name none = sym (usual_is name) ∙ ap (λ other. other_or other (entry_macro usual_entries name)) (no_other name none) ∙ none_named usual_entries name all_usual none

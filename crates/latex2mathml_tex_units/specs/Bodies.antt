@@ -1,18 +1,26 @@
 -- The bodies of macros, and macros.
 use Rattle.std.specs.Prelude.{ℕ, List, [], Option, Some, None, map, option_map, Vec}
 use Rattle.std.specs.Global.{Global}
+use Rattle.latex2mathml_tex_grammar.specs.Bars as grammar
 use Rattle.latex2mathml_tex_grammar.specs.Macros as macros
 use Rattle.latex2mathml_tex_grammar.specs.UsualMacros as usual
-use Rattle.latex2mathml_tex_units.specs.{Taking.piece_of, declared.macros.part.Lead.Lead, declared.macros.part.Macro.Macro, declared.macros.part.Part.Part, declared.macros.part.Taken.Taken, declared.macros.part.Takes.Takes, declared.macros.usual.Other.Other, declared.macros.usual.Usual.Usual}
+use Rattle.latex2mathml_tex_units.specs.{Taking.piece_of, declared.macros.part.Bars.Bars, declared.macros.part.Lead.Lead, declared.macros.part.Macro.Macro, declared.macros.part.Part.Part, declared.macros.part.Taken.Taken, declared.macros.part.Takes.Takes, declared.macros.usual.Other.Other, declared.macros.usual.Usual.Usual}
+use Rattle.latex2mathml_tex_units.specs.declared.macros.part.Bars.TheVariants as bars
 use Rattle.latex2mathml_tex_units.specs.declared.macros.part.Lead.TheVariants as lead
 use Rattle.latex2mathml_tex_units.specs.declared.macros.part.Part.TheVariants as part
 use Rattle.latex2mathml_tex_units.specs.declared.macros.part.Taken.TheVariants as taken
 use Rattle.latex2mathml_tex_units.specs.declared.macros.part.Takes.TheVariants as takes
 use Rattle.latex2mathml_tex_units.specs.declared.macros.usual.Other.TheVariants as other
 
+abbrev pub bars_of : Bars → grammar.Bars
+bars_of bars.FirstAsRelation = grammar.FirstAsRelation
+bars_of bars.FirstStretched = grammar.FirstStretched
+bars_of bars.EachStretched = grammar.EachStretched
+
 abbrev pub part_of : Part → macros.Part
 part_of (part.Fixed piece) = macros.Fixed (piece_of piece)
 part_of (part.Argument k) = macros.Argument k
+part_of (part.Split bars k) = macros.Split (bars_of bars) k
 
 abbrev pub parts_in : Vec Part Global → List macros.Part
 parts_in v = map part_of v.items
@@ -52,11 +60,12 @@ abbrev pub form_in : Macro → Option (List Part) → macros.Macro
 form_in m (Some body) = macros.macro_taking (takes_of m.takes) (map part_of body)
 form_in m None = macro_of m
 
--- a usual macro that takes more than arguments
+-- a usual macro that takes more than arguments, or whose argument is divided by bars
 abbrev pub other_of : Other → usual.Other
 other_of (other.Divided command body) = usual.Divided command.now body.now
 other_of (other.Starred starred body) = usual.Starred starred.now body.now
 other_of (other.Optional arity body) = usual.Optional arity body.now
+other_of (other.Enclosed bars left right) = usual.Enclosed (bars_of bars) left.now right.now
 
 -- an entry of the table of usual macros
 abbrev pub entry_of : Usual → List ℕ × ℕ × List ℕ

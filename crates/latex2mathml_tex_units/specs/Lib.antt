@@ -1,6 +1,7 @@
 pub mod Bodies
 pub mod Characters
 pub mod Defined
+pub mod Dividing
 pub mod Dues
 pub mod Environments
 pub mod ErrorTexts

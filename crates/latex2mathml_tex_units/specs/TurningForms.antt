@@ -6,7 +6,7 @@ use Rattle.std.specs.Str.{byte}
 abbrev pub turns_capital : ℕ → ℕ → ℕ → Bool
 turns_capital first second len =
     if first == byte "A" then second == byte "c" && len == 5
-    else if first == byte "B" then (if second == byte "a" then len == 3 else if second == byte "b" then len == 4 else if second == byte "r" then len == 3 || len == 5 else false)
+    else if first == byte "B" then (if second == byte "a" then len == 3 else if second == byte "b" then len == 4 else if second == byte "r" then len == 3 || len == 5 || len == 6 else false)
     else if first == byte "C" then (if second == byte "h" then len == 5 else if second == byte "o" then len == 7 || len == 8 || len == 11 else false)
     else if first == byte "D" then (if second == byte "O" then len == 5 else if second == byte "d" then len == 4 else if second == byte "o" then len == 3 else if second == byte "e" then len == 19 || len == 20 || len == 22 else false)
     else if first == byte "E" then second == byte "q" && (len == 7 || len == 8)
@@ -14,6 +14,7 @@ turns_capital first second len =
     else if first == byte "H" then second == byte "a" && len == 3
     else if first == byte "K" then (if second == byte "a" then len == 5 else if second == byte "e" then len == 3 || len == 6 else false)
     else if first == byte "L" then second == byte "a" && len == 5
+    else if first == byte "S" then second == byte "e" && len == 3
     else if first == byte "T" then (if second == byte "e" then len == 3 else if second == byte "i" then len == 5 else false)
     else if first == byte "V" then second == byte "e" && len == 3
     else false
@@ -43,7 +44,7 @@ turns_from_m first second len =
     else if first == byte "p" then (if second == byte "a" then len == 9 else if second == byte "m" then len == 4 || len == 7 else if second == byte "o" then len == 3 else if second == byte "r" then len == 7 || len == 9 || len == 14 else false)
     else if first == byte "q" then second == byte "e" && (len == 3 || len == 7)
     else if first == byte "r" then (if second == byte "a" then len == 5 || len == 8 else if second == byte "m" then len == 8 else if second == byte "o" then len == 4 else if second == byte "e" then len == 5 || len == 7 || len == 12 else if second == byte "l" then len == 4 else if second == byte "q" then len == 2 else false)
-    else if first == byte "s" then (if second == byte "b" then len == 2 else if second == byte "c" then len == 2 || len == 3 || len == 7 else if second == byte "e" then len == 9 else if second == byte "f" then len == 5 || len == 8 else if second == byte "h" then len == 9 || len == 10 || len == 14 else if second == byte "i" then len == 7 || len == 8 || len == 13 else if second == byte "k" then len == 4 else if second == byte "l" then len == 2 || len == 5 || len == 7 else if second == byte "m" then len == 9 else if second == byte "t" then len == 5 else if second == byte "p" then len == 2 || len == 9 || len == 10 else false)
+    else if first == byte "s" then (if second == byte "b" then len == 2 else if second == byte "c" then len == 2 || len == 3 || len == 7 else if second == byte "e" then len == 3 || len == 9 else if second == byte "f" then len == 5 || len == 8 else if second == byte "h" then len == 9 || len == 10 || len == 14 else if second == byte "i" then len == 7 || len == 8 || len == 13 else if second == byte "k" then len == 4 else if second == byte "l" then len == 2 || len == 5 || len == 7 else if second == byte "m" then len == 9 else if second == byte "t" then len == 5 else if second == byte "p" then len == 2 || len == 9 || len == 10 else false)
     else if first == byte "t" then (if second == byte "a" then len == 3 else if second == byte "e" then len == 13 || len == 15 else if second == byte "t" then len == 8 else false)
     else if first == byte "u" then (if second == byte "n" then len == 6 else if second == byte "p" then len == 6 || len == 7 else false)
     else if first == byte "v" then (if second == byte "a" then len == 5 || len == 6 || len == 8 || len == 9 || len == 10 else if second == byte "c" then len == 7 else if second == byte "s" then len == 6 else if second == byte "v" then len == 2 else false)

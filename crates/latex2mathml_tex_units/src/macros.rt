@@ -1,6 +1,7 @@
 //! Macros.
 
 mod arguments;
+mod bars;
 mod definitions;
 mod due;
 pub mod expander;

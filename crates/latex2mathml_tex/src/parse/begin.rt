@@ -386,13 +386,18 @@ impl<'a> Parser<'a> {
     }
 
     /// Begins the words that a command takes, in this context. White space before them is skipped.
-    fn text(&mut self, place: usize, context: Context, next: &mut State) -> Result<(), AllocError>
+    pub(crate) fn text(
+        &mut self,
+        place: usize,
+        context: Context,
+        next: &mut State,
+    ) -> Result<(), AllocError>
         requires begin { CanBegin 0 self.old }
         ensures holds { LeadsOn
             (Begins (reads_words place (context_of context)
             (λ ws. gives (core (words_atom ws)))) 0)
             self.old self.new next.new result }
-        ensures step { Advances 13 self.old self.new next.new result }
+        ensures step { Advances 6 self.old self.new next.new result }
     {
         self.frames.push(Frame::Text)?;
         self.input.skip_space();

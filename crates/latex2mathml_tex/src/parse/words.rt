@@ -18,7 +18,7 @@ use crate::parse::endings::Ending;
 use crate::parse::frames::Frame;
 use crate::parse::ligatures::ligature_start;
 use crate::parse::symbols::put_symbol;
-use crate::parse::word_commands::{WordChange, WordCommand};
+use crate::parse::word_commands::{InBraces, WordChange, WordCommand, in_braces};
 use crate::parse::{Parser, State};
 use latex2mathml_attributes::attributes::Attributes;
 use latex2mathml_attributes::tag::Token;
@@ -199,7 +199,7 @@ impl<'a> Parser<'a> {
                 Ok(())
             }
             WordCommand::Atom(meaning) => self.atom_in_words(words, meaning, place, context, next),
-            WordCommand::Forbidden => self.refuse_command(name, place, next),
+            WordCommand::Box(_) | WordCommand::Forbidden => self.refuse_command(name, place, next),
             WordCommand::Unknown => {
                 let name = String::from_str(self.alloc, name)?;
                 *next = self.refuse(TexErrorKind::UnknownCommand(name), place);
@@ -272,13 +272,21 @@ impl<'a> Parser<'a> {
                         let _ = self.frames.take(self.style);
                         self.end_group(words, next)
                     }
-                    piece => match change_in_words(piece) {
-                        Some(change) => {
+                    piece => match in_braces(piece) {
+                        InBraces::Change(change) => {
                             self.input.advance();
                             let _ = self.frames.take(self.style);
                             self.change_words(words, place, context, change, next)
                         }
-                        None => match ligature_start(words.accent, context.alphabet, piece) {
+                        InBraces::Box(word_box) => {
+                            self.input.advance();
+                            self.begin_box(words, word_box, unit.place, context, next)
+                        }
+                        InBraces::Word => match ligature_start(
+                            words.accent,
+                            context.alphabet,
+                            piece,
+                        ) {
                             Some(first) => {
                                 self.input.advance();
                                 self.join(words, first, context.alphabet, next)
@@ -415,24 +423,6 @@ impl<'a> Parser<'a> {
         }
         *next = State::Core(Core::new(Kind::Plain(Class::Ordinary), Height::Low));
         Ok(())
-    }
-}
-
-/// Returns how the unit changes the words after it in the same group, if it changes them.
-fn change_in_words(piece: Piece) -> Option<WordChange>
-    ensures changed { IfSome result (λ change. (a : Option Symbols.Alphabet)
-        → IsChange a (piece_of piece.entry) (word_of change)) }
-    ensures alphabet { result ≡ None → (a : Option Symbols.Alphabet)
-        → alphabet_behind a (piece_of piece.entry) ≡ a }
-    ensures size { result ≡ None → (a : Option Symbols.Alphabet)
-        → size_after (word_rule a (piece_of piece.entry)) ≡ None }
-{
-    let Piece::Command(name) = piece else {
-        return None;
-    };
-    match WordCommand::of(name) {
-        WordCommand::Change(change) => Some(change),
-        _ => None,
     }
 }
 

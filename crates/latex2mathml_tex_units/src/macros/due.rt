@@ -1,20 +1,30 @@
 //! The operands that are still to come.
-ghost use Rattle.std.specs.Prelude.{◌≡◌, OnOk, map};
-ghost use Rattle.latex2mathml_tex_grammar.specs.{Commands.meaning_of, Operands.behind_command, Operands.due_behind, Operands.due_behind_units, Operands.is_due, Operands.none_due, Operands.taken_by};
-ghost use Rattle.latex2mathml_tex_units.specs.{Dues.due_of, Taking.piece_of, Taking.unit_of};
+ghost use Rattle.std.specs.Prelude.{◌≡◌, ◌∷◌, OnOk, map};
+ghost use Rattle.latex2mathml_tex_grammar.specs.{Commands.meaning_of, Operands.behind_brace, Operands.behind_character, Operands.behind_command, Operands.behind_operand, Operands.behind_other, Operands.behind_taking, Operands.due, Operands.due_behind, Operands.due_behind_units, Operands.is_due, Operands.none_due};
+ghost use Rattle.latex2mathml_tex_grammar.specs.Operands as operands;
+ghost use Rattle.latex2mathml_tex_units.specs.{Dues.around_of, Dues.due_of, Taking.piece_of, Taking.unit_of};
 
 use crate::unit::{Piece, Unit};
 use latex2mathml_tex_commands::commands::find;
-use latex2mathml_tex_commands::operands::taken_whole;
+use latex2mathml_tex_commands::operands::{Optional, optional_before, taken_whole};
 use std::alloc::{AllocError, Global};
 
-/// How many operands are still to come that commands take whole.
+/// A group that is open, and how many operands are still to come behind it.
+#[derive(Clone, Copy)]
+pub(crate) enum Around {
+    OpenBrace(u8),
+    OpenBracket(u8),
+}
+
+/// The operands that are still to come.
 #[derive(Drop)]
 pub(crate) struct Due {
-    /// In the group of the next unit.
+    /// How many of them a command takes whole, in the group of the next unit.
     pub(crate) here: u8,
-    /// In the groups around it, the innermost last.
-    pub(crate) around: Vec<u8>,
+    /// What may come before them.
+    pub(crate) optional: Optional,
+    /// The groups around it, the innermost last.
+    pub(crate) around: Vec<Around>,
 }
 
 impl Due {
@@ -24,6 +34,7 @@ impl Due {
     {
         Due {
             here: 0,
+            optional: Optional::Nothing,
             around: Vec::new(alloc),
         }
     }
@@ -42,15 +53,87 @@ impl Due {
     {
         match piece {
             Piece::Space => {}
-            Piece::Open => {
-                self.around.push(self.here.saturating_sub(1))?;
-                self.here = 0;
-            }
-            Piece::Close => self.here = self.around.pop().unwrap_or(0),
-            Piece::Command(name) => self.here = behind_command(taken_by(name), self.here),
-            Piece::Character(_) => self.here = self.here.saturating_sub(1),
+            Piece::Open => self.open(Around::OpenBrace(self.here.saturating_sub(1)))?,
+            Piece::Close => self.close(),
+            Piece::Command(name) => self.pass_command(name),
+            Piece::Character(c) => self.pass_character(c)?,
         }
         Ok(())
+    }
+
+    /// Moves behind what opens this group.
+    fn open(&mut self, group: Around) -> Result<(), AllocError>
+        ensures { OnOk result (due_of self.new
+            ≡ due 0 operands.Nothing (around_of group ∷ (due_of self.old).around)) }
+    {
+        self.around.push(group)?;
+        self.expect(0);
+        Ok(())
+    }
+
+    /// Moves behind a closing brace.
+    fn close(&mut self)
+        ensures { due_of self.new ≡ behind_brace (due_of self.old).around }
+    {
+        match self.around.pop() {
+            Some(Around::OpenBrace(here)) => self.expect(here),
+            Some(Around::OpenBracket(here)) => self.expect(here),
+            None => self.expect(0),
+        }
+    }
+
+    /// Moves behind the command with this name.
+    fn pass_command(&mut self, name: &str)
+        ensures { due_of self.new ≡ behind_command (meaning_of name.now) (due_of self.old) }
+    {
+        match find(name) {
+            Some(meaning) => {
+                self.here = behind_taking(taken_whole(meaning), self.here);
+                self.optional = optional_before(meaning);
+            }
+            None => self.pass_operand(),
+        }
+    }
+
+    /// Moves behind a character.
+    fn pass_character(&mut self, c: char) -> Result<(), AllocError>
+        ensures { OnOk result (due_of self.new
+            ≡ behind_character c (due_of self.old).optional (due_of self.old)) }
+    {
+        match self.optional {
+            Optional::Star(behind) if c == '*' => self.expect(behind),
+            Optional::Brackets(behind) if c == '[' => self.open(Around::OpenBracket(behind))?,
+            _ => self.pass_other(c),
+        }
+        Ok(())
+    }
+
+    /// Moves behind a character that comes before no operands.
+    fn pass_other(&mut self, c: char)
+        ensures { due_of self.new ≡ behind_other c (due_of self.old) }
+    {
+        match self.around.last() {
+            Some(&Around::OpenBracket(here)) if c == ']' => {
+                self.around.pop();
+                self.expect(here);
+            }
+            _ => self.pass_operand(),
+        }
+    }
+
+    /// Moves behind an operand.
+    fn pass_operand(&mut self)
+        ensures { due_of self.new ≡ behind_operand (due_of self.old) }
+    {
+        self.expect(self.here.saturating_sub(1));
+    }
+
+    /// From here on, this many operands are to come.
+    fn expect(&mut self, here: u8)
+        ensures { due_of self.new ≡ due here operands.Nothing (due_of self.old).around }
+    {
+        self.here = here;
+        self.optional = Optional::Nothing;
     }
 
     /// Moves behind these units.
@@ -67,19 +150,9 @@ impl Due {
     }
 }
 
-/// Returns how many operands the command with this name takes whole.
-fn taken_by(name: &str) -> u8
-    ensures { result ≡ taken_by (meaning_of name.now) }
-{
-    match find(name) {
-        Some(meaning) => taken_whole(meaning),
-        None => 0,
-    }
-}
-
-/// Returns what is to come in a group after a command that takes this many operands whole, where this many were to come before it.
-fn behind_command(taken: u8, here: u8) -> u8
-    ensures { result ≡ behind_command taken here }
+/// Returns how many operands are to come behind a command that takes this many whole, where this many were to come before it.
+fn behind_taking(taken: u8, here: u8) -> u8
+    ensures { result ≡ behind_taking taken here }
 {
     if taken == 0 {
         here.saturating_sub(1)

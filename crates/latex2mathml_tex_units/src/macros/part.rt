@@ -15,6 +15,19 @@ pub(crate) enum Part<'a> {
     Fixed(Piece<'a>),
     /// An argument, by its number, counted from 0.
     Argument(usize),
+    /// The same, divided by bars.
+    Split(Bars, usize),
+}
+
+/// Which bars divide an argument, and what takes their place.
+#[derive(Clone, Copy)]
+pub(crate) enum Bars {
+    /// The first bar, as a relation.
+    FirstAsRelation,
+    /// The first bar, single or double, as high as what is around it.
+    FirstStretched,
+    /// Each such bar.
+    EachStretched,
 }
 
 /// What a macro takes first, if it comes next.

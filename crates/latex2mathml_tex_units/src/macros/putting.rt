@@ -1,13 +1,14 @@
 //! What replaces macros.
-ghost use Rattle.std.specs.Prelude.{◌≡◌, ℕ, OnOk, [], map, option_map};
-ghost use Rattle.latex2mathml_tex_grammar.specs.{Expansion.form_of, Expansion.replaced, Expansion.used, Macros.Fixed, Macros.Table, Macros.argument_at, Macros.put, Macros.put_part, Operands.body_as, Operands.in_braces, Operands.needs_braces, Operands.used_as};
+ghost use Rattle.std.specs.Prelude.{◌≡◌, ℕ, IfOk, OnOk, [], map, option_map};
+ghost use Rattle.latex2mathml_tex_grammar.specs.{Bars.split, Expansion.form_of, Expansion.replaced, Expansion.used, Macros.Fixed, Macros.Table, Macros.argument_at, Macros.put, Operands.body_as, Operands.in_braces, Operands.needs_braces, Operands.used_as};
 ghost use Rattle.latex2mathml_tex_grammar.specs.Units as units;
 ghost use Rattle.latex2mathml_tex_units.specs.Putting.{ArePut, Puts, Replaces, arguments_at, body_units, part_units};
-ghost use Rattle.latex2mathml_tex_units.specs.{Bodies.form_in, Bodies.macro_of, Bodies.part_of, Pending.pending_units, Pending.units_in, Taking.unit_of};
+ghost use Rattle.latex2mathml_tex_units.specs.{Bodies.form_in, Bodies.bars_of, Bodies.macro_of, Bodies.part_of, Pending.pending_units, Pending.units_in, Taking.unit_of};
 
 use crate::macros::arguments::Arguments;
+use crate::macros::bars::split;
 use crate::macros::halt::Halt;
-use crate::macros::part::{Lead, Macro, Part};
+use crate::macros::part::{Bars, Lead, Macro, Part};
 use crate::macros::pending::Pending;
 use crate::unit::{Fault, Piece, Unit};
 use std::alloc::{AllocError, Global};
@@ -37,25 +38,10 @@ impl<'a> Pending<'a> {
         Ok(true)
     }
 
-    /// Puts what a part of a default represents, if there is room. A default has no arguments.
-    fn put_fixed(
-        &mut self,
-        room: &mut usize,
-        part: Part<'a>,
-        place: usize,
-    ) -> Result<bool, AllocError>
-        ensures { Puts result (put_part [] place (part_of part.entry)) room.old room.new
-            self.old self.new }
-    {
-        match part {
-            Part::Fixed(piece) => self.put_units(room, &[Unit { piece, place }]),
-            Part::Argument(_) => Ok(true),
-        }
-    }
-
     /// Puts a default, if there is room.
     fn put_default(
         &mut self,
+        alloc: Global,
         room: &mut usize,
         default: &[Part<'a>],
         place: usize,
@@ -63,14 +49,8 @@ impl<'a> Pending<'a> {
         ensures { Puts result (put [] place (map part_of default.now)) room.old room.new
             self.old self.new }
     {
-        let mut left = default.len();
-        'parts: while left > 0 {
-            left -= 1;
-            if !self.put_fixed(room, default[left], place)? {
-                return Ok(false);
-            }
-        }
-        Ok(true)
+        let units = default_units(alloc, default, place)?;
+        self.put_units(room, &units)
     }
 
     /// Puts the argument with this number, counted from 0, if there is room.
@@ -90,9 +70,60 @@ impl<'a> Pending<'a> {
         }
     }
 
+    /// Puts these units, divided by bars, if there is room.
+    fn put_split(
+        &mut self,
+        alloc: Global,
+        room: &mut usize,
+        bars: Bars,
+        units: &[Unit<'a>],
+    ) -> Result<bool, AllocError>
+        ensures { Puts result (split (bars_of bars) (map unit_of units.now)) room.old room.new
+            self.old self.new }
+    {
+        let divided = split(alloc, bars, units)?;
+        self.put_units(room, &divided)
+    }
+
+    /// Puts the argument with this number, counted from 0, divided by bars, if there is room.
+    fn put_given_split(
+        &mut self,
+        alloc: Global,
+        room: &mut usize,
+        bars: Bars,
+        number: usize,
+        given: &[Vec<Unit<'a>>],
+    ) -> Result<bool, AllocError>
+        ensures { Puts result (split (bars_of bars) (argument_at (map units_in given.now) number))
+            room.old room.new self.old self.new }
+    {
+        if number < given.len() {
+            self.put_split(alloc, room, bars, &given[number])
+        } else {
+            Ok(true)
+        }
+    }
+
+    /// Puts a default, divided by bars, if there is room.
+    fn put_default_split(
+        &mut self,
+        alloc: Global,
+        room: &mut usize,
+        bars: Bars,
+        default: &[Part<'a>],
+        place: usize,
+    ) -> Result<bool, AllocError>
+        ensures { Puts result (split (bars_of bars) (put [] place (map part_of default.now)))
+            room.old room.new self.old self.new }
+    {
+        let units = default_units(alloc, default, place)?;
+        self.put_split(alloc, room, bars, &units)
+    }
+
     /// Puts what a part of a body represents, if there is room.
     fn put_part(
         &mut self,
+        alloc: Global,
         room: &mut usize,
         part: Part<'a>,
         arguments: &Arguments<'_, 'a>,
@@ -107,9 +138,19 @@ impl<'a> Pending<'a> {
                 None => self.put_given(room, number, &arguments.given),
                 Some(default) => {
                     if number == 0 {
-                        self.put_default(room, default, place)
+                        self.put_default(alloc, room, default, place)
                     } else {
                         self.put_given(room, number - 1, &arguments.given)
+                    }
+                }
+            },
+            Part::Split(bars, number) => match arguments.default {
+                None => self.put_given_split(alloc, room, bars, number, &arguments.given),
+                Some(default) => {
+                    if number == 0 {
+                        self.put_default_split(alloc, room, bars, default, place)
+                    } else {
+                        self.put_given_split(alloc, room, bars, number - 1, &arguments.given)
                     }
                 }
             },
@@ -119,6 +160,7 @@ impl<'a> Pending<'a> {
     /// Puts a body with its arguments, if there is room.
     fn put_body(
         &mut self,
+        alloc: Global,
         room: &mut usize,
         body: &[Part<'a>],
         arguments: &Arguments<'_, 'a>,
@@ -130,7 +172,7 @@ impl<'a> Pending<'a> {
         let mut left = body.len();
         'parts: while left > 0 {
             left -= 1;
-            if !self.put_part(room, body[left], arguments, place)? {
+            if !self.put_part(alloc, room, body[left], arguments, place)? {
                 return Ok(false);
             }
         }
@@ -140,6 +182,7 @@ impl<'a> Pending<'a> {
     /// Puts a body with its arguments in braces, if there is room.
     fn put_in_braces(
         &mut self,
+        alloc: Global,
         room: &mut usize,
         body: &[Part<'a>],
         arguments: &Arguments<'_, 'a>,
@@ -152,7 +195,7 @@ impl<'a> Pending<'a> {
         if !self.put_units(room, &[Unit { piece, place }])? {
             return Ok(false);
         }
-        if !self.put_body(room, body, arguments, place)? {
+        if !self.put_body(alloc, room, body, arguments, place)? {
             return Ok(false);
         }
         let piece = Piece::Open;
@@ -162,6 +205,7 @@ impl<'a> Pending<'a> {
     /// Puts a body with its arguments, in braces if the macro is taken whole and they are needed, if there is room.
     fn put_used(
         &mut self,
+        alloc: Global,
         room: &mut usize,
         body: &[Part<'a>],
         arguments: &Arguments<'_, 'a>,
@@ -172,15 +216,16 @@ impl<'a> Pending<'a> {
             (body_as whole (map part_of body.now))) room.old room.new self.old self.new }
     {
         if whole && needs_braces(body) {
-            self.put_in_braces(room, body, arguments, place)
+            self.put_in_braces(alloc, room, body, arguments, place)
         } else {
-            self.put_body(room, body, arguments, place)
+            self.put_body(alloc, room, body, arguments, place)
         }
     }
 
     /// Puts what replaces the macro at this place, which has this body and these arguments, if there is room.
     fn put_replacement(
         &mut self,
+        alloc: Global,
         room: &mut usize,
         body: &[Part<'a>],
         arguments: &Arguments<'_, 'a>,
@@ -193,7 +238,7 @@ impl<'a> Pending<'a> {
             (pending_units self.old))
             table uses room.new (pending_units self.new) }
     {
-        if !self.put_used(room, body, arguments, place, whole)? {
+        if !self.put_used(alloc, room, body, arguments, place, whole)? {
             return Err(Halt::Refused(Fault::TooManyExpansions, place));
         }
         Ok(())
@@ -234,14 +279,14 @@ impl<'a> Pending<'a> {
         *uses -= 1;
         let Some(starred) = self.take_star(found) else {
             let arguments = self.take_macro_arguments(alloc, found, place)?;
-            return self.put_replacement(room, &found.body, &arguments, place, whole);
+            return self.put_replacement(alloc, room, &found.body, &arguments, place, whole);
         };
         let given = self.take_arguments(alloc, place, &found.takes)?;
         let arguments = Arguments {
             default: None,
             given,
         };
-        self.put_replacement(room, starred, &arguments, place, whole)
+        self.put_replacement(alloc, room, starred, &arguments, place, whole)
     }
 }
 
@@ -253,4 +298,24 @@ fn needs_braces(body: &[Part]) -> bool
         [Part::Fixed(_)] => false,
         _ => true,
     }
+}
+
+/// Returns the units of a default. A default has no arguments.
+fn default_units<'a>(
+    alloc: Global,
+    default: &[Part<'a>],
+    place: usize,
+) -> Result<Vec<Unit<'a>>, AllocError>
+    ensures { IfOk result (λ units. units_in units ≡ put [] place (map part_of default.now)) }
+{
+    let mut units = Vec::new(alloc);
+    let mut put = 0;
+    'parts: while put < default.len() {
+        match default[put] {
+            Part::Fixed(piece) => units.push(Unit { piece, place })?,
+            Part::Argument(_) | Part::Split(_, _) => {}
+        }
+        put += 1;
+    }
+    Ok(units)
 }

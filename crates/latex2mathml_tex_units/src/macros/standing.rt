@@ -187,7 +187,7 @@ fn turns_capital(first: u8, second: u8, len: usize) -> bool
         b'B' => match second {
             b'a' => len == 3,
             b'b' => len == 4,
-            b'r' => matches!(len, 3 | 5),
+            b'r' => matches!(len, 3 | 5 | 6),
             _ => false,
         },
         b'C' => match second {
@@ -211,6 +211,7 @@ fn turns_capital(first: u8, second: u8, len: usize) -> bool
             _ => false,
         },
         b'L' => second == b'a' && len == 5,
+        b'S' => second == b'e' && len == 3,
         b'T' => match second {
             b'e' => len == 3,
             b'i' => len == 5,
@@ -348,7 +349,7 @@ fn turns_from_m(first: u8, second: u8, len: usize) -> bool
         b's' => match second {
             b'b' => len == 2,
             b'c' => matches!(len, 2 | 3 | 7),
-            b'e' => len == 9,
+            b'e' => matches!(len, 3 | 9),
             b'f' => matches!(len, 5 | 8),
             b'h' => matches!(len, 9 | 10 | 14),
             b'i' => matches!(len, 7 | 8 | 13),

@@ -7,7 +7,7 @@ ghost use Rattle.latex2mathml_tex_grammar.specs.UsualMacros.{body_with, entry_ma
 ghost use Rattle.latex2mathml_tex_units.specs.{Bodies.entry_of, Bodies.macro_of, Bodies.named_entry, Bodies.other_of, Bodies.parts_in, Taking.unit_of};
 
 use crate::lexer::Lexer;
-use crate::macros::part::{Lead, Macro, Part, Taken, Takes, parts_of};
+use crate::macros::part::{Bars, Lead, Macro, Part, Taken, Takes, parts_of};
 use crate::unit::{Next, Piece, Unit};
 use latex2mathml_tex_commands::commands::order;
 use std::alloc::{AllocError, Global};
@@ -216,7 +216,7 @@ static ENTRIES: [Usual; 182] = [
     Usual { name: "xspace", arity: 0, body: "" },
 ];
 
-/// A usual macro that takes more than arguments, with the text of its body.
+/// A usual macro that takes more than arguments, or whose argument is divided by bars, with the text of its body.
 #[derive(Clone, Copy)]
 enum Other {
     /// It takes two arguments, the first of which ends before this command.
@@ -234,6 +234,12 @@ enum Other {
         arity: usize,
         body: &'static str,
     },
+    /// It takes one argument, which these bars divide, and puts it between these two texts.
+    Enclosed {
+        bars: Bars,
+        left: &'static str,
+        right: &'static str,
+    },
 }
 
 /// Returns the one with this name.
@@ -242,6 +248,18 @@ fn other_named(name: &str) -> Option<Other>
 {
     if is_break(name) {
         Some(Other::Optional { arity: 1, body: "" })
+    } else if name == "Braket" {
+        Some(Other::Enclosed {
+            bars: Bars::EachStretched,
+            left: "\\left\\langle{",
+            right: "}\\right\\rangle",
+        })
+    } else if name == "Set" {
+        Some(Other::Enclosed {
+            bars: Bars::FirstStretched,
+            left: "\\left\\{\\:{",
+            right: "}\\:\\right\\}",
+        })
     } else if name == "bbox" {
         Some(Other::Optional {
             arity: 2,
@@ -266,6 +284,12 @@ fn other_named(name: &str) -> Option<Other>
         Some(Other::Divided {
             command: "of",
             body: "\\sqrt[{#1}]{#2}",
+        })
+    } else if name == "set" {
+        Some(Other::Enclosed {
+            bars: Bars::FirstAsRelation,
+            left: "\\mathinner{\\lbrace\\,{",
+            right: "}\\,\\rbrace}",
         })
     } else if name == "tag" {
         Some(Other::Starred {
@@ -323,6 +347,13 @@ impl Other {
                 arity,
                 body_of(alloc, arity, body)?,
             )),
+            Other::Enclosed { bars, left, right } => {
+                let mut body = body_of(alloc, 0, left)?;
+                let right = body_of(alloc, 0, right)?;
+                body.push(Part::Split(bars, 0))?;
+                body.extend_from_slice(&right)?;
+                Ok(Macro::new(None, 1, body))
+            }
         }
     }
 }

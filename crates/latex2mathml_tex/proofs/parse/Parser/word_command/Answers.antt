@@ -10,7 +10,7 @@ use Rattle.latex2mathml_tex_commands.specs.Meanings.{symbol_of}
 use Rattle.latex2mathml_tex_grammar.proofs.Shrinking.{no_more_past_space}
 use Rattle.latex2mathml_tex_atoms.specs.Models.{context_of}
 use Rattle.latex2mathml_tex.proofs.Rows.{refused_step}
-use Rattle.latex2mathml_tex.proofs.WordRules.{command_refused, command_step}
+use Rattle.latex2mathml_tex.proofs.WordRules.{command_refused, command_step, forbidden_rule}
 use Rattle.latex2mathml_tex.proofs.Wording.{accent_begun, atom_shown, in_alphabet_due, no_part, stands, words_stay, words_step}
 use Rattle.latex2mathml_tex.proofs.parse.Parser.word_command.Goals as goal
 
@@ -77,14 +77,14 @@ returns-in-Change-clause-holds c = λ s g.
 pub returns-in-Change-clause-step : goal.returns-in-Change-clause-step
 returns-in-Change-clause-step c = record { ready = record { elements = c.requires.elements; may_come = c.requires.awaits }; falls = omega arith }
 
-pub returns-in-Forbidden : goal.returns-in-Forbidden
-returns-in-Forbidden c =
+pub returns-in-Box : goal.returns-in-Box
+returns-in-Box c =
     let p = c.args.self.now in
     let q = c.refuse_command.new.self in
     let k = context_of c.args.context in
     let name = c.args.name.now in
     let says = c.refuse_command.ensures in
-    let rule = c.of.ensures.rule k.alphabet ∙ ap (rule_of (font_in k.alphabet) name) c.in-Forbidden.is in
+    let rule = c.of.ensures.rule k.alphabet ∙ forbidden_rule (font_in k.alphabet) name c.of.result c.in-Box.is in
     record {
       holds = λ s g. command_refused p q says.parser s c.args.words name c.args.place k c.refuse_command.new.next c.refuse_command.result says.state says.refusal rule g;
       step = command_step p q says.parser c.args.words.count c.refuse_command.new.next c.refuse_command.result says.state c.requires.elements;
