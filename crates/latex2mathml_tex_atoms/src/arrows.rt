@@ -23,7 +23,8 @@ pub fn put_arrow(builder: &mut Builder, sign: char) -> Result<(), AllocError>
 
 /// Puts a long arrow with a thick space at each side.
 pub fn put_implication(builder: &mut Builder, sign: char) -> Result<(), AllocError>
-    ensures { OnOk result (Puts (SpacedSigns.implication sign).atom.element builder.old builder.new) }
+    ensures { OnOk result
+        (Puts (SpacedSigns.implication sign).atom.element builder.old builder.new) }
 {
     let attributes = Attributes {
         stretch: Some(Stretch::Rigid),

@@ -41,7 +41,8 @@ pub(crate) fn ligature_start(
     alphabet: Option<Alphabet>,
     piece: Piece,
 ) -> Option<char>
-    ensures { result ≡ ligature_start accent (option_map alphabet_of alphabet) (piece_of piece.entry) }
+    ensures { result
+        ≡ ligature_start accent (option_map alphabet_of alphabet) (piece_of piece.entry) }
 {
     match (accent, Font::of_words(alphabet), piece) {
         (None, Font::Usual, Piece::Character(c)) if begins_ligature(c) => Some(c),

@@ -178,7 +178,8 @@ impl<'a> Parser<'a> {
     ) -> Result<(), AllocError>
         requires { CanMake atom_made (primes_put side scripts.primes + (script_count scripts + 2))
             self.old }
-        ensures holds { LeadsOn (TookScript core scripts side height) self.old self.new next.new result }
+        ensures holds { LeadsOn (TookScript core scripts side height)
+            self.old self.new next.new result }
         ensures step { Advances 3 self.old self.new next.new result }
     {
         *next = State::Atom(

@@ -122,7 +122,8 @@ impl<'a> Parser<'a> {
         requires begin { CanBegin 0 self.old }
         requires alone { last_count last ≡ 0 }
         ensures holds { (s : Start) → s.style ≡ style_of self.old.style
-            → RuleLeads (reads_words place (context_of context) (λ ws. gives (core (words_atom ws))))
+            → RuleLeads
+            (reads_words place (context_of context) (λ ws. gives (core (words_atom ws))))
             (CoreMade (level_within (Frame.Last last place context) 0 s self.old))
             (left_of self.old)
             → OnOk result (Holds s self.new next.new) }

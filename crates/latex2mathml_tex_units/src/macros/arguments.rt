@@ -120,7 +120,8 @@ impl<'a> Pending<'a> {
 
     /// Takes the sign of the macro at this place, which must come next.
     fn take_the_sign(&mut self, sign: Piece<'a>, place: usize) -> Result<(), Halt>
-        ensures { Reads result (λ done. tt) (the_sign (piece_of sign.entry) place) self.old self.new }
+        ensures { Reads result (λ done. tt) (the_sign (piece_of sign.entry) place)
+            self.old self.new }
     {
         match self.take() {
             Next::Unit(unit) if is_sign(sign, unit.piece) => Ok(()),

@@ -80,7 +80,8 @@ impl<'a> Pending<'a> {
 
     /// Whether this sign comes next, and is in no group, where `depth` groups are open.
     fn ends_here(&self, sign: Piece, depth: usize) -> bool
-        ensures { result ≡ begins_with (is_end (piece_of sign.entry) depth) (pending_units self.now) }
+        ensures { result
+            ≡ begins_with (is_end (piece_of sign.entry) depth) (pending_units self.now) }
     {
         match self.peek() {
             Some(piece) => depth == 0 && is_sign(sign, piece),

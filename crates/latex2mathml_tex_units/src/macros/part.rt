@@ -116,7 +116,8 @@ impl<'a> Macro<'a> {
 
     /// Creates a macro that takes this, and nothing that can be left out.
     pub(crate) fn taking(takes: Vec<Taken<'a>>, body: Vec<Part<'a>>) -> Macro<'a>
-        ensures { macro_of result ≡ macro_taking (map taken_of takes.entry.items) (parts_in body.entry) }
+        ensures { macro_of result
+            ≡ macro_taking (map taken_of takes.entry.items) (parts_in body.entry) }
     {
         Macro {
             alias: None,

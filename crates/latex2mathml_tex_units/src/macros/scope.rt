@@ -55,7 +55,8 @@ impl<'m, 'a> Scope<'m, 'a> {
 
     /// Returns the macro that was defined with this name.
     pub(crate) fn defined(&self, name: &str) -> Option<&Arc<Macro<'a>>>
-        ensures { option_map (λ m. macro_of (arc_value m.now)) result ≡ defined_in self.now name.now }
+        ensures { option_map (λ m. macro_of (arc_value m.now)) result
+            ≡ defined_in self.now name.now }
     {
         match self.inner.get(name) {
             Some(found) => Some(found),

@@ -72,7 +72,8 @@ impl<'a> Macros<'a> {
 
     /// Returns the macro that was defined with this name.
     pub(crate) fn defined(&self, name: &str) -> Option<&Arc<Macro<'a>>>
-        ensures { option_map (λ m. macro_of (arc_value m.now)) result ≡ defined_by self.now name.now }
+        ensures { option_map (λ m. macro_of (arc_value m.now)) result
+            ≡ defined_by self.now name.now }
     {
         self.defined.get(name)
     }
